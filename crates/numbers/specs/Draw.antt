@@ -1,5 +1,6 @@
 -- SplitMix64, the public generator, and the gamma that a draw gives. A state and a draw are numbers below 2 ^ 64. Definitions only. Assumes nothing.
 use Prim.Native.Nat.{ℕ, _+_, _*_, _/_, _%_, _^_}
+use mathlib.Core.Bool.{false}
 use lib.Bits.{bitXor}
 use lib.IntN.{pos, negsuc}
 use lib.Ieee.{Float, fin, binary64, ofInt}
