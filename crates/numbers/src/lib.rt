@@ -55,10 +55,7 @@ pub fn is_negative(x: f64) -> bool
 pub fn message_sign(x: f64) -> f64
     ensures { λ r. ⌜ r ≡ messageSign x ⌝ }
 {
-    if x < 0.0 {
-        return -1.0;
-    }
-    1.0
+    if x < 0.0 { -1.0 } else { 1.0 }
 }
 
 // ---- the generator
