@@ -1,0 +1,32 @@
+-- What min-sum and Relay do alike with messages, one to an edge: how they start, what a check's first pass knows, and the sum at a variable.
+-- Definitions only. Assumes nothing.
+use Prim.Native.Nat.{ℕ}
+use mathlib.Core.Bool.{Bool, false, cond}
+use mathlib.Core.List.{List, map, foldl}
+use lib.Ieee.{Float, nan, inf}
+use lib.ListN.{length, getD, replicate}
+use Rattle.numbers.specs.Floats.{_+ᶠ_, zero⁺, zero⁻, one⁺, one⁻}
+use Rattle.graph.specs.Graph.{Graph}
+
+-- each message of a variable set to that variable's value
+unfoldable pub fromVariables : Graph → List Float → List Float
+fromVariables g values = map (λ v. getD values v nan) (g .checkVar)
+
+-- `c_to_v.fill(0.0)`
+unfoldable pub cleared : Graph → List Float
+cleared g = replicate (length (g .checkVar)) zero⁺
+
+-- what the first pass over a check's messages knows: the total sign, the least and the next magnitude, and whose the least is
+pub record Scan : Type 0 where
+  pub totalSign : Float
+  pub min1 : Float
+  pub min2 : Float
+  pub least : ℕ
+
+-- before the first message: the sign of the syndrome, infinite minima, and a least that is nobody's
+abbrev pub startScan : Bool → ℕ → Scan
+startScan odd nobody = record { totalSign = cond odd one⁻ one⁺; min1 = inf false; min2 = inf false; least = nobody }
+
+-- the sum of the messages that the entries name, in their order, from -0.0
+unfoldable pub total : List Float → List ℕ → Float
+total cToV entries = foldl (λ (t : Float) (message : ℕ). t +ᶠ getD cToV message nan) zero⁻ entries
