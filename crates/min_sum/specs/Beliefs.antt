@@ -1,0 +1,68 @@
+-- The public call `beliefs`: its tests in document 01's order, refusal 30, and what it leaves in every lent list. Definitions only. Assumes nothing.
+use Prim.Native.Nat.{ℕ}
+use mathlib.Core.Bool.{Bool, _&&_}
+use mathlib.Core.List.{List}
+use lib.Dec.{eqb, leb}
+use lib.Ieee.{Float, nan}
+use lib.ListN.{length, getD, replicate}
+use Rattle.numbers.specs.Floats.{zero⁺, isFinite}
+use Rattle.refusals.specs.declared.Refusal.the-variants.{BadIterations, SyndromeLength, LentListLength, NonFinite}
+use Rattle.refusals.specs.declared.Answer.{Answer}
+use Rattle.refusals.specs.declared.Answer.the-variants.{Done, Refused}
+use Rattle.refusals.specs.Tests.{unless, orElse, firstOf, unlessRefused}
+use Rattle.graph.specs.Graph.{Graph}
+use Rattle.graph.specs.Model.{graphFault}
+use Rattle.min_sum.specs.MinSum.{minSumBp}
+
+-- the lent lists: the posterior is the result, and the others are for work
+pub record Lists : Type 0 where
+  pub posterior : List Float
+  pub ewaPosterior : List Float
+  pub cToV : List Float
+  pub vToC : List Float
+
+abbrev pub lists : List Float → List Float → List Float → List Float → Lists
+lists p w c v = record { posterior = p; ewaPosterior = w; cToV = c; vToC = v }
+
+-- an answer, and the lent lists as the call leaves them
+pub record Outcome : Type 0 where
+  pub answer : Answer
+  pub left : Lists
+
+abbrev pub outcome : Answer → Lists → Outcome
+outcome a l = record { answer = a; left = l }
+
+-- 22: the lent lists fit a graph with this many edges exactly
+unfoldable pub listsFit : ℕ → Graph → Lists → Bool
+listsFit edges g l =
+    eqb (length (l .posterior)) (g .mechanisms)
+    && (eqb (length (l .ewaPosterior)) (g .mechanisms) && (eqb (length (l .cToV)) edges && eqb (length (l .vToC)) edges))
+
+-- the tests before the run: 1, 2, 4, 7, 12, 20, 22. The scale is untested
+unfoldable pub beliefsFault : ℕ → List Float → Graph → List ℕ → ℕ → Lists → Answer
+beliefsFault edges prior g syndrome iterations l =
+    orElse (graphFault edges prior g)
+    (orElse (unless (leb iterations 65535) BadIterations)
+    (orElse (unless (eqb (length syndrome) (g .checks)) SyndromeLength) (unless (listsFit edges g l) LentListLength)))
+
+-- 30: the first mechanism whose belief is not finite
+unfoldable pub beliefsEnd : Graph → List Float → Answer
+beliefsEnd g posterior = firstOf (g .mechanisms) (λ v. unless (isFinite (getD posterior v nan)) (NonFinite v))
+
+-- past the tests: the posterior, zeroed on 30, and zeroed work lists
+unfoldable pub ran : ℕ → Graph → List Float → Outcome
+ran edges g posterior =
+    let a = beliefsEnd g posterior in
+    let zeros = replicate (g .mechanisms) zero⁺ in
+    outcome a (lists (unlessRefused a posterior zeros) zeros (replicate edges zero⁺) (replicate edges zero⁺))
+
+-- a call that its tests refuse writes nothing
+abbrev pub afterTests : Answer → Outcome → Lists → Outcome
+afterTests Done o l = o
+afterTests (Refused r) o l = outcome (Refused r) l
+
+-- `beliefs`: serial or not
+unfoldable pub beliefs : ℕ → List Float → Graph → List ℕ → ℕ → Float → Bool → Lists → Outcome
+beliefs edges prior g syndrome iterations scale serial l =
+    let o = ran edges g (minSumBp g serial scale syndrome prior iterations) in
+    afterTests (beliefsFault edges prior g syndrome iterations l) o l

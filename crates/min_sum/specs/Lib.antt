@@ -1,0 +1,2 @@
+pub mod MinSum
+pub mod Beliefs

@@ -1,0 +1,150 @@
+-- `min_sum_bp_into` of min_sum.rs past its tests, as functions on lists, in its order. Definitions only. Assumes nothing.
+use Prim.Native.Nat.{ℕ, suc, _/_}
+use mathlib.Core.Bool.{Bool, true, false, not, _&&_, Bool·beq, cond}
+use mathlib.Core.List.{List, foldl}
+use lib.Dec.{eqb, ltb, leb}
+use lib.IntN.{negsuc}
+use lib.Ieee.{Float, nan, fin, lt, neg}
+use lib.ListN.{length, getD, set}
+use Rattle.numbers.specs.Floats.{_+ᶠ_, _-ᶠ_, _*ᶠ_, zero⁺, one⁺, one⁻, abs, isNegative}
+use Rattle.numbers.specs.Loops.{turns, table, row, spliced}
+use Rattle.graph.specs.Graph.{Graph, checkEntries, varEntries}
+use Rattle.graph.specs.Messages.{Scan, startScan, total, fromVariables, cleared}
+
+-- `damp`: 0.25
+abbrev pub damp : Float
+damp = fin false 1 (negsuc 1)
+
+-- `ewa_weight`: 0.3, the binary64 nearest
+abbrev pub ewaWeight : Float
+ewaWeight = fin false 5404319552844595 (negsuc 53)
+
+-- `usize::MAX`, the position before any minimum is found
+abbrev pub noPosition : ℕ
+noPosition = 0xFFFF_FFFF_FFFF_FFFF
+
+-- ---- a check, over its own messages
+
+-- the message at a position in the first pass: the sign flips below zero, and strict comparison keeps the first minimum
+unfoldable pub scanned : Scan → ℕ → Float → Scan
+scanned s position message =
+    let magnitude = abs message in
+    let lower = lt magnitude (s .min1) in
+    record {
+      totalSign = cond (lt message zero⁺) (neg (s .totalSign)) (s .totalSign);
+      min1 = cond lower magnitude (s .min1);
+      min2 = cond lower (s .min1) (cond (lt magnitude (s .min2)) magnitude (s .min2));
+      least = cond lower position (s .least);
+    }
+
+-- the first n of a check's messages; `odd` says whether its syndrome byte is not zero
+unfoldable pub scan : Bool → List Float → ℕ → Scan
+scan odd messages n = turns n (λ i s. scanned s i (getD messages i nan)) (startScan odd noPosition)
+
+-- `total_sign.copysign(total_sign * message)`, where the total sign is 1 or -1
+unfoldable pub signWithout : Float → Float → Float
+signWithout totalSign message = cond (isNegative (totalSign *ᶠ message)) one⁻ one⁺
+
+-- the message sent at a position: (sign times minimum) times scale
+unfoldable pub sent : Float → Scan → ℕ → Float → Float
+sent scale s position message = signWithout (s .totalSign) message *ᶠ cond (eqb position (s .least)) (s .min2) (s .min1) *ᶠ scale
+
+-- the first n that are sent
+unfoldable pub sentTo : Float → Scan → List Float → ℕ → List Float
+sentTo scale s messages n = table n (λ i. sent scale s i (getD messages i nan))
+
+-- all that a check of two entries or more sends
+unfoldable pub checkMessages : Float → Bool → List Float → List Float
+checkMessages scale odd messages = sentTo scale (scan odd messages (length messages)) messages (length messages)
+
+-- ---- one iteration, over all messages
+
+pub record Messages : Type 0 where
+  pub cToV : List Float
+  pub vToC : List Float
+
+abbrev pub messages : List Float → List Float → Messages
+messages c v = record { cToV = c; vToC = v }
+
+-- a check with fewer than two entries is skipped: `continue`
+unfoldable pub skipped : Graph → ℕ → Bool
+skipped g c = ltb (length (checkEntries g c)) 2
+
+-- a check that is not skipped: its part of `c_to_v` from its part of `v_to_c`
+unfoldable pub updateCheck : Graph → Float → List ℕ → Messages → ℕ → Messages
+updateCheck g scale syndrome s c =
+    let off = g .checkOffset in
+    let new = checkMessages scale (not (eqb (getD syndrome c 0) 0)) (row off c (s .vToC)) in
+    messages (spliced (s .cToV) (getD off c 0) (getD off (suc c) 0) new) (s .vToC)
+
+-- a variable's messages: new is (prior + total) - own, and (1 - damp) new + damp old is written
+unfoldable pub updateVariable : Graph → List Float → Messages → ℕ → Messages
+updateVariable g prior s v =
+    let entries = varEntries g v in
+    let sum = getD prior v nan +ᶠ total (s .cToV) entries in
+    messages
+    (s .cToV)
+    (foldl (λ (l : List Float) (m : ℕ). set l m ((one⁺ -ᶠ damp) *ᶠ (sum -ᶠ getD (s .cToV) m nan) +ᶠ damp *ᶠ getD l m nan)) (s .vToC) entries)
+
+-- one check of an iteration that is not serial
+unfoldable pub parallelCheck : Graph → Float → List ℕ → Messages → ℕ → Messages
+parallelCheck g scale syndrome s c = cond (skipped g c) s (updateCheck g scale syndrome s c)
+
+-- all checks, then all variables
+unfoldable pub parallelIteration : Graph → Float → List ℕ → List Float → Messages → Messages
+parallelIteration g scale syndrome prior s =
+    turns (g .mechanisms) (λ v t. updateVariable g prior t v) (turns (g .checks) (λ c t. parallelCheck g scale syndrome t c) s)
+
+-- one check of a serial iteration, and then each variable of its entries
+unfoldable pub serialCheck : Graph → Float → List ℕ → List Float → Messages → ℕ → Messages
+serialCheck g scale syndrome prior s c =
+    cond (skipped g c) s (foldl (updateVariable g prior) (updateCheck g scale syndrome s c) (checkEntries g c))
+
+-- the checks in index order
+unfoldable pub serialIteration : Graph → Float → List ℕ → List Float → Messages → Messages
+serialIteration g scale syndrome prior s = turns (g .checks) (λ c t. serialCheck g scale syndrome prior t c) s
+
+-- one iteration, serial or not
+abbrev pub iteration : Bool → Graph → Float → List ℕ → List Float → Messages → Messages
+iteration true = serialIteration
+iteration false = parallelIteration
+
+-- ---- the run
+
+-- the prior and all that the checks say
+unfoldable pub rawPosterior : Graph → List Float → Messages → ℕ → Float
+rawPosterior g prior s v = getD prior v nan +ᶠ total (s .cToV) (varEntries g v)
+
+-- the running posterior: (1 - weight) old + weight current
+unfoldable pub averaged : Graph → List Float → Float → Messages → List Float → List Float
+averaged g prior weight s ewa = table (g .mechanisms) (λ v. (one⁺ -ᶠ weight) *ᶠ getD ewa v nan +ᶠ weight *ᶠ rawPosterior g prior s v)
+
+-- the messages and the running posterior
+pub record Belief : Type 0 where
+  pub now : Messages
+  pub ewaPosterior : List Float
+
+module _ (g : Graph) (serial : Bool) (scale : Float) (syndrome : List ℕ) (prior : List Float) where
+  -- an iteration with its number within the outer round: the weight is 1 in the very first, else 0.3
+  unfoldable pub turn : ℕ → ℕ → Belief → Belief
+  turn outer i b =
+      let s = iteration serial g scale syndrome prior (b .now) in
+      record { now = s; ewaPosterior = averaged g prior (cond (eqb i 0 && eqb outer 0) one⁺ ewaWeight) s (b .ewaPosterior) }
+
+  -- an outer round: messages start from the running posterior, which before the first round is the priors, and check messages from 0.0
+  unfoldable pub round : ℕ → ℕ → Belief → Belief
+  round inner outer b = turns inner (turn outer) (record { now = messages (cleared g) (fromVariables g (b .ewaPosterior)); ewaPosterior = b .ewaPosterior })
+
+  -- two outer rounds of n / 2 from 6 on, else one of n. Where there is no iteration the round still sets the messages
+  unfoldable pub rounds : ℕ → Belief
+  rounds n =
+      let outer : ℕ = cond (leb 6 n) 2 1 in
+      turns outer (round (n / outer)) (record { now = messages (cleared g) (fromVariables g prior); ewaPosterior = prior })
+
+  -- the raw posterior in place of the belief, where both are above zero or both not, and its magnitude is larger
+  unfoldable pub chosen : Float → Float → Float
+  chosen belief raw = cond (Bool·beq (lt zero⁺ belief) (lt zero⁺ raw) && lt (abs belief) (abs raw)) raw belief
+
+  -- the beliefs after n iterations
+  unfoldable pub minSumBp : ℕ → List Float
+  minSumBp n = let b = rounds n in table (g .mechanisms) (λ v. chosen (getD (b .ewaPosterior) v nan) (rawPosterior g prior (b .now) v))

@@ -1,0 +1,1 @@
+// Min-sum beliefs over a Tanner graph. Its definitions stand in specs/.
