@@ -1,0 +1,7 @@
+pub mod Settings
+pub mod Step
+pub mod Order
+pub mod Leg
+pub mod Gammas
+pub mod Decode
+pub mod Calls
