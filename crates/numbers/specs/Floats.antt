@@ -21,7 +21,6 @@ x *ᶠ y = mul binary64 x y
 
 infixl 60 _+ᶠ_ _-ᶠ_
 infixl 70 _*ᶠ_
-
 -- ---- constants
 
 -- 0.0

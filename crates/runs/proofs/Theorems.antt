@@ -1,0 +1,55 @@
+-- R1 to R12 of document 01 hold of the definitions, by computation. Assumes nothing.
+use mathlib.Core.Path.{refl}
+use lib.Ieee.{add, sub, mul, neg, lt, le, eq, ofInt}
+use Rattle.numbers.specs.Floats as Floats
+use Rattle.numbers.specs.Draw as Draw
+use Rattle.refusals.specs.Tests as Tests
+use Rattle.graph.specs.Lists as Lists
+use Rattle.graph.specs.Graph as Graph
+use Rattle.graph.specs.Messages as Messages
+use Rattle.graph.specs.Model as Model
+use Rattle.min_sum.specs.MinSum as MinSum
+use Rattle.min_sum.specs.Beliefs as Beliefs
+use Rattle.relay.specs.Settings as Settings
+use Rattle.relay.specs.Step as Step
+use Rattle.relay.specs.Order as Order
+use Rattle.relay.specs.Leg as Leg
+use Rattle.relay.specs.Gammas as Gammas
+use Rattle.relay.specs.Decode as Decode
+use Rattle.relay.specs.Calls as Calls
+use Rattle.runs.specs.Runs.{Table}
+
+-- the twelve runs
+pub runs : Table
+unfolding add sub mul neg lt le eq ofInt
+    Floats.abs Floats.isFinite Floats.isNegative Floats.messageSign
+    Draw.mixed Draw.unit Draw.gamma
+    Tests.unless Tests.orElse Tests.firstOf Tests.unlessRefused
+    Lists.has Lists.passing Lists.joined Lists.start Lists.offsets Lists.same Lists.stands Lists.places Lists.sameList
+    Graph.mechanismsOf Graph.flipped Graph.checksOf Graph.entries Graph.graphOf Graph.among Graph.marked Graph.told
+    Messages.fromVariables Messages.cleared Messages.total
+    Model.countsGood Model.edgesGood Model.sizesGood Model.graphFits Model.sparseFits Model.denseFits Model.rising Model.offsetsGood Model.priorGood Model.priorFault Model.detectorFault Model.mechanismFault Model.sameGraph Model.isGraph Model.built Model.sparseFault Model.buildSparse Model.countEdges Model.denseFault Model.buildDense Model.graphFault
+    MinSum.scanned MinSum.scan MinSum.signWithout MinSum.sent MinSum.sentTo MinSum.checkMessages MinSum.skipped MinSum.updateCheck MinSum.updateVariable MinSum.parallelCheck MinSum.parallelIteration MinSum.serialCheck MinSum.serialIteration MinSum.rawPosterior MinSum.averaged MinSum.turn MinSum.round MinSum.rounds MinSum.chosen MinSum.minSumBp
+    Beliefs.listsFit Beliefs.beliefsFault Beliefs.beliefsEnd Beliefs.ran Beliefs.beliefs
+    Settings.alphaGood Settings.preGood Settings.legIterationsGood Settings.intervalGood Settings.sourceFault Settings.settingsFault
+    Step.scanned Step.scan Step.saturated Step.sent Step.sentTo Step.checkMessages Step.updateCheck Step.written Step.updateVariable Step.computeBias Step.checkPass Step.variablePass Step.floodingIteration Step.serialCheck Step.checkSerialIteration
+    Order.upto Order.count Order.namesOnce Order.shares Order.late Order.exchanged Order.namesFault Order.exchangeFault
+    Leg.startLeg Leg.hardDecision Leg.parity Leg.matches Leg.satisfied Leg.correctionWeight
+    Gammas.drawnOn Gammas.drawn Gammas.legSeed Gammas.relayGamma Gammas.gammaOf
+    Decode.iterationLimit Decode.stepOf Decode.executedLeg Decode.startRun Decode.recorded Decode.posteriorFault Decode.afterLeg Decode.legs Decode.decodeLegs
+    Calls.syndromeFault Calls.stepFits Calls.allFinite Calls.stateFinite Calls.stepFault Calls.mechanismFinite Calls.stepEnd Calls.stepped Calls.iterationCall Calls.listsFit Calls.decodeFault Calls.leftBy Calls.zeroed Calls.decodeInOrder Calls.decode Calls.legRecord
+runs =
+    record {
+      r1 = (refl, refl);
+      r2 = refl;
+      r3 = refl;
+      r4 = refl;
+      r5 = refl;
+      r6 = (refl, refl, refl, refl, refl);
+      r7 = refl;
+      r8 = refl;
+      r9 = (refl, refl);
+      r10 = refl;
+      r11 = refl;
+      r12 = (refl, refl);
+    }
