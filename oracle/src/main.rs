@@ -1,1 +1,62 @@
-fn main() {}
+//! The published Rust as an oracle: document 01's small runs, fixed lists of cases with the Rust's
+//! answers, and a count of the branches that those cases take.
+
+mod answers;
+mod belief_cases;
+mod branches;
+mod counted;
+mod decode_cases;
+mod exact;
+mod graph_cases;
+mod line;
+mod lists;
+mod model;
+mod runs;
+mod splitmix;
+mod tally;
+mod toolchain;
+
+use std::process::ExitCode;
+use tally::Tally;
+
+const USAGE: &str = "usage: oracle toolchain|runs|lists|branches|all";
+
+fn main() -> ExitCode {
+    let words: Vec<String> = std::env::args().skip(1).collect();
+    let [command] = words.as_slice() else {
+        eprintln!("{USAGE}");
+        return ExitCode::from(2);
+    };
+    toolchain::print();
+    if let Err(why) = toolchain::sums_start_at_negative_zero() {
+        eprintln!("oracle: refused: {why}");
+        return ExitCode::from(3);
+    }
+    let mut tally = Tally::default();
+    tally.check(
+        "toolchain",
+        true,
+        "an empty float sum and the sum of -0.0 are -0.0",
+    );
+    match command.as_str() {
+        "toolchain" => {}
+        "runs" => runs::run(&mut tally),
+        "lists" => lists::run(&mut tally),
+        "branches" => branches::run(&mut tally),
+        "all" => {
+            runs::run(&mut tally);
+            lists::run(&mut tally);
+            branches::run(&mut tally);
+        }
+        _ => {
+            eprintln!("{USAGE}");
+            return ExitCode::from(2);
+        }
+    }
+    tally.print();
+    if tally.failed() {
+        ExitCode::FAILURE
+    } else {
+        ExitCode::SUCCESS
+    }
+}

@@ -1,0 +1,180 @@
+//! Writes the three lists of cases with the Rust's answers.
+
+use crate::belief_cases::{self, BeliefCase};
+use crate::counted;
+use crate::counted::bp::count::{NanSign, read_nan_sign};
+use crate::decode_cases::{self, DecodeCase};
+use crate::exact::drive;
+use crate::graph_cases::{self, GraphCase};
+use crate::tally::Tally;
+use std::collections::BTreeMap;
+use std::path::PathBuf;
+
+/// The lists are committed, so all three together stay below this many bytes.
+const MOST_BYTES: usize = 1_500_000;
+
+/// The folder of the lists.
+pub fn folder() -> PathBuf {
+    PathBuf::from(env!("CARGO_MANIFEST_DIR")).join("cases")
+}
+
+/// The listed belief cases, and what was left out of them.
+pub struct Beliefs {
+    pub kept: Vec<BeliefCase>,
+    /// A NaN's sign can change the answer.
+    pub left_out: usize,
+    /// Among those, where a positive NaN gives another answer than this processor's.
+    pub differs_here: usize,
+}
+
+/// Document 01 has a NaN's sign positive in the port and leaves it open in the Rust. So a case is
+/// listed only if the answer is the same with every NaN's sign read as this processor leaves it,
+/// as positive, and as negative.
+pub fn beliefs() -> Beliefs {
+    let mut result = Beliefs {
+        kept: Vec::new(),
+        left_out: 0,
+        differs_here: 0,
+    };
+    for case in belief_cases::candidates() {
+        let here = drive::belief_line(&case);
+        let read_as = |choice| {
+            read_nan_sign(choice);
+            counted::drive::belief_line(&case)
+        };
+        let positive = read_as(NanSign::Positive);
+        let negative = read_as(NanSign::Negative);
+        if here == positive && here == negative {
+            result.kept.push(case);
+        } else {
+            result.left_out += 1;
+            result.differs_here += usize::from(here != positive);
+        }
+    }
+    read_nan_sign(NanSign::AsItIs);
+    result
+}
+
+pub fn run(tally: &mut Tally) {
+    let graphs = graph_cases::cases();
+    sparse_and_dense_agree(tally, &graphs);
+    let beliefs = beliefs();
+    println!(
+        "note beliefs: {} cases left out because a NaN's sign decides; in {} of them a positive one answers otherwise than this processor's",
+        beliefs.left_out, beliefs.differs_here
+    );
+    // One candidate is made so that it must be left out: the rule is not an empty one.
+    tally.check(
+        "beliefs: a NaN's sign can decide",
+        beliefs.left_out > 0,
+        &format!("{} left out", beliefs.left_out),
+    );
+    let decodes = decode_cases::cases();
+    features(&beliefs.kept, &decodes);
+    let size = write(tally, "graphs.txt", graphs.iter().map(drive::graph_line))
+        + write(
+            tally,
+            "beliefs.txt",
+            beliefs.kept.iter().map(drive::belief_line),
+        )
+        + write(tally, "decodes.txt", decodes.iter().map(drive::decode_line));
+    tally.check(
+        "size of the lists",
+        size < MOST_BYTES,
+        &format!("{size} bytes, limit {MOST_BYTES}"),
+    );
+    codes("graphs", graphs.iter().map(|case| drive::graph(case).err()));
+    codes(
+        "beliefs",
+        beliefs.kept.iter().map(|case| drive::beliefs(case).err()),
+    );
+    codes(
+        "decodes",
+        decodes.iter().map(|case| drive::decode(case).err()),
+    );
+}
+
+/// A dense case has the incidences of the sparse case before it, and must get the same lists.
+fn sparse_and_dense_agree(tally: &mut Tally, graphs: &[GraphCase]) {
+    let pairs: Vec<_> = graphs
+        .windows(2)
+        .filter(|pair| pair[1].is_dense())
+        .collect();
+    let agree = pairs
+        .iter()
+        .filter(|pair| drive::graph(&pair[0]) == drive::graph(&pair[1]))
+        .count();
+    tally.check(
+        "graphs: sparse and dense agree",
+        agree == pairs.len() && !pairs.is_empty(),
+        &format!("{agree} of {} pairs", pairs.len()),
+    );
+}
+
+/// Write one list; it fails where a list that stood there was another one.
+fn write(tally: &mut Tally, name: &str, lines: impl Iterator<Item = String>) -> usize {
+    let lines: Vec<String> = lines.collect();
+    let text = format!("{:x}\n{}\n", lines.len(), lines.join("\n"));
+    let path = folder().join(name);
+    let before = std::fs::read_to_string(&path).ok();
+    let (holds, seen) = match before {
+        None => (true, "new"),
+        Some(before) if before == text => (true, "as it stood"),
+        Some(_) => (false, "CHANGED against what stood there"),
+    };
+    if let Err(error) = std::fs::write(&path, &text) {
+        tally.check(name, false, &format!("{}: {error}", path.display()));
+    } else {
+        let seen = format!("{} cases, {} bytes, {seen}", lines.len(), text.len());
+        tally.check(name, holds, &seen);
+    }
+    text.len()
+}
+
+fn codes(name: &str, refusals: impl Iterator<Item = Option<crate::answers::Refusal>>) {
+    let mut counts = BTreeMap::new();
+    for refusal in refusals {
+        *counts
+            .entry(refusal.map_or(0, |refusal| refusal.code))
+            .or_insert(0) += 1;
+    }
+    let words: Vec<String> = counts
+        .iter()
+        .map(|(code, count)| format!("{code}: {count}"))
+        .collect();
+    println!(
+        "note {name}: cases by number of refusal (0: none): {}",
+        words.join(", ")
+    );
+}
+
+/// How many listed cases have what document 01's domain names.
+fn features(beliefs: &[BeliefCase], decodes: &[DecodeCase]) {
+    let serial = beliefs.iter().filter(|case| case.serial).count();
+    println!(
+        "note beliefs: {serial} serial, {} not",
+        beliefs.len() - serial
+    );
+    let decoded: Vec<_> = decodes
+        .iter()
+        .filter_map(|case| drive::decode(case).ok().map(|seen| (case, seen)))
+        .collect();
+    let count = |holds: &dyn Fn(&DecodeCase, &crate::answers::Decoded) -> bool| {
+        decoded
+            .iter()
+            .filter(|(case, seen)| holds(case, seen))
+            .count()
+    };
+    println!(
+        "note decodes that are not refused: {} Flooding, {} CheckSerial; {} converged, {} not; {} with two legs converged or more; {} with all of 16 relayed legs run; stop 1, 2, 3: {}, {}, {}",
+        count(&|case, _| !case.settings.serial),
+        count(&|case, _| case.settings.serial),
+        count(&|_, seen| seen.weight.is_some()),
+        count(&|_, seen| seen.weight.is_none()),
+        count(&|_, seen| seen.legs.iter().filter(|leg| leg.found.is_some()).count() > 1),
+        count(&|_, seen| seen.legs.len() == 17),
+        count(&|case, _| case.settings.stop == 1),
+        count(&|case, _| case.settings.stop == 2),
+        count(&|case, _| case.settings.stop == 3),
+    );
+}

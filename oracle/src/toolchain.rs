@@ -1,0 +1,55 @@
+//! What this oracle was built with and runs on, and the one property of it that the answers need.
+
+use std::hint::black_box;
+
+/// Print compiler, target and processor.
+pub fn print() {
+    for line in env!("ORACLE_RUSTC").split('|') {
+        println!("toolchain {line}");
+    }
+    println!("toolchain target: {}", env!("ORACLE_TARGET"));
+    println!("toolchain target features: {}", env!("ORACLE_FEATURES"));
+    println!("toolchain optimisation: {}", env!("ORACLE_OPT_LEVEL"));
+    println!("toolchain processor: {}", processor());
+}
+
+fn processor() -> String {
+    let architecture = std::env::consts::ARCH;
+    let text = std::fs::read_to_string("/proc/cpuinfo").unwrap_or_default();
+    let value = |name: &str| {
+        text.lines()
+            .filter_map(|line| line.split_once(':'))
+            .find(|(key, _)| key.trim() == name)
+            .map(|(_, value)| value.trim().to_string())
+    };
+    if let Some(name) = value("model name") {
+        return format!("{architecture}, {name}");
+    }
+    // ARM's list gives numbers in place of a name.
+    match (value("CPU implementer"), value("CPU part")) {
+        (Some(maker), Some(part)) => format!("{architecture}, implementer {maker}, part {part}"),
+        _ => architecture.to_string(),
+    }
+}
+
+/// Whether float sums start at negative zero here, and with which bits they did.
+///
+/// # Errors
+///
+/// Says what the sums gave instead.
+pub fn sums_start_at_negative_zero() -> Result<(), String> {
+    let wanted = (-0.0_f64).to_bits();
+    let none: [f64; 0] = [];
+    let one = [-0.0_f64];
+    let empty: f64 = black_box(&none[..]).iter().copied().sum();
+    let single: f64 = black_box(&one[..]).iter().copied().sum();
+    if empty.to_bits() == wanted && single.to_bits() == wanted {
+        return Ok(());
+    }
+    Err(format!(
+        "float sums don't start at negative zero on this toolchain: the empty sum has bits {:016x}, \
+         the sum of -0.0 has {:016x}. Document 01 rests on a toolchain where both are {wanted:016x}",
+        empty.to_bits(),
+        single.to_bits()
+    ))
+}
