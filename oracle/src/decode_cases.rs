@@ -56,6 +56,10 @@ impl Settings {
         }
     }
 
+    pub fn is_explicit(&self) -> bool {
+        matches!(self.source, Source::Explicit(_))
+    }
+
     /// Document 01's default operating point.
     pub fn default_point() -> Self {
         Self {
@@ -126,7 +130,8 @@ impl DecodeCase {
 
 pub fn cases() -> Vec<DecodeCase> {
     let mut cases = fixed();
-    cases.extend(refused());
+    cases.extend(spoiled().into_iter().map(|(_, case)| case));
+    cases.extend(borders());
     let mut random = SplitMix64::new(SEED);
     for number in 0..RANDOM {
         let case = random_case(&mut random, number);
@@ -203,14 +208,21 @@ fn fixed() -> Vec<DecodeCase> {
         cases.push(case(free.clone(), relayed(serial), vec![]));
         cases.push(case(empty_check.clone(), relayed(serial), vec![0, 1]));
         cases.push(case(empty_check.clone(), relayed(serial), vec![1, 0]));
-        cases.push(case(ring.clone(), relayed(serial), vec![1, 0, 0, 0, 0]));
+        // Every number of legs, all of them run.
+        for num_legs in 0..=MOST_LEGS {
+            let mut settings = relayed(serial);
+            settings.num_legs = num_legs;
+            cases.push(case(ring.clone(), settings, vec![1, 0, 0, 0, 0]));
+        }
         cases.push(case(ring.clone(), relayed(serial), vec![1, 0, 1, 0, 0]));
     }
     cases
 }
 
+type Spoil = fn(&mut DecodeCase);
+
 /// Ways to spoil a good case, by the number of the refusal that each one earns.
-const SPOILED: [(usize, fn(&mut DecodeCase)); 10] = [
+const SPOILED: [(usize, Spoil); 10] = [
     (10, |case| case.settings.alpha = 0.0),
     (11, |case| case.settings.gamma0 = f64::NAN),
     (12, |case| case.settings.pre_iterations = 0),
@@ -232,10 +244,9 @@ const SPOILED: [(usize, fn(&mut DecodeCase)); 10] = [
     (21, |case| case.syndrome[0] = 2),
 ];
 
-/// Every refusal of settings and syndrome that the Rust shares with document 01, alone and by
-/// twos, so that the order of the tests shows.
-fn refused() -> Vec<DecodeCase> {
-    let good = DecodeCase {
+/// A case that nothing is wrong with, for spoiling.
+fn good() -> DecodeCase {
+    DecodeCase {
         model: Model::g(),
         settings: Settings {
             num_legs: 2,
@@ -247,18 +258,30 @@ fn refused() -> Vec<DecodeCase> {
         },
         syndrome: vec![1, 0],
         seed: 0,
-    };
-    let mut cases = vec![good.clone()];
-    for (first, (_, spoil)) in SPOILED.iter().enumerate() {
-        let mut once = good.clone();
+    }
+}
+
+/// Every refusal of settings and syndrome that the Rust shares with document 01, alone and by
+/// twos, so that the order of the tests shows; beside each the number that must come first.
+pub fn spoiled() -> Vec<(usize, DecodeCase)> {
+    let mut cases = Vec::new();
+    for (first, (code, spoil)) in SPOILED.iter().enumerate() {
+        let mut once = good();
         spoil(&mut once);
-        cases.push(once.clone());
+        cases.push((*code, once.clone()));
         for (_, spoil_again) in &SPOILED[first + 1..] {
             let mut twice = once.clone();
             spoil_again(&mut twice);
-            cases.push(twice);
+            cases.push((*code, twice));
         }
     }
+    cases
+}
+
+/// Other cases at the borders of the tests, refused or just not.
+fn borders() -> Vec<DecodeCase> {
+    let good = good();
+    let mut cases = vec![good.clone()];
     let mut with = |change: &dyn Fn(&mut DecodeCase)| {
         let mut case = good.clone();
         change(&mut case);

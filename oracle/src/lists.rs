@@ -1,5 +1,6 @@
 //! Writes the three lists of cases with the Rust's answers.
 
+use crate::answers::{Decoded, Refusal};
 use crate::belief_cases::{self, BeliefCase};
 use crate::counted;
 use crate::counted::bp::count::{NanSign, read_nan_sign};
@@ -70,7 +71,8 @@ pub fn run(tally: &mut Tally) {
         &format!("{} left out", beliefs.left_out),
     );
     let decodes = decode_cases::cases();
-    features(&beliefs.kept, &decodes);
+    order_of_tests(tally);
+    features(tally, &beliefs.kept, &decodes);
     let size = write(tally, "graphs.txt", graphs.iter().map(drive::graph_line))
         + write(
             tally,
@@ -111,6 +113,20 @@ fn sparse_and_dense_agree(tally: &mut Tally, graphs: &[GraphCase]) {
     );
 }
 
+/// Where two things are wrong, the lower number of document 01 must be the Rust's answer.
+fn order_of_tests(tally: &mut Tally) {
+    let spoiled = decode_cases::spoiled();
+    let first = |(code, case): &&(usize, DecodeCase)| {
+        drive::decode(case).err().map(|refusal| refusal.code) == Some(*code)
+    };
+    let equal = spoiled.iter().filter(first).count();
+    tally.check(
+        "decodes: tests in rising number",
+        equal == spoiled.len(),
+        &format!("{equal} of {} spoiled cases", spoiled.len()),
+    );
+}
+
 /// Write one list; it fails where a list that stood there was another one.
 fn write(tally: &mut Tally, name: &str, lines: impl Iterator<Item = String>) -> usize {
     let lines: Vec<String> = lines.collect();
@@ -131,7 +147,7 @@ fn write(tally: &mut Tally, name: &str, lines: impl Iterator<Item = String>) -> 
     text.len()
 }
 
-fn codes(name: &str, refusals: impl Iterator<Item = Option<crate::answers::Refusal>>) {
+fn codes(name: &str, refusals: impl Iterator<Item = Option<Refusal>>) {
     let mut counts = BTreeMap::new();
     for refusal in refusals {
         *counts
@@ -148,33 +164,100 @@ fn codes(name: &str, refusals: impl Iterator<Item = Option<crate::answers::Refus
     );
 }
 
-/// How many listed cases have what document 01's domain names.
-fn features(beliefs: &[BeliefCase], decodes: &[DecodeCase]) {
-    let serial = beliefs.iter().filter(|case| case.serial).count();
-    println!(
-        "note beliefs: {serial} serial, {} not",
-        beliefs.len() - serial
-    );
+/// The lists must hold what the domain names; a line for each, with how many cases have it.
+fn features(tally: &mut Tally, beliefs: &[BeliefCase], decodes: &[DecodeCase]) {
+    let mut need = |name: &str, counts: Vec<usize>| {
+        let enough = counts.iter().all(|count| *count > 0);
+        tally.check(name, enough, &format!("{counts:?} cases"));
+    };
+    for serial in [false, true] {
+        let runs = |n| {
+            beliefs
+                .iter()
+                .filter(move |c| c.serial == serial && c.iterations == n)
+        };
+        let counts = (0..=20).map(|n| runs(n).count()).collect();
+        need(
+            &format!("beliefs: 0 to 20 iterations, serial {serial}"),
+            counts,
+        );
+    }
     let decoded: Vec<_> = decodes
         .iter()
-        .filter_map(|case| drive::decode(case).ok().map(|seen| (case, seen)))
+        .filter_map(|case| Some((case, drive::decode(case).ok()?)))
         .collect();
-    let count = |holds: &dyn Fn(&DecodeCase, &crate::answers::Decoded) -> bool| {
+    let count = |holds: &dyn Fn(&DecodeCase, &Decoded) -> bool| {
         decoded
             .iter()
             .filter(|(case, seen)| holds(case, seen))
             .count()
     };
-    println!(
-        "note decodes that are not refused: {} Flooding, {} CheckSerial; {} converged, {} not; {} with two legs converged or more; {} with all of 16 relayed legs run; stop 1, 2, 3: {}, {}, {}",
-        count(&|case, _| !case.settings.serial),
-        count(&|case, _| case.settings.serial),
-        count(&|_, seen| seen.weight.is_some()),
-        count(&|_, seen| seen.weight.is_none()),
-        count(&|_, seen| seen.legs.iter().filter(|leg| leg.found.is_some()).count() > 1),
-        count(&|_, seen| seen.legs.len() == 17),
-        count(&|case, _| case.settings.stop == 1),
-        count(&|case, _| case.settings.stop == 2),
-        count(&|case, _| case.settings.stop == 3),
-    );
+    let found = |seen: &Decoded| seen.legs.iter().filter(|leg| leg.found.is_some()).count();
+    for serial in [false, true] {
+        let name = if serial { "CheckSerial" } else { "Flooding" };
+        let count = |holds: &dyn Fn(&DecodeCase, &Decoded) -> bool| {
+            count(&|case, seen| case.settings.serial == serial && holds(case, seen))
+        };
+        need(
+            &format!("decodes, {name}: converged, and not"),
+            vec![
+                count(&|_, seen| seen.weight.is_some()),
+                count(&|_, seen| seen.weight.is_none()),
+            ],
+        );
+        need(
+            &format!("decodes, {name}: 0 to 16 relayed legs"),
+            (0..=16)
+                .map(|n| count(&|case, _| case.settings.num_legs == n))
+                .collect(),
+        );
+        need(
+            &format!("decodes, {name}: 1 to 17 legs executed"),
+            (1..=17)
+                .map(|n| count(&|_, seen| seen.legs.len() == n))
+                .collect(),
+        );
+        need(
+            &format!("decodes, {name}: 0 to 3 legs converged"),
+            (0..=3)
+                .map(|n| count(&|_, seen| found(seen) == n))
+                .collect(),
+        );
+        need(
+            &format!("decodes, {name}: stop 1 to 3"),
+            (1..=3)
+                .map(|n| count(&|case, _| case.settings.stop == n))
+                .collect(),
+        );
+        need(
+            &format!("decodes, {name}: seeded and explicit sources, with relayed legs"),
+            vec![
+                count(&|case, _| case.settings.num_legs > 0 && !case.settings.is_explicit()),
+                count(&|case, _| case.settings.num_legs > 0 && case.settings.is_explicit()),
+            ],
+        );
+        need(
+            &format!(
+                "decodes, {name}: an empty check, a check of degree one, a mechanism without detector"
+            ),
+            vec![
+                count(&|case, _| case.model.check_degrees().contains(&0)),
+                count(&|case, _| case.model.check_degrees().contains(&1)),
+                count(&|case, _| case.model.detectors.contains(&vec![])),
+            ],
+        );
+        let with = |holds: fn(f64) -> bool| {
+            count(&|case, _| case.model.probabilities.iter().any(|p| holds(*p)))
+        };
+        need(
+            &format!("decodes, {name}: probability 0, 1, 1/2, below 1e-13, above 1/2"),
+            vec![
+                with(|p| p == 0.0),
+                with(|p| p == 1.0),
+                with(|p| p == 0.5),
+                with(|p| p > 0.0 && p < 1e-13),
+                with(|p| p > 0.5 && p < 1.0),
+            ],
+        );
+    }
 }

@@ -39,6 +39,14 @@ impl Model {
         self.detectors.iter().map(Vec::len).sum()
     }
 
+    pub fn check_degrees(&self) -> Vec<usize> {
+        let mut degrees = vec![0; self.checks];
+        for &detector in self.detectors.iter().flatten() {
+            degrees[detector as usize] += 1;
+        }
+        degrees
+    }
+
     /// Document 01's G: detectors {0}, {0,1}, {1}, priors 4.
     pub fn g() -> Self {
         Self {

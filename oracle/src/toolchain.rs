@@ -32,17 +32,19 @@ fn processor() -> String {
     }
 }
 
-/// Whether float sums start at negative zero here, and with which bits they did.
+/// Whether float sums start at negative zero here: the empty one, and that of -0.0 alone.
 ///
 /// # Errors
 ///
 /// Says what the sums gave instead.
 pub fn sums_start_at_negative_zero() -> Result<(), String> {
+    // Hidden from the optimiser, so that the sums are worked out as the program runs.
+    let sum = |list: &[f64]| black_box(list).iter().copied().sum::<f64>();
+    judge(sum(&[]), sum(&[-0.0]))
+}
+
+fn judge(empty: f64, single: f64) -> Result<(), String> {
     let wanted = (-0.0_f64).to_bits();
-    let none: [f64; 0] = [];
-    let one = [-0.0_f64];
-    let empty: f64 = black_box(&none[..]).iter().copied().sum();
-    let single: f64 = black_box(&one[..]).iter().copied().sum();
     if empty.to_bits() == wanted && single.to_bits() == wanted {
         return Ok(());
     }
@@ -52,4 +54,16 @@ pub fn sums_start_at_negative_zero() -> Result<(), String> {
         empty.to_bits(),
         single.to_bits()
     ))
+}
+
+#[cfg(test)]
+mod tests {
+    use super::*;
+
+    #[test]
+    fn a_sum_that_starts_at_positive_zero_is_refused() {
+        assert!(judge(-0.0, -0.0).is_ok());
+        assert!(judge(0.0, 0.0).is_err());
+        assert!(judge(-0.0, 0.0).is_err());
+    }
 }
