@@ -22,10 +22,14 @@ pub fn folder() -> PathBuf {
 /// The listed belief cases, and what was left out of them.
 pub struct Beliefs {
     pub kept: Vec<BeliefCase>,
-    /// A NaN's sign can change the answer.
-    pub left_out: usize,
-    /// Among those, where a positive NaN gives another answer than this processor's.
-    pub differs_here: usize,
+    pub left_out: Vec<LeftOut>,
+}
+
+/// A case in which a NaN's sign decides: what is answered with each way to read it.
+pub struct LeftOut {
+    here: Result<Vec<f64>, Refusal>,
+    positive: Result<Vec<f64>, Refusal>,
+    negative: Result<Vec<f64>, Refusal>,
 }
 
 /// Document 01 has a NaN's sign positive in the port and leaves it open in the Rust. So a case is
@@ -34,41 +38,59 @@ pub struct Beliefs {
 pub fn beliefs() -> Beliefs {
     let mut result = Beliefs {
         kept: Vec::new(),
-        left_out: 0,
-        differs_here: 0,
+        left_out: Vec::new(),
     };
     for case in belief_cases::candidates() {
-        let here = drive::belief_line(&case);
         let read_as = |choice| {
             read_nan_sign(choice);
-            counted::drive::belief_line(&case)
+            counted::drive::beliefs(&case)
         };
-        let positive = read_as(NanSign::Positive);
-        let negative = read_as(NanSign::Negative);
-        if here == positive && here == negative {
+        let answers = LeftOut {
+            here: drive::beliefs(&case),
+            positive: read_as(NanSign::Positive),
+            negative: read_as(NanSign::Negative),
+        };
+        if same(&answers.here, &answers.positive) && same(&answers.here, &answers.negative) {
             result.kept.push(case);
         } else {
-            result.left_out += 1;
-            result.differs_here += usize::from(here != positive);
+            result.left_out.push(answers);
         }
     }
     read_nan_sign(NanSign::AsItIs);
     result
 }
 
+/// The same refusal, or the same beliefs bit for bit.
+fn same(one: &Result<Vec<f64>, Refusal>, other: &Result<Vec<f64>, Refusal>) -> bool {
+    match (one, other) {
+        (Ok(one), Ok(other)) => {
+            let bits = |list: &[f64]| list.iter().map(|x| x.to_bits()).collect::<Vec<_>>();
+            bits(one) == bits(other)
+        }
+        (Err(one), Err(other)) => one == other,
+        _ => false,
+    }
+}
+
 pub fn run(tally: &mut Tally) {
     let graphs = graph_cases::cases();
     sparse_and_dense_agree(tally, &graphs);
     let beliefs = beliefs();
-    println!(
-        "note beliefs: {} cases left out because a NaN's sign decides; in {} of them a positive one answers otherwise than this processor's",
-        beliefs.left_out, beliefs.differs_here
-    );
+    for LeftOut {
+        here,
+        positive,
+        negative,
+    } in &beliefs.left_out
+    {
+        println!(
+            "note beliefs: left out because a NaN's sign decides: {here:?} on this processor, {positive:?} with a positive one, {negative:?} with a negative one"
+        );
+    }
     // One candidate is made so that it must be left out: the rule is not an empty one.
     tally.check(
         "beliefs: a NaN's sign can decide",
-        beliefs.left_out > 0,
-        &format!("{} left out", beliefs.left_out),
+        !beliefs.left_out.is_empty(),
+        &format!("{} left out", beliefs.left_out.len()),
     );
     let decodes = decode_cases::cases();
     order_of_tests(tally);

@@ -26,9 +26,16 @@ const USAGE: &str = "usage: oracle toolchain|runs|lists|branches|all";
 
 fn main() -> ExitCode {
     let words: Vec<String> = std::env::args().skip(1).collect();
-    let [command] = words.as_slice() else {
-        eprintln!("{USAGE}");
-        return ExitCode::from(2);
+    let parts: &[fn(&mut Tally)] = match words.iter().map(String::as_str).collect::<Vec<_>>()[..] {
+        ["toolchain"] => &[],
+        ["runs"] => &[runs::run],
+        ["lists"] => &[lists::run],
+        ["branches"] => &[branches::run],
+        ["all"] => &[runs::run, lists::run, branches::run],
+        _ => {
+            eprintln!("{USAGE}");
+            return ExitCode::from(2);
+        }
     };
     toolchain::print();
     if let Err(why) = toolchain::sums_start_at_negative_zero() {
@@ -36,25 +43,10 @@ fn main() -> ExitCode {
         return ExitCode::from(3);
     }
     let mut tally = Tally::default();
-    tally.check(
-        "toolchain",
-        true,
-        "an empty float sum and the sum of -0.0 are -0.0",
-    );
-    match command.as_str() {
-        "toolchain" => {}
-        "runs" => runs::run(&mut tally),
-        "lists" => lists::run(&mut tally),
-        "branches" => branches::run(&mut tally),
-        "all" => {
-            runs::run(&mut tally);
-            lists::run(&mut tally);
-            branches::run(&mut tally);
-        }
-        _ => {
-            eprintln!("{USAGE}");
-            return ExitCode::from(2);
-        }
+    let seen = "an empty float sum and the sum of -0.0 are -0.0";
+    tally.check("toolchain", true, seen);
+    for part in parts {
+        part(&mut tally);
     }
     tally.print();
     if tally.failed() {
