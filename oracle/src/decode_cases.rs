@@ -1,0 +1,415 @@
+//! The cases of Relay decodes.
+
+use crate::answers::{Decoded, Refusal};
+use crate::line::Line;
+use crate::model::{Model, random_model};
+use crate::splitmix::{SplitMix64, relay_sets};
+
+const SEED: u64 = 0x6465_636f_6465_0003;
+const RANDOM: usize = 600;
+const MOST_LEGS: usize = 16;
+
+/// Where the gammas of relayed legs come from.
+#[derive(Clone, Debug)]
+pub enum Source {
+    /// Document 01's draw from the shot's seed; the Rust gets it as explicit sets.
+    Seeded,
+    Explicit(Vec<Vec<f64>>),
+}
+
+#[derive(Clone, Debug)]
+pub struct Settings {
+    pub serial: bool,
+    pub alpha: f64,
+    pub gamma0: f64,
+    pub pre_iterations: usize,
+    pub num_legs: usize,
+    pub leg_iterations: usize,
+    pub low: f64,
+    pub high: f64,
+    pub stop: usize,
+    pub source: Source,
+}
+
+#[derive(Clone, Debug)]
+pub struct DecodeCase {
+    pub model: Model,
+    pub settings: Settings,
+    pub syndrome: Vec<u8>,
+    pub seed: u64,
+}
+
+impl Settings {
+    /// What document 01's small runs use: alpha 1, gamma0 0, no relayed legs.
+    pub fn plain(serial: bool, pre_iterations: usize) -> Self {
+        Self {
+            serial,
+            alpha: 1.0,
+            gamma0: 0.0,
+            pre_iterations,
+            num_legs: 0,
+            leg_iterations: 0,
+            low: 0.0,
+            high: 0.0,
+            stop: 1,
+            source: Source::Seeded,
+        }
+    }
+
+    pub fn is_explicit(&self) -> bool {
+        matches!(self.source, Source::Explicit(_))
+    }
+
+    /// Document 01's default operating point.
+    pub fn default_point() -> Self {
+        Self {
+            serial: false,
+            alpha: 1.0,
+            gamma0: 0.1,
+            pre_iterations: 80,
+            num_legs: 40,
+            leg_iterations: 60,
+            low: -0.24,
+            high: 0.66,
+            stop: 1,
+            source: Source::Seeded,
+        }
+    }
+}
+
+impl DecodeCase {
+    /// The sets that the Rust is handed; none where no leg would use one.
+    pub fn explicit_sets(&self) -> Option<Vec<Vec<f64>>> {
+        let settings = &self.settings;
+        match &settings.source {
+            Source::Explicit(sets) => Some(sets.clone()),
+            Source::Seeded if settings.num_legs == 0 => None,
+            Source::Seeded => Some(relay_sets(
+                self.seed,
+                settings.num_legs,
+                self.model.mechanisms(),
+                settings.low,
+                settings.high,
+            )),
+        }
+    }
+
+    pub fn line(&self, priors: &[f64], answer: &Result<Decoded, Refusal>) -> String {
+        let mut line = Line::default();
+        self.model.write(priors, &mut line);
+        let settings = &self.settings;
+        line.count(usize::from(settings.serial));
+        line.floats(&[settings.alpha, settings.gamma0]);
+        line.counts([
+            &settings.pre_iterations,
+            &settings.num_legs,
+            &settings.leg_iterations,
+        ]);
+        line.floats(&[settings.low, settings.high]);
+        line.count(settings.stop);
+        match &settings.source {
+            Source::Seeded => line.counts([&0, &0]),
+            Source::Explicit(sets) => {
+                line.counts([&1, &sets.len()]);
+                sets.iter().for_each(|set| line.floats(set));
+            }
+        }
+        line.count(self.syndrome.len());
+        line.bytes(&self.syndrome);
+        line.number(self.seed);
+        match answer {
+            Ok(decoded) => {
+                line.counts([&0, &0]);
+                decoded.write(&mut line);
+            }
+            Err(refusal) => line.counts([&refusal.code, &refusal.place]),
+        }
+        line.finish()
+    }
+}
+
+pub fn cases() -> Vec<DecodeCase> {
+    let mut cases = fixed();
+    cases.extend(spoiled().into_iter().map(|(_, case)| case));
+    cases.extend(borders());
+    let mut random = SplitMix64::new(SEED);
+    for number in 0..RANDOM {
+        let case = random_case(&mut random, number);
+        // The same run with the drawn sets handed in, where they are short enough to write down.
+        let twin = number % 9 == 0 && case.settings.num_legs <= 4 && case.model.mechanisms() <= 10;
+        if let (true, Source::Seeded, Some(sets)) =
+            (twin, &case.settings.source, case.explicit_sets())
+        {
+            let mut explicit = case.clone();
+            explicit.settings.source = Source::Explicit(sets);
+            cases.push(explicit);
+        }
+        cases.push(case);
+    }
+    cases
+}
+
+/// Document 01's small runs and its default operating point.
+fn fixed() -> Vec<DecodeCase> {
+    let case = |model: Model, settings: Settings, syndrome: Vec<u8>| DecodeCase {
+        model,
+        settings,
+        syndrome,
+        seed: 7,
+    };
+    let nothing = Model {
+        checks: 0,
+        probabilities: vec![],
+        detectors: vec![],
+    };
+    let free = Model {
+        checks: 0,
+        probabilities: vec![0.3, 0.7, 0.5, 0.0, 1.0],
+        detectors: vec![vec![]; 5],
+    };
+    let empty_check = Model {
+        checks: 2,
+        probabilities: vec![0.1, 0.9],
+        detectors: vec![vec![], vec![1]],
+    };
+    let ring = Model {
+        checks: 5,
+        probabilities: vec![0.05, 0.04, 0.03, 0.02, 0.01],
+        detectors: (0..5).map(|c| vec![c, (c + 1) % 5]).collect(),
+    };
+    let relayed = |serial: bool| Settings {
+        serial,
+        num_legs: MOST_LEGS,
+        leg_iterations: 3,
+        low: -0.24,
+        high: 0.66,
+        stop: 3,
+        ..Settings::plain(serial, 2)
+    };
+    let mut cases = vec![
+        case(Model::g(), Settings::plain(false, 1), vec![1, 0]),
+        case(Model::g(), Settings::plain(false, 2), vec![1, 0]),
+        case(Model::g(), Settings::plain(true, 1), vec![1, 0]),
+        case(Model::g(), Settings::plain(true, 2), vec![1, 0]),
+        case(Model::g(), Settings::default_point(), vec![1, 1]),
+        case(ring.clone(), Settings::default_point(), vec![1, 0, 1, 0, 0]),
+        // An odd syndrome on a ring has no correction: every leg runs out.
+        case(ring.clone(), Settings::default_point(), vec![1, 0, 0, 0, 0]),
+    ];
+    for serial in [false, true] {
+        for probability in [crate::model::probability_of(2.0), 0.0, 0.5, 1.0] {
+            for bit in [0, 1] {
+                let settings = Settings::plain(serial, 1);
+                cases.push(case(Model::single(probability), settings, vec![bit]));
+            }
+        }
+        cases.push(case(nothing.clone(), Settings::plain(serial, 1), vec![]));
+        cases.push(case(nothing.clone(), relayed(serial), vec![]));
+        cases.push(case(free.clone(), relayed(serial), vec![]));
+        cases.push(case(empty_check.clone(), relayed(serial), vec![0, 1]));
+        cases.push(case(empty_check.clone(), relayed(serial), vec![1, 0]));
+        // Every number of legs, all of them run.
+        for num_legs in 0..=MOST_LEGS {
+            let mut settings = relayed(serial);
+            settings.num_legs = num_legs;
+            cases.push(case(ring.clone(), settings, vec![1, 0, 0, 0, 0]));
+        }
+        cases.push(case(ring.clone(), relayed(serial), vec![1, 0, 1, 0, 0]));
+    }
+    cases
+}
+
+type Spoil = fn(&mut DecodeCase);
+
+/// Ways to spoil a good case, by the number of the refusal that each one earns.
+const SPOILED: [(usize, Spoil); 10] = [
+    (10, |case| case.settings.alpha = 0.0),
+    (11, |case| case.settings.gamma0 = f64::NAN),
+    (12, |case| case.settings.pre_iterations = 0),
+    (14, |case| case.settings.leg_iterations = 0),
+    (15, |case| case.settings.low = 1.0),
+    (16, |case| case.settings.stop = 0),
+    (17, |case| case.settings.source = Source::Explicit(vec![])),
+    (19, |case| {
+        // Nothing to spoil where the sets are gone already.
+        if let Source::Explicit(sets) = &mut case.settings.source
+            && sets.len() == 2
+        {
+            sets[1][2] = f64::INFINITY;
+        }
+    }),
+    (20, |case| {
+        case.syndrome.pop();
+    }),
+    (21, |case| case.syndrome[0] = 2),
+];
+
+/// A case that nothing is wrong with, for spoiling.
+fn good() -> DecodeCase {
+    DecodeCase {
+        model: Model::g(),
+        settings: Settings {
+            num_legs: 2,
+            leg_iterations: 2,
+            low: -0.25,
+            high: 0.5,
+            source: Source::Explicit(vec![vec![0.1, 0.2, 0.3], vec![-0.1, 0.0, 0.5]]),
+            ..Settings::plain(false, 2)
+        },
+        syndrome: vec![1, 0],
+        seed: 0,
+    }
+}
+
+/// Every refusal of settings and syndrome that the Rust shares with document 01, alone and by
+/// twos, so that the order of the tests shows; beside each the number that must come first.
+pub fn spoiled() -> Vec<(usize, DecodeCase)> {
+    let mut cases = Vec::new();
+    for (first, (code, spoil)) in SPOILED.iter().enumerate() {
+        let mut once = good();
+        spoil(&mut once);
+        cases.push((*code, once.clone()));
+        for (_, spoil_again) in &SPOILED[first + 1..] {
+            let mut twice = once.clone();
+            spoil_again(&mut twice);
+            cases.push((*code, twice));
+        }
+    }
+    cases
+}
+
+/// Other cases at the borders of the tests, refused or just not.
+fn borders() -> Vec<DecodeCase> {
+    let good = good();
+    let mut cases = vec![good.clone()];
+    let mut with = |change: &dyn Fn(&mut DecodeCase)| {
+        let mut case = good.clone();
+        change(&mut case);
+        cases.push(case);
+    };
+    for alpha in [-0.0, -1.0, f64::INFINITY, f64::NEG_INFINITY, f64::NAN] {
+        with(&|case| case.settings.alpha = alpha);
+    }
+    for gamma0 in [f64::INFINITY, f64::NEG_INFINITY] {
+        with(&|case| case.settings.gamma0 = gamma0);
+    }
+    for (low, high) in [
+        (f64::NAN, 0.0),
+        (0.0, f64::NAN),
+        (f64::NEG_INFINITY, 0.0),
+        (0.0, f64::INFINITY),
+        (-1e308, 1e308),
+        (0.5, 0.25),
+    ] {
+        with(&|case| (case.settings.low, case.settings.high) = (low, high));
+        // The interval is tested for the seeded source too.
+        with(&|case| {
+            (case.settings.low, case.settings.high) = (low, high);
+            case.settings.source = Source::Seeded;
+        });
+    }
+    // An interval of one point, in both zeros, is good.
+    with(&|case| (case.settings.low, case.settings.high) = (0.0, -0.0));
+    // Without relayed legs neither their iterations nor sets are asked for.
+    with(&|case| {
+        case.settings.num_legs = 0;
+        case.settings.leg_iterations = 0;
+        case.settings.source = Source::Explicit(vec![]);
+    });
+    // But a gamma that no leg uses must be finite all the same.
+    for (set, mechanism, gamma) in [(0, 0, f64::NAN), (0, 2, f64::INFINITY), (1, 0, f64::NAN)] {
+        with(&|case| {
+            case.settings.num_legs = 0;
+            if let Source::Explicit(sets) = &mut case.settings.source {
+                sets[set][mechanism] = gamma;
+            }
+        });
+    }
+    for syndrome in [
+        vec![],
+        vec![0, 0, 0],
+        vec![0, 255],
+        vec![2, 3],
+        vec![2, 0, 0],
+    ] {
+        with(&|case| case.syndrome = syndrome.clone());
+    }
+    cases
+}
+
+/// Alphas from the usual to those that overflow at once.
+const ALPHAS: [f64; 16] = [
+    0.3, 0.5, 0.625, 0.75, 0.9, 1.0, 1.0, 1.0, 1.0, 1.25, 2.0, 10.0, 1e3, 1e100, 1e160, 1e300,
+];
+
+fn random_case(random: &mut SplitMix64, number: usize) -> DecodeCase {
+    let most = [4, 8, 8, 12, 12, 20][number % 6];
+    let model = random_model(random, most, most * 3 / 2);
+    let mechanisms = model.mechanisms();
+    let num_legs = match random.below(4) {
+        0 => 0,
+        1 => random.between(1, 3),
+        2 => random.between(1, 8),
+        _ if random.once_in(3) => MOST_LEGS,
+        _ => random.between(1, MOST_LEGS),
+    };
+    let (low, high) = random.pick(&[
+        (-0.24, 0.66),
+        (-0.24, 0.66),
+        (-1.0, 1.0),
+        (0.0, 0.0),
+        (0.25, 0.25),
+        (-3.0, 2.0),
+        (-1e150, 1e150),
+    ]);
+    let explicit = random.once_in(3);
+    let source = if explicit {
+        let sets = random.between(1, 4);
+        Source::Explicit(random_sets(random, sets, mechanisms))
+    } else {
+        Source::Seeded
+    };
+    let settings = Settings {
+        serial: random.once_in(2),
+        alpha: random.pick(&ALPHAS),
+        gamma0: random.pick(&[0.0, 0.1, 0.1, 0.5, 0.9, -0.2, -1.0, 1e200]),
+        pre_iterations: random.between(1, 10),
+        num_legs,
+        leg_iterations: random.between(1, 8),
+        low,
+        high,
+        stop: random.between(1, 3),
+        source,
+    };
+    // Most syndromes come of some set of mechanisms, so that there is something to converge to.
+    let syndrome = if random.once_in(4) {
+        (0..model.checks).map(|_| random.below(2) as u8).collect()
+    } else {
+        let rarity = random.between(2, 8);
+        let bits: Vec<bool> = (0..mechanisms).map(|_| random.once_in(rarity)).collect();
+        model.syndrome_of(&bits)
+    };
+    DecodeCase {
+        model,
+        settings,
+        syndrome,
+        seed: random.draw(),
+    }
+}
+
+fn random_sets(random: &mut SplitMix64, sets: usize, mechanisms: usize) -> Vec<Vec<f64>> {
+    // Now and then a memory strong enough to overflow in a relayed leg only.
+    let strong = random.once_in(5);
+    (0..sets)
+        .map(|_| {
+            (0..mechanisms)
+                .map(|_| match random.below(12) {
+                    0 => 0.0,
+                    1 => -0.0,
+                    2 if strong => random.pick(&[1e200, -1e300, f64::MAX]),
+                    _ => random.unit() * 1.5 - 0.5,
+                })
+                .collect()
+        })
+        .collect()
+}

@@ -1,0 +1,49 @@
+//! The text of a case: numbers in lowercase hexadecimal, a space between.
+
+#[derive(Default)]
+pub struct Line {
+    text: String,
+}
+
+impl Line {
+    pub fn number(&mut self, value: u64) {
+        if !self.text.is_empty() {
+            self.text.push(' ');
+        }
+        self.text += &format!("{value:x}");
+    }
+
+    pub fn count(&mut self, value: usize) {
+        self.number(value as u64);
+    }
+
+    pub fn counts<'a>(&mut self, values: impl IntoIterator<Item = &'a usize>) {
+        values.into_iter().for_each(|value| self.count(*value));
+    }
+
+    pub fn bytes(&mut self, values: &[u8]) {
+        for &value in values {
+            self.number(u64::from(value));
+        }
+    }
+
+    /// The float's bits. Every NaN is written as one, since its other bits carry nothing here.
+    pub fn float(&mut self, value: f64) {
+        let bits = if value.is_nan() {
+            0x7ff8_0000_0000_0000
+        } else {
+            value.to_bits()
+        };
+        self.number(bits);
+    }
+
+    pub fn floats(&mut self, values: &[f64]) {
+        for &value in values {
+            self.float(value);
+        }
+    }
+
+    pub fn finish(self) -> String {
+        self.text
+    }
+}

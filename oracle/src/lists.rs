@@ -1,0 +1,285 @@
+//! Writes the three lists of cases with the Rust's answers.
+
+use crate::answers::{Decoded, Refusal};
+use crate::belief_cases::{self, BeliefCase};
+use crate::counted;
+use crate::counted::bp::count::{NanSign, read_nan_sign};
+use crate::decode_cases::{self, DecodeCase};
+use crate::exact::drive;
+use crate::graph_cases::{self, GraphCase};
+use crate::tally::Tally;
+use std::collections::BTreeMap;
+use std::path::PathBuf;
+
+/// The lists are committed, so all three together stay below this many bytes.
+const MOST_BYTES: usize = 1_500_000;
+
+/// The folder of the lists.
+pub fn folder() -> PathBuf {
+    PathBuf::from(env!("CARGO_MANIFEST_DIR")).join("cases")
+}
+
+/// The listed belief cases, and what was left out of them.
+pub struct Beliefs {
+    pub kept: Vec<BeliefCase>,
+    pub left_out: Vec<LeftOut>,
+}
+
+/// A case in which a NaN's sign decides: what is answered with each way to read it.
+pub struct LeftOut {
+    here: Result<Vec<f64>, Refusal>,
+    positive: Result<Vec<f64>, Refusal>,
+    negative: Result<Vec<f64>, Refusal>,
+}
+
+/// Document 01 has a NaN's sign positive in the port and leaves it open in the Rust. So a case is
+/// listed only if the answer is the same with every NaN's sign read as this processor leaves it,
+/// as positive, and as negative.
+pub fn beliefs() -> Beliefs {
+    let mut result = Beliefs {
+        kept: Vec::new(),
+        left_out: Vec::new(),
+    };
+    for case in belief_cases::candidates() {
+        let read_as = |choice| {
+            read_nan_sign(choice);
+            counted::drive::beliefs(&case)
+        };
+        let answers = LeftOut {
+            here: drive::beliefs(&case),
+            positive: read_as(NanSign::Positive),
+            negative: read_as(NanSign::Negative),
+        };
+        if same(&answers.here, &answers.positive) && same(&answers.here, &answers.negative) {
+            result.kept.push(case);
+        } else {
+            result.left_out.push(answers);
+        }
+    }
+    read_nan_sign(NanSign::AsItIs);
+    result
+}
+
+/// The same refusal, or the same beliefs bit for bit.
+fn same(one: &Result<Vec<f64>, Refusal>, other: &Result<Vec<f64>, Refusal>) -> bool {
+    match (one, other) {
+        (Ok(one), Ok(other)) => {
+            let bits = |list: &[f64]| list.iter().map(|x| x.to_bits()).collect::<Vec<_>>();
+            bits(one) == bits(other)
+        }
+        (Err(one), Err(other)) => one == other,
+        _ => false,
+    }
+}
+
+pub fn run(tally: &mut Tally) {
+    let graphs = graph_cases::cases();
+    sparse_and_dense_agree(tally, &graphs);
+    let beliefs = beliefs();
+    for LeftOut {
+        here,
+        positive,
+        negative,
+    } in &beliefs.left_out
+    {
+        println!(
+            "note beliefs: left out because a NaN's sign decides: {here:?} on this processor, {positive:?} with a positive one, {negative:?} with a negative one"
+        );
+    }
+    // One candidate is made so that it must be left out: the rule is not an empty one.
+    tally.check(
+        "beliefs: a NaN's sign can decide",
+        !beliefs.left_out.is_empty(),
+        &format!("{} left out", beliefs.left_out.len()),
+    );
+    let decodes = decode_cases::cases();
+    order_of_tests(tally);
+    features(tally, &beliefs.kept, &decodes);
+    let size = write(tally, "graphs.txt", graphs.iter().map(drive::graph_line))
+        + write(
+            tally,
+            "beliefs.txt",
+            beliefs.kept.iter().map(drive::belief_line),
+        )
+        + write(tally, "decodes.txt", decodes.iter().map(drive::decode_line));
+    tally.check(
+        "size of the lists",
+        size < MOST_BYTES,
+        &format!("{size} bytes, limit {MOST_BYTES}"),
+    );
+    codes("graphs", graphs.iter().map(|case| drive::graph(case).err()));
+    codes(
+        "beliefs",
+        beliefs.kept.iter().map(|case| drive::beliefs(case).err()),
+    );
+    codes(
+        "decodes",
+        decodes.iter().map(|case| drive::decode(case).err()),
+    );
+}
+
+/// A dense case has the incidences of the sparse case before it, and must get the same lists.
+fn sparse_and_dense_agree(tally: &mut Tally, graphs: &[GraphCase]) {
+    let pairs: Vec<_> = graphs
+        .windows(2)
+        .filter(|pair| pair[1].is_dense())
+        .collect();
+    let agree = pairs
+        .iter()
+        .filter(|pair| drive::graph(&pair[0]) == drive::graph(&pair[1]))
+        .count();
+    tally.check(
+        "graphs: sparse and dense agree",
+        agree == pairs.len() && !pairs.is_empty(),
+        &format!("{agree} of {} pairs", pairs.len()),
+    );
+}
+
+/// Where two things are wrong, the lower number of document 01 must be the Rust's answer.
+fn order_of_tests(tally: &mut Tally) {
+    let spoiled = decode_cases::spoiled();
+    let first = |(code, case): &&(usize, DecodeCase)| {
+        drive::decode(case).err().map(|refusal| refusal.code) == Some(*code)
+    };
+    let equal = spoiled.iter().filter(first).count();
+    tally.check(
+        "decodes: tests in rising number",
+        equal == spoiled.len(),
+        &format!("{equal} of {} spoiled cases", spoiled.len()),
+    );
+}
+
+/// Write one list; it fails where a list that stood there was another one.
+fn write(tally: &mut Tally, name: &str, lines: impl Iterator<Item = String>) -> usize {
+    let lines: Vec<String> = lines.collect();
+    let text = format!("{:x}\n{}\n", lines.len(), lines.join("\n"));
+    let path = folder().join(name);
+    let before = std::fs::read_to_string(&path).ok();
+    let (holds, seen) = match before {
+        None => (true, "new"),
+        Some(before) if before == text => (true, "as it stood"),
+        Some(_) => (false, "CHANGED against what stood there"),
+    };
+    if let Err(error) = std::fs::write(&path, &text) {
+        tally.check(name, false, &format!("{}: {error}", path.display()));
+    } else {
+        let seen = format!("{} cases, {} bytes, {seen}", lines.len(), text.len());
+        tally.check(name, holds, &seen);
+    }
+    text.len()
+}
+
+fn codes(name: &str, refusals: impl Iterator<Item = Option<Refusal>>) {
+    let mut counts = BTreeMap::new();
+    for refusal in refusals {
+        *counts
+            .entry(refusal.map_or(0, |refusal| refusal.code))
+            .or_insert(0) += 1;
+    }
+    let words: Vec<String> = counts
+        .iter()
+        .map(|(code, count)| format!("{code}: {count}"))
+        .collect();
+    println!(
+        "note {name}: cases by number of refusal (0: none): {}",
+        words.join(", ")
+    );
+}
+
+/// The lists must hold what the domain names; a line for each, with how many cases have it.
+fn features(tally: &mut Tally, beliefs: &[BeliefCase], decodes: &[DecodeCase]) {
+    let mut need = |name: &str, counts: Vec<usize>| {
+        let enough = counts.iter().all(|count| *count > 0);
+        tally.check(name, enough, &format!("{counts:?} cases"));
+    };
+    for serial in [false, true] {
+        let runs = |n| {
+            beliefs
+                .iter()
+                .filter(move |c| c.serial == serial && c.iterations == n)
+        };
+        let counts = (0..=20).map(|n| runs(n).count()).collect();
+        need(
+            &format!("beliefs: 0 to 20 iterations, serial {serial}"),
+            counts,
+        );
+    }
+    let decoded: Vec<_> = decodes
+        .iter()
+        .filter_map(|case| Some((case, drive::decode(case).ok()?)))
+        .collect();
+    let count = |holds: &dyn Fn(&DecodeCase, &Decoded) -> bool| {
+        decoded
+            .iter()
+            .filter(|(case, seen)| holds(case, seen))
+            .count()
+    };
+    let found = |seen: &Decoded| seen.legs.iter().filter(|leg| leg.found.is_some()).count();
+    for serial in [false, true] {
+        let name = if serial { "CheckSerial" } else { "Flooding" };
+        let count = |holds: &dyn Fn(&DecodeCase, &Decoded) -> bool| {
+            count(&|case, seen| case.settings.serial == serial && holds(case, seen))
+        };
+        need(
+            &format!("decodes, {name}: converged, and not"),
+            vec![
+                count(&|_, seen| seen.weight.is_some()),
+                count(&|_, seen| seen.weight.is_none()),
+            ],
+        );
+        need(
+            &format!("decodes, {name}: 0 to 16 relayed legs"),
+            (0..=16)
+                .map(|n| count(&|case, _| case.settings.num_legs == n))
+                .collect(),
+        );
+        need(
+            &format!("decodes, {name}: 1 to 17 legs executed"),
+            (1..=17)
+                .map(|n| count(&|_, seen| seen.legs.len() == n))
+                .collect(),
+        );
+        need(
+            &format!("decodes, {name}: 0 to 3 legs converged"),
+            (0..=3)
+                .map(|n| count(&|_, seen| found(seen) == n))
+                .collect(),
+        );
+        need(
+            &format!("decodes, {name}: stop 1 to 3"),
+            (1..=3)
+                .map(|n| count(&|case, _| case.settings.stop == n))
+                .collect(),
+        );
+        need(
+            &format!("decodes, {name}: seeded and explicit sources, with relayed legs"),
+            vec![
+                count(&|case, _| case.settings.num_legs > 0 && !case.settings.is_explicit()),
+                count(&|case, _| case.settings.num_legs > 0 && case.settings.is_explicit()),
+            ],
+        );
+        need(
+            &format!(
+                "decodes, {name}: an empty check, a check of degree one, a mechanism without detector"
+            ),
+            vec![
+                count(&|case, _| case.model.check_degrees().contains(&0)),
+                count(&|case, _| case.model.check_degrees().contains(&1)),
+                count(&|case, _| case.model.detectors.contains(&vec![])),
+            ],
+        );
+        let with = |holds: fn(f64) -> bool| {
+            count(&|case, _| case.model.probabilities.iter().any(|p| holds(*p)))
+        };
+        need(
+            &format!("decodes, {name}: probability 0, 1, 1/2, below 1e-13, above 1/2"),
+            vec![
+                with(|p| p == 0.0),
+                with(|p| p == 1.0),
+                with(|p| p == 0.5),
+                with(|p| p > 0.0 && p < 1e-13),
+                with(|p| p > 0.5 && p < 1.0),
+            ],
+        );
+    }
+}

@@ -1,0 +1,56 @@
+//! SplitMix64, the public algorithm: the source of the cases, and of document 01's seeded gammas.
+
+#[derive(Clone)]
+pub struct SplitMix64 {
+    state: u64,
+}
+
+impl SplitMix64 {
+    pub fn new(seed: u64) -> Self {
+        Self { state: seed }
+    }
+
+    pub fn draw(&mut self) -> u64 {
+        self.state = self.state.wrapping_add(0x9E37_79B9_7F4A_7C15);
+        let mut mixed = self.state;
+        mixed = (mixed ^ (mixed >> 30)).wrapping_mul(0xBF58_476D_1CE4_E5B9);
+        mixed = (mixed ^ (mixed >> 27)).wrapping_mul(0x94D0_49BB_1331_11EB);
+        mixed ^ (mixed >> 31)
+    }
+
+    /// From 0 to 1, without 1: the top 53 bits times 2^-53.
+    pub fn unit(&mut self) -> f64 {
+        (self.draw() >> 11) as f64 * (1.0 / (1u64 << 53) as f64)
+    }
+
+    /// One of `0..bound`; the small bias of the remainder does not matter for choosing cases.
+    pub fn below(&mut self, bound: usize) -> usize {
+        (self.draw() % bound as u64) as usize
+    }
+
+    /// One of `low..=high`.
+    pub fn between(&mut self, low: usize, high: usize) -> usize {
+        low + self.below(high - low + 1)
+    }
+
+    /// True once in `times`.
+    pub fn once_in(&mut self, times: usize) -> bool {
+        self.below(times) == 0
+    }
+
+    pub fn pick<T: Copy>(&mut self, from: &[T]) -> T {
+        from[self.below(from.len())]
+    }
+}
+
+/// The gamma sets of the relayed legs 1 to `legs`, as document 01 draws them.
+pub fn relay_sets(seed: u64, legs: usize, mechanisms: usize, low: f64, high: f64) -> Vec<Vec<f64>> {
+    (1..=legs as u64)
+        .map(|leg| {
+            let mut generator = SplitMix64::new(seed ^ (leg + 1));
+            (0..mechanisms)
+                .map(|_| low + (high - low) * generator.unit())
+                .collect()
+        })
+        .collect()
+}
