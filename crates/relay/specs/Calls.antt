@@ -9,7 +9,6 @@ use lib.Ieee.{Float, nan}
 use lib.ListN.{length, getD, replicate}
 use Rattle.numbers.specs.Floats.{zero⁺, isFinite}
 use Rattle.numbers.specs.Loops.{every, over}
-use Rattle.refusals.specs.declared.Refusal.{Refusal}
 use Rattle.refusals.specs.declared.Refusal.the-variants.{BadAlpha, SyndromeLength, SyndromeNotBinary, LentListLength, StateNotFinite, NonFinite}
 use Rattle.refusals.specs.declared.Answer.{Answer}
 use Rattle.refusals.specs.declared.Answer.the-variants.{Done, Refused}
@@ -17,14 +16,13 @@ use Rattle.refusals.specs.Tests.{unless, orElse, firstOf, unlessRefused}
 use Rattle.graph.specs.Graph.{Graph, varEntries}
 use Rattle.graph.specs.Model.{graphFault}
 use Rattle.relay.specs.declared.Schedule.{Schedule}
-use Rattle.relay.specs.declared.Settings.{Settings}
 use Rattle.relay.specs.declared.Decoded.{Decoded}
 use Rattle.relay.specs.declared.Decoded.the-variants as Decoded
 use Rattle.relay.specs.declared.LegRecord.{LegRecord}
 use Rattle.relay.specs.declared.LegRecord.the-variants as LegRecord
 use Rattle.relay.specs.Settings.{alphaGood, settingsFault}
 use Rattle.relay.specs.Step.{State, state, iteration}
-use Rattle.relay.specs.Order.{upto, anyOf, namesFault, exchangeFault}
+use Rattle.relay.specs.Order.{upto, namesFault, exchangeFault}
 use Rattle.relay.specs.Decode.{Shot, Run, Ended, decoded, refused, decodeLegs, correctionOf}
 
 -- 20, then 21: a byte for each check, and each 0 or 1

@@ -1,8 +1,8 @@
 -- Relay's settings: the published operating point, and refusals 10 to 19 of document 01 in their order. Definitions only. Assumes nothing.
 use Prim.Native.Nat.{ℕ, _*_}
-use mathlib.Core.Bool.{Bool, true, not, _&&_, _||_}
+use mathlib.Core.Bool.{Bool, _&&_, _||_}
 use mathlib.Core.List.{List}
-use lib.Dec.{eqb, leb, ltb}
+use lib.Dec.{eqb, leb}
 use lib.Ieee.{Float, nan, binary64, ofBits, lt, le}
 use lib.ListN.{length, getD}
 use Rattle.numbers.specs.Floats.{_-ᶠ_, zero⁺, one⁺, isFinite}
