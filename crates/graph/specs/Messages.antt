@@ -1,11 +1,15 @@
--- What min-sum and Relay do alike with messages, one to an edge: how they start, what a check's first pass knows, and the sum at a variable.
+-- What min-sum and Relay do alike with messages, one to an edge: how they start, what a check's first pass knows, the sum at a variable,
+-- and refusal 30.
 -- Definitions only. Assumes nothing.
 use Prim.Native.Nat.{ℕ}
 use mathlib.Core.Bool.{Bool, false, cond}
 use mathlib.Core.List.{List, map, foldl}
 use lib.Ieee.{Float, nan, inf}
 use lib.ListN.{length, getD, replicate}
-use Rattle.numbers.specs.Floats.{_+ᶠ_, zero⁺, zero⁻, one⁺, one⁻}
+use Rattle.numbers.specs.Floats.{_+ᶠ_, zero⁺, zero⁻, one⁺, one⁻, isFinite}
+use Rattle.refusals.specs.declared.Refusal.the-variants.{NonFinite}
+use Rattle.refusals.specs.declared.Answer.{Answer}
+use Rattle.refusals.specs.Tests.{unless, firstOf}
 use Rattle.graph.specs.Graph.{Graph}
 
 -- each message of a variable set to that variable's value
@@ -30,3 +34,11 @@ startScan odd nobody = record { totalSign = cond odd one⁻ one⁺; min1 = inf f
 -- the sum of the messages that the entries name, in their order, from -0.0
 unfoldable pub total : List Float → List ℕ → Float
 total cToV entries = foldl (λ (t : Float) (message : ℕ). t +ᶠ getD cToV message nan) zero⁻ entries
+
+-- 30 for one mechanism: its value is not finite
+unfoldable pub valueFault : List Float → ℕ → Answer
+valueFault values v = unless (isFinite (getD values v nan)) (NonFinite v)
+
+-- 30: the first mechanism whose posterior is not finite
+unfoldable pub posteriorFault : Graph → List Float → Answer
+posteriorFault g posterior = firstOf (g .mechanisms) (valueFault posterior)

@@ -3,14 +3,15 @@ use Prim.Native.Nat.{ℕ}
 use mathlib.Core.Bool.{Bool, _&&_}
 use mathlib.Core.List.{List}
 use lib.Dec.{eqb, leb}
-use lib.Ieee.{Float, nan}
-use lib.ListN.{length, getD, replicate}
-use Rattle.numbers.specs.Floats.{zero⁺, isFinite}
-use Rattle.refusals.specs.declared.Refusal.the-variants.{BadIterations, SyndromeLength, LentListLength, NonFinite}
+use lib.Ieee.{Float}
+use lib.ListN.{length, replicate}
+use Rattle.numbers.specs.Floats.{zero⁺}
+use Rattle.refusals.specs.declared.Refusal.the-variants.{BadIterations, SyndromeLength, LentListLength}
 use Rattle.refusals.specs.declared.Answer.{Answer}
 use Rattle.refusals.specs.declared.Answer.the-variants.{Done, Refused}
-use Rattle.refusals.specs.Tests.{unless, orElse, firstOf, unlessRefused}
+use Rattle.refusals.specs.Tests.{unless, orElse, unlessRefused}
 use Rattle.graph.specs.Graph.{Graph}
+use Rattle.graph.specs.Messages.{posteriorFault}
 use Rattle.graph.specs.Model.{graphFault}
 use Rattle.min_sum.specs.MinSum.{minSumBp}
 
@@ -45,14 +46,10 @@ beliefsFault edges prior g syndrome iterations l =
     (orElse (unless (leb iterations 65535) BadIterations)
     (orElse (unless (eqb (length syndrome) (g .checks)) SyndromeLength) (unless (listsFit edges g l) LentListLength)))
 
--- 30: the first mechanism whose belief is not finite
-unfoldable pub beliefsEnd : Graph → List Float → Answer
-beliefsEnd g posterior = firstOf (g .mechanisms) (λ v. unless (isFinite (getD posterior v nan)) (NonFinite v))
-
--- past the tests: the posterior, zeroed on 30, and zeroed work lists
+-- past the tests: 30 with the first mechanism whose belief is not finite, the posterior, zeroed on 30, and zeroed work lists
 unfoldable pub ran : ℕ → Graph → List Float → Outcome
 ran edges g posterior =
-    let a = beliefsEnd g posterior in
+    let a = posteriorFault g posterior in
     let zeros = replicate (g .mechanisms) zero⁺ in
     outcome a (lists (unlessRefused a posterior zeros) zeros (replicate edges zero⁺) (replicate edges zero⁺))
 

@@ -77,32 +77,50 @@ updateCheck g scale syndrome s c =
     let new = checkMessages scale (not (eqb (getD syndrome c 0) 0)) (row off c (s .vToC)) in
     messages (spliced (s .cToV) (getD off c 0) (getD off (suc c) 0) new) (s .vToC)
 
--- a variable's messages: new is (prior + total) - own, and (1 - damp) new + damp old is written
+-- what is written over an old message: new is sum - own, and (1 - damp) new + damp old is written
+unfoldable pub damped : Float → Float → Float → Float
+damped sum own old = (one⁺ -ᶠ damp) *ᶠ (sum -ᶠ own) +ᶠ damp *ᶠ old
+
+-- that, for each message that the entries name
+unfoldable pub written : Float → List Float → List Float → List ℕ → List Float
+written sum cToV vToC entries = foldl (λ (l : List Float) (m : ℕ). set l m (damped sum (getD cToV m nan) (getD l m nan))) vToC entries
+
+-- the prior and all that the checks say
+unfoldable pub rawPosterior : Graph → List Float → Messages → ℕ → Float
+rawPosterior g prior s v = getD prior v nan +ᶠ total (s .cToV) (varEntries g v)
+
+-- a variable's messages: the sum is prior + total
 unfoldable pub updateVariable : Graph → List Float → Messages → ℕ → Messages
-updateVariable g prior s v =
-    let entries = varEntries g v in
-    let sum = getD prior v nan +ᶠ total (s .cToV) entries in
-    messages
-    (s .cToV)
-    (foldl (λ (l : List Float) (m : ℕ). set l m ((one⁺ -ᶠ damp) *ᶠ (sum -ᶠ getD (s .cToV) m nan) +ᶠ damp *ᶠ getD l m nan)) (s .vToC) entries)
+updateVariable g prior s v = messages (s .cToV) (written (rawPosterior g prior s v) (s .cToV) (s .vToC) (varEntries g v))
 
 -- one check of an iteration that is not serial
 unfoldable pub parallelCheck : Graph → Float → List ℕ → Messages → ℕ → Messages
 parallelCheck g scale syndrome s c = cond (skipped g c) s (updateCheck g scale syndrome s c)
 
+-- the first n checks, in index order
+unfoldable pub checksTo : Graph → Float → List ℕ → Messages → ℕ → Messages
+checksTo g scale syndrome s n = turns n (λ c t. parallelCheck g scale syndrome t c) s
+
+-- the first n variables, in index order
+unfoldable pub variablesTo : Graph → List Float → Messages → ℕ → Messages
+variablesTo g prior s n = turns n (λ v t. updateVariable g prior t v) s
+
 -- all checks, then all variables
 unfoldable pub parallelIteration : Graph → Float → List ℕ → List Float → Messages → Messages
-parallelIteration g scale syndrome prior s =
-    turns (g .mechanisms) (λ v t. updateVariable g prior t v) (turns (g .checks) (λ c t. parallelCheck g scale syndrome t c) s)
+parallelIteration g scale syndrome prior s = variablesTo g prior (checksTo g scale syndrome s (g .checks)) (g .mechanisms)
 
 -- one check of a serial iteration, and then each variable of its entries
 unfoldable pub serialCheck : Graph → Float → List ℕ → List Float → Messages → ℕ → Messages
 serialCheck g scale syndrome prior s c =
     cond (skipped g c) s (foldl (updateVariable g prior) (updateCheck g scale syndrome s c) (checkEntries g c))
 
--- the checks in index order
+-- the first n checks so, in index order
+unfoldable pub serialTo : Graph → Float → List ℕ → List Float → Messages → ℕ → Messages
+serialTo g scale syndrome prior s n = turns n (λ c t. serialCheck g scale syndrome prior t c) s
+
+-- all checks
 unfoldable pub serialIteration : Graph → Float → List ℕ → List Float → Messages → Messages
-serialIteration g scale syndrome prior s = turns (g .checks) (λ c t. serialCheck g scale syndrome prior t c) s
+serialIteration g scale syndrome prior s = serialTo g scale syndrome prior s (g .checks)
 
 -- one iteration, serial or not
 abbrev pub iteration : Bool → Graph → Float → List ℕ → List Float → Messages → Messages
@@ -111,40 +129,67 @@ iteration false = parallelIteration
 
 -- ---- the run
 
--- the prior and all that the checks say
-unfoldable pub rawPosterior : Graph → List Float → Messages → ℕ → Float
-rawPosterior g prior s v = getD prior v nan +ᶠ total (s .cToV) (varEntries g v)
+-- an element of the running posterior: (1 - weight) old + weight current
+unfoldable pub mixed : Float → Float → Float → Float
+mixed weight old current = (one⁺ -ᶠ weight) *ᶠ old +ᶠ weight *ᶠ current
 
--- the running posterior: (1 - weight) old + weight current
+-- the first n elements of the running posterior after an iteration
+unfoldable pub averagedTo : Graph → List Float → Float → Messages → List Float → ℕ → List Float
+averagedTo g prior weight s ewa n = table n (λ v. mixed weight (getD ewa v nan) (rawPosterior g prior s v))
+
+-- the running posterior
 unfoldable pub averaged : Graph → List Float → Float → Messages → List Float → List Float
-averaged g prior weight s ewa = table (g .mechanisms) (λ v. (one⁺ -ᶠ weight) *ᶠ getD ewa v nan +ᶠ weight *ᶠ rawPosterior g prior s v)
+averaged g prior weight s ewa = averagedTo g prior weight s ewa (g .mechanisms)
+
+-- the weight of an iteration with its number within the outer round: 1 in the very first, else 0.3
+unfoldable pub weightOf : ℕ → ℕ → Float
+weightOf outer i = cond (eqb i 0 && eqb outer 0) one⁺ ewaWeight
 
 -- the messages and the running posterior
 pub record Belief : Type 0 where
   pub now : Messages
   pub ewaPosterior : List Float
 
-module _ (g : Graph) (serial : Bool) (scale : Float) (syndrome : List ℕ) (prior : List Float) where
-  -- an iteration with its number within the outer round: the weight is 1 in the very first, else 0.3
-  unfoldable pub turn : ℕ → ℕ → Belief → Belief
-  turn outer i b =
-      let s = iteration serial g scale syndrome prior (b .now) in
-      record { now = s; ewaPosterior = averaged g prior (cond (eqb i 0 && eqb outer 0) one⁺ ewaWeight) s (b .ewaPosterior) }
+abbrev pub belief : Messages → List Float → Belief
+belief s ewa = record { now = s; ewaPosterior = ewa }
 
-  -- an outer round: messages start from the running posterior, which before the first round is the priors, and check messages from 0.0
+-- the raw posterior in place of the belief, where both are above zero or both not, and its magnitude is larger
+unfoldable pub chosen : Float → Float → Float
+chosen belief raw = cond (Bool·beq (lt zero⁺ belief) (lt zero⁺ raw) && lt (abs belief) (abs raw)) raw belief
+
+-- the first n beliefs at the end
+unfoldable pub chosenTo : Graph → List Float → Belief → ℕ → List Float
+chosenTo g prior b n = table n (λ v. chosen (getD (b .ewaPosterior) v nan) (rawPosterior g prior (b .now) v))
+
+-- where an outer round starts: messages from the running posterior, which before the first round is the priors, and check messages from 0.0
+unfoldable pub startRound : Graph → List Float → Belief
+startRound g ewa = belief (messages (cleared g) (fromVariables g ewa)) ewa
+
+module _ (g : Graph) (serial : Bool) (scale : Float) (syndrome : List ℕ) (prior : List Float) where
+  -- an iteration of this weight
+  unfoldable pub turned : Float → Belief → Belief
+  turned weight b =
+      let s = iteration serial g scale syndrome prior (b .now) in
+      belief s (averaged g prior weight s (b .ewaPosterior))
+
+  -- an iteration with its number within the outer round
+  unfoldable pub turn : ℕ → ℕ → Belief → Belief
+  turn outer i b = turned (weightOf outer i) b
+
+  -- the first n iterations of an outer round
+  unfoldable pub roundTo : ℕ → Belief → ℕ → Belief
+  roundTo outer b n = turns n (turn outer) (startRound g (b .ewaPosterior))
+
+  -- an outer round
   unfoldable pub round : ℕ → ℕ → Belief → Belief
-  round inner outer b = turns inner (turn outer) (record { now = messages (cleared g) (fromVariables g (b .ewaPosterior)); ewaPosterior = b .ewaPosterior })
+  round inner outer b = roundTo outer b inner
 
   -- two outer rounds of n / 2 from 6 on, else one of n. Where there is no iteration the round still sets the messages
   unfoldable pub rounds : ℕ → Belief
   rounds n =
       let outer : ℕ = cond (leb 6 n) 2 1 in
-      turns outer (round (n / outer)) (record { now = messages (cleared g) (fromVariables g prior); ewaPosterior = prior })
-
-  -- the raw posterior in place of the belief, where both are above zero or both not, and its magnitude is larger
-  unfoldable pub chosen : Float → Float → Float
-  chosen belief raw = cond (Bool·beq (lt zero⁺ belief) (lt zero⁺ raw) && lt (abs belief) (abs raw)) raw belief
+      turns outer (round (n / outer)) (startRound g prior)
 
   -- the beliefs after n iterations
   unfoldable pub minSumBp : ℕ → List Float
-  minSumBp n = let b = rounds n in table (g .mechanisms) (λ v. chosen (getD (b .ewaPosterior) v nan) (rawPosterior g prior (b .now) v))
+  minSumBp n = chosenTo g prior (rounds n) (g .mechanisms)

@@ -4,16 +4,15 @@ use mathlib.Core.Bool.{Bool, true, false, _&&_, cond}
 use mathlib.Core.List.{List}
 use mathlib.Core.Option.{Option, none, some}
 use lib.Dec.{leb}
-use lib.Ieee.{Float, nan, lt}
-use lib.ListN.{getD, set, replicate}
-use Rattle.numbers.specs.Floats.{zero⁺, isFinite}
+use lib.Ieee.{Float, lt}
+use lib.ListN.{set, replicate}
+use Rattle.numbers.specs.Floats.{zero⁺}
 use Rattle.numbers.specs.Loops.{spliced}
 use Rattle.refusals.specs.declared.Refusal.{Refusal}
-use Rattle.refusals.specs.declared.Refusal.the-variants.{NonFinite}
 use Rattle.refusals.specs.declared.Answer.{Answer}
 use Rattle.refusals.specs.declared.Answer.the-variants.{Done, Refused}
-use Rattle.refusals.specs.Tests.{unless, firstOf}
 use Rattle.graph.specs.Graph.{Graph}
+use Rattle.graph.specs.Messages.{posteriorFault}
 use Rattle.relay.specs.declared.Settings.{Settings}
 use Rattle.relay.specs.Step.{State, iteration}
 use Rattle.relay.specs.Leg.{Leg, startLeg, runLeg, satisfied, hardDecision, correctionWeight}
@@ -121,10 +120,6 @@ pub data Ended : Type 0 where
 pub data Progress : Type 0 where
   running : Run → Progress
   finished : Ended → Progress
-
--- 30: the first mechanism whose posterior is not finite
-unfoldable pub posteriorFault : Graph → List Float → Answer
-posteriorFault g posterior = firstOf (g .mechanisms) (λ v. unless (isFinite (getD posterior v nan)) (NonFinite v))
 
 -- after a leg: refused, or ended once enough have converged, or on to the next
 abbrev pub judged : Answer → Bool → Run → Progress

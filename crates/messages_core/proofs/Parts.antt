@@ -1,0 +1,23 @@
+-- The part that offsets give to a row: it lies within the list, and its entries name what the list's do. Assumes nothing.
+use mathlib.Core.Path.{_≡_}
+use mathlib.Core.List.{List}
+use Prim.Native.Nat.{ℕ, suc, _+_, _-_, _<_, _≤_}
+use native.Mathlib.Numerals.{add-one}
+use native.Mathlib.Omega.{arith}
+use lib.ListN.{length, getD}
+use Rattle.numbers.specs.Loops.{part}
+use Rattle.numbers.proofs.Loops.{length-part, getD-part}
+use Rattle.messages_core.specs.Needs.{Offsets, Entries}
+
+-- where a row's part begins and ends, as the code reads it
+pub bounds : (rows n : ℕ) (off : List ℕ) (r a e : ℕ) → Offsets rows n off → r < rows → a ≡ getD off r 0 → e ≡ getD off (r + 1) 0 → (a ≤ e) × (e ≤ n)
+bounds rows n off r a e o h p q = let w = rw add-one at q in (omega (arith, o .rises r h), omega (arith, o .ends r h))
+
+-- each entry of a part names something
+pub part-names : (n a e : ℕ) (xs : List ℕ) → Entries n xs → e ≤ length xs → Entries n (part a e xs)
+part-names n a e xs h q = record { names = λ k l. go k l }
+  where
+    go : (k : ℕ) → k < length (part a e xs) → getD (part a e xs) k 0 < n
+    go k l =
+        let w : k < e - a = rw (length-part a e xs q) at l in
+        rw (getD-part a e xs k 0 (omega arith)) (h .names (a + k) (omega arith))

@@ -1,0 +1,58 @@
+// What min-sum and Relay do alike with messages, one to an edge. Inner functions for these two crates: they ask that entries name something and that
+// lists fit, which a graph that has passed its tests grants.
+ghost use mathlib.Core.Path.{_≡_};
+ghost use mathlib.Core.List.{map};
+ghost use Prim.Native.Nat.{_<_};
+ghost use lib.Ieee.{nan};
+ghost use lib.ListN.{length, getD, replicate};
+ghost use Rattle.numbers.specs.Floats.{zero⁺};
+ghost use Rattle.graph.specs.Messages.{total as totalOf};
+ghost use Rattle.messages_core.specs.Needs.{Entries};
+
+// An entry of a list of indices.
+pub fn at(xs: &[u32], i: usize) -> usize
+    requires { ⌜ i < length (now xs) ⌝ }
+    ensures { λ r. ⌜ r ≡ getD (now (xs .entry)) i 0 ⌝ }
+{
+    xs[i] as usize
+}
+
+// The sum of the messages that the entries name, in their order, from -0.0.
+pub fn total(entries: &[u32], c_to_v: &[f64]) -> f64
+    requires { ⌜ Entries (length (now «c_to_v»)) (now entries) ⌝ }
+    ensures { λ r. ⌜ r ≡ totalOf (now («c_to_v» .entry)) (now (entries .entry)) ⌝ }
+{
+    let mut sum: f64 = -0.0;
+    let mut i = 0;
+    while i < entries.len() {
+        let m = at(entries, i);
+        sum = sum + c_to_v[m];
+        i += 1;
+    }
+    sum
+}
+
+// `xs.fill(0.0)`.
+pub fn clear(xs: &mut [f64])
+    ensures { λ _. ⌜ now (xs .exit) ≡ replicate (length (now (xs .entry))) zero⁺ ⌝ }
+{
+    let mut i = 0;
+    while i < xs.len() {
+        xs[i] = 0.0;
+        i += 1;
+    }
+}
+
+// Each message of a variable set to that variable's value.
+pub fn from_variables(check_var: &[u32], values: &[f64], v_to_c: &mut [f64])
+    requires { ⌜ Entries (length (now values)) (now «check_var») ⌝ }
+    requires { ⌜ length (now «v_to_c») ≡ length (now «check_var») ⌝ }
+    ensures { λ _. ⌜ now («v_to_c» .exit) ≡ map (λ v. getD (now (values .entry)) v nan) (now («check_var» .entry)) ⌝ }
+{
+    let mut i = 0;
+    while i < check_var.len() {
+        let v = at(check_var, i);
+        v_to_c[i] = values[v];
+        i += 1;
+    }
+}
