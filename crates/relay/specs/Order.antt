@@ -24,9 +24,13 @@ unfoldable pub count : ℕ → List ℕ → ℕ
 count k [] = 0
 count k (x ∷ xs) = cond (eqb x k) (suc (count k xs)) (count k xs)
 
+-- the order names k once
+unfoldable pub once : List ℕ → ℕ → Bool
+once order k = eqb (count k order) 1
+
 -- 23: the order names each check once: as many names as checks, and each check once among them
 unfoldable pub namesOnce : ℕ → List ℕ → Bool
-namesOnce checks order = eqb (length order) checks && every checks (λ k. eqb (count k order) 1)
+namesOnce checks order = eqb (length order) checks && every checks (once order)
 
 -- some x of xs passes the test
 abbrev pub anyOf : (ℕ → Bool) → List ℕ → Bool
@@ -37,9 +41,13 @@ anyOf p (x ∷ xs) = p x || anyOf p xs
 unfoldable pub shares : Graph → ℕ → ℕ → Bool
 shares g c d = anyOf (has (checkEntries g d)) (checkEntries g c)
 
+-- d is higher than c and shares a mechanism with it
+unfoldable pub above : Graph → ℕ → ℕ → Bool
+above g c d = ltb c d && shares g c d
+
 -- the check c shares a mechanism with a higher one of those named before it
 unfoldable pub late : Graph → List ℕ → ℕ → Bool
-late g before c = anyOf (λ d. ltb c d && shares g c d) before
+late g before c = anyOf (above g c) before
 
 -- the first check that is late, of those that are left after the ones named before
 unfoldable pub exchanged : Graph → List ℕ → List ℕ → Answer
