@@ -12,11 +12,11 @@ use Rattle.numbers.specs.Loops.{table}
 use Rattle.graph.specs.Graph.{graph, mechanismsOf, flipped, checksOf, entries, graphOf, among}
 use Rattle.graph.specs.Lists.{passing, joined, start, offsets, same, places}
 use Rattle.graph.specs.Sound.{Offsets, Keys}
-use Rattle.graph.specs.Steps.{rowOf, Bucketed, Distinct, Valid}
+use Rattle.graph.specs.Steps.{rowOf, Bucketed, Finished, Distinct, Valid}
 use Rattle.graph.proofs.BucketPass.{is-table}
-use Rattle.graph.proofs.Buckets.{length-bucket}
 use Rattle.graph.proofs.Passing.{passing-at, passing-counts, passed, passing-same, start-zero, start-suc, length-joined, start-rises, joined-at, lies}
 use Rattle.graph.proofs.Rows.{among-yes, among-place, rows-of, map-joined}
+use Rattle.graph.proofs.Slots.{length-bucket}
 
 pub start-same : (n : ℕ) (g h : ℕ → List ℕ) → ((k : ℕ) → k < n → length (g k) ≡ length (h k)) → (k : ℕ) → k ≤ n → start g k ≡ start h k
 start-same n g h e zero l = start-zero g ∙ sym (start-zero h)
@@ -140,6 +140,12 @@ module _ (checks mechanisms : ℕ) (inc : ℕ → ℕ → Bool) where
       let vg : placeAt ≡ joined mechanisms (places (entries checks mechanisms inc)) = b .lists ∙ rw em in
       let vo : next ≡ offsets mechanisms (checksOf checks inc) = b .starts ∙ rw em graph-var-offsets in
       rw (em, eo, eg, vc, vg, vo)
+
+  -- the same, with the numbers
+  pub finished : (checkVar checkMessage checkOffset varCheck varMessage varOffset : List ℕ) → checkVar ≡ entries checks mechanisms inc → checkOffset ≡ offsets checks (mechanismsOf mechanisms inc)
+      → Finished checks mechanisms checkVar checkMessage checkOffset varCheck varMessage varOffset → graph checks mechanisms checkVar checkMessage checkOffset varCheck varMessage varOffset ≡ graphOf checks mechanisms inc
+  finished checkVar checkMessage checkOffset varCheck varMessage varOffset em eo f =
+      second-pass checkOffset checkVar checkMessage varOffset varCheck varMessage em eo (f .numbers ∙ ap (λ (x : List ℕ). table (length x) same) em) (f .pass)
 
   -- what the second pass asks of the first
   pub second-valid : (checkOffset checkVar : List ℕ) → checkVar ≡ entries checks mechanisms inc → checkOffset ≡ offsets checks (mechanismsOf mechanisms inc)

@@ -1,7 +1,7 @@
 -- The laws that stand by themselves, for the proofs of this crate and of those above it.
 pub mod Passing
 pub mod Cuts
-pub mod Buckets
+pub mod Slots
 pub mod BucketPass
 pub mod BucketTurns
 pub mod Rows

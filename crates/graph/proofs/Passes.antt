@@ -15,13 +15,13 @@ use Rattle.graph.specs.Lists.{has, joined, start, offsets, same, stands,
 use Rattle.graph.specs.Sound.{Offsets, Long, Keys, Rising, Met}
 use Rattle.graph.specs.Steps.{count, first, rowOf}
 use Rattle.graph.proofs.BucketPass.{is-table, map-at}
-use Rattle.graph.proofs.Buckets.{stands-yes, stands-true, first-suc, first-last, length-bucket}
 use Rattle.graph.proofs.Built.{offsets-at, length-offsets, offsets-cut, graph-offsets, Entry, entry, graph-keys, graph-vars, graph-var-offsets}
 use Rattle.graph.proofs.Cuts.{offsets-rise, row-of, row-is}
 use Rattle.graph.proofs.Passing.{length-rises, passed, start-suc, joined-at}
 use Rattle.graph.proofs.Rising.{few, full, all-full, parts-joined, parts-offsets}
 use Rattle.graph.proofs.Rows.{has-at, has-place, part-at}
 use Rattle.graph.proofs.Sameness.{graph-same}
+use Rattle.graph.proofs.Slots.{stands-yes, stands-true, first-suc, first-last, length-bucket}
 
 -- a part between offsets
 module _ (rows n : ℕ) (off xs : List ℕ) (o : Offsets rows n off) (many : length xs ≡ n) where

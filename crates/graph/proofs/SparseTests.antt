@@ -1,7 +1,7 @@
 -- The tests of `build_sparse` one after the other: which refuses, what they tell where none does, and the two ways out of the call. Assumes nothing.
 use mathlib.Core.Bool.{Bool, true, false, _&&_}
 use mathlib.Core.List.{List}
-use mathlib.Core.Path.{_≡_, refl}
+use mathlib.Core.Path.{_≡_, refl, ap, _∙_}
 use Prim.Native.Nat.{ℕ, suc, _≤_}
 use lib.Ieee.{Float, fits}
 use lib.ListN.{length}
@@ -12,8 +12,8 @@ use Rattle.refusals.specs.Tests.{isDone, unless, orElse, firstOf, unlessRefused
 use Rattle.refusals.specs.declared.Answer.{Answer}
 use Rattle.refusals.specs.declared.Answer.the-variants.{Done, Refused}
 use Rattle.refusals.specs.declared.Refusal.the-variants.{SizeAboveLimit, ModelListLength, BadDetectorOffsets}
-use Rattle.graph.specs.Graph.{Graph, graphOf}
-use Rattle.graph.specs.Model.{countsGood, edgesGood, sizesGood, graphFits, sparseFits, offsetsGood, mechanismFault, outcome, built, sparseFault}
+use Rattle.graph.specs.Graph.{Graph, graphOf, among}
+use Rattle.graph.specs.Model.{countsGood, edgesGood, sizesGood, graphFits, sparseFits, offsetsGood, mechanismFault, outcome, built, sparseFault, buildSparse}
 use Rattle.graph.specs.Sound.{Long}
 use Rattle.graph.specs.Steps.{Valid, fewSizes, sparseLengths, sparseTests}
 use Rattle.graph.proofs.ModelTests.{offsets-told, valid-told}
@@ -107,3 +107,19 @@ built-done a b inc old new p d e = rw (← p, d, e)
 pub built-refused : (a b : Answer) (inc : ℕ → ℕ → Bool) (old : Graph) → a ≡ b → isDone a ≡ false → outcome a old ≡ built b inc old
 unfolding built unlessRefused
 built-refused a b inc old p d = rw (← p, d)
+
+-- the two ways out of `build_sparse`
+module _ (edges : ℕ) (priors : List Float) (off dets : List ℕ) (a : Answer) (fit : Bool) (old : Graph) (f : fit ≡ graphFits edges old)
+    (p : a ≡ sparseTests (old .checks) (old .mechanisms) edges priors off dets fit) where
+  answer : a ≡ sparseFault edges priors off dets old
+  answer = p ∙ ap (λ (b : Bool). sparseTests (old .checks) (old .mechanisms) edges priors off dets b) f ∙ sparse-is edges priors off dets old
+
+  -- built
+  pub sparse-done : (new : Graph) → isDone a ≡ true → new ≡ graphOf (old .checks) (old .mechanisms) (among off dets) → outcome a new ≡ buildSparse edges priors off dets old
+  unfolding buildSparse
+  sparse-done new d e = built-done a _ (among off dets) old new answer d e
+
+  -- refused
+  pub sparse-refused : isDone a ≡ false → outcome a old ≡ buildSparse edges priors off dets old
+  unfolding buildSparse
+  sparse-refused d = built-refused a _ (among off dets) old answer d
