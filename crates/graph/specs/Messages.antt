@@ -27,6 +27,9 @@ pub record Scan : Type 0 where
   pub min2 : Float
   pub least : ℕ
 
+abbrev pub scanOf : Float → Float → Float → ℕ → Scan
+scanOf sign min1 min2 least = record { totalSign = sign; min1 = min1; min2 = min2; least = least }
+
 -- before the first message: the sign of the syndrome, infinite minima, and a least that is nobody's
 abbrev pub startScan : Bool → ℕ → Scan
 startScan odd nobody = record { totalSign = cond odd one⁻ one⁺; min1 = inf false; min2 = inf false; least = nobody }

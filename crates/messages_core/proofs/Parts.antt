@@ -7,7 +7,7 @@ use native.Mathlib.Omega.{arith}
 use lib.ListN.{length, getD}
 use Rattle.numbers.specs.Loops.{part}
 use Rattle.numbers.proofs.Loops.{length-part, getD-part}
-use Rattle.messages_core.specs.Needs.{Offsets, Entries}
+use Rattle.messages_core.specs.Needs.{Offsets, Entries, Walks}
 
 -- where a row's part begins and ends, as the code reads it
 pub bounds : (rows n : ℕ) (off : List ℕ) (r a e : ℕ) → Offsets rows n off → r < rows → a ≡ getD off r 0 → e ≡ getD off (r + 1) 0 → (a ≤ e) × (e ≤ n)
@@ -21,3 +21,7 @@ part-names n a e xs h q = record { names = λ k l. go k l }
     go k l =
         let w : k < e - a = rw (length-part a e xs q) at l in
         rw (getD-part a e xs k 0 (omega arith)) (h .names (a + k) (omega arith))
+
+-- as many names, however they are counted
+pub walks-along : (rows n m : ℕ) (entries off : List ℕ) → n ≡ m → Walks rows n entries off → Walks rows m entries off
+walks-along rows n m entries off e w = rw e at w

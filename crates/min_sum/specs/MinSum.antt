@@ -25,13 +25,17 @@ noPosition = 0xFFFF_FFFF_FFFF_FFFF
 
 -- ---- a check, over its own messages
 
--- the message at a position in the first pass: the sign flips below zero, and strict comparison keeps the first minimum
+-- the total sign after a message: it flips below zero
+unfoldable pub flippedBy : Float → Float → Float
+flippedBy sign message = cond (lt message zero⁺) (neg sign) sign
+
+-- the message at a position in the first pass: strict comparison keeps the first minimum
 unfoldable pub scanned : Scan → ℕ → Float → Scan
 scanned s position message =
     let magnitude = abs message in
     let lower = lt magnitude (s .min1) in
     record {
-      totalSign = cond (lt message zero⁺) (neg (s .totalSign)) (s .totalSign);
+      totalSign = flippedBy (s .totalSign) message;
       min1 = cond lower magnitude (s .min1);
       min2 = cond lower (s .min1) (cond (lt magnitude (s .min2)) magnitude (s .min2));
       least = cond lower position (s .least);

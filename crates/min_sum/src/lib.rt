@@ -1,1 +1,4 @@
-// Min-sum beliefs over a Tanner graph. Its definitions stand in specs/.
+// Min-sum beliefs over a Tanner graph: `min_sum_bp_into` of min_sum.rs.
+mod check;
+mod pass;
+mod variable;

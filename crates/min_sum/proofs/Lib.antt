@@ -1,0 +1,4 @@
+-- The laws that stand by themselves, for the proofs of this crate.
+pub mod Variables
+pub mod Checks
+pub mod Average

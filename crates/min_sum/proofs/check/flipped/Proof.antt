@@ -1,0 +1,17 @@
+-- `min_sum::check::flipped` meets its contract: each arm is one case of the definition. Assumes nothing.
+use mathlib.Core.Path.{refl}
+use lib.Ieee.{ofBits}
+use Rattle.min_sum.specs.MinSum.{flippedBy}
+use Rattle.min_sum.proofs.check.flipped.Statement.{statement}
+use Rattle.min_sum.proofs.check.flipped.Tie as tie
+
+returns : tie.Need-returns
+unfolding flippedBy ofBits
+returns c = rw (c .if1 .taken)
+
+returns-2 : tie.Need-returns-2
+unfolding flippedBy ofBits
+returns-2 c = rw (c .if1 .left)
+
+pub flipped-spec : {M : Type 1} → statement M
+flipped-spec = tie.close (tie.spec returns returns-2)
