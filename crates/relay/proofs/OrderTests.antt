@@ -16,7 +16,7 @@ use Rattle.numbers.proofs.Loops.{foldl-take, length-part, getD-part}
 use Rattle.refusals.specs.declared.Refusal.the-variants.{OrderExchanged}
 use Rattle.refusals.specs.declared.Answer.the-variants.{Done, Refused}
 use Rattle.graph.specs.Lists.{has}
-use Rattle.graph.specs.Sound.{Keys}
+use Rattle.messages_core.specs.Needs.{Entries}
 use Rattle.relay.specs.Order.{count, namesOnce, anyOf, shares, above, late, exchanged}
 use Rattle.relay.specs.Marks.{highest, marked, overtaken}
 use Rattle.relay.proofs.All.{All, nil, cons, all-map, all-always, all-places, all-at, all-append, not-so, any-none}
@@ -318,11 +318,11 @@ marked-turn x l es m i v h e q = rw (add-one, marked-take x l es i h, ← e, q)
 -- ---- a turn of `exchanged_check`, as the code has it
 
 -- a part's entries, from all entries
-pub part-below : (n a e : ℕ) (mech : List ℕ) → Keys n mech → a ≤ e → e ≤ length mech → Keys n (part a e mech)
-part-below n a e mech h k l = record { small = λ j m. go j (omega (arith, length-part a e mech l)) }
+pub part-below : (n a e : ℕ) (mech : List ℕ) → Entries n mech → a ≤ e → e ≤ length mech → Entries n (part a e mech)
+part-below n a e mech h k l = record { names = λ j m. go j (omega (arith, length-part a e mech l)) }
   where
     go : (j : ℕ) → a + j < e → getD (part a e mech) j 0 < n
-    go j m = rw (getD-part a e mech j 0 m) (h .small (a + j) (omega arith))
+    go j m = rw (getD-part a e mech j 0 m) (h .names (a + j) (omega arith))
 
 module _ (off mech order last : List ℕ) (i c a e next : ℕ) (h : i < length order) (q : c ≡ getD order i 0) (s : a ≡ getD off c 0) (f : e ≡ getD off (c + 1) 0) (x : next ≡ c)
     (t : Tells (λ d. row off d mech) (take i order) last) where
@@ -333,15 +333,15 @@ module _ (off mech order last : List ℕ) (i c a e next : ℕ) (h : i < length o
   part-is : part a e mech ≡ entries c
   part-is = rw (s, f, add-one)
 
-  found-late : (b : Bool) → b ≡ overtaken next last (part a e mech) → Keys 65536 (part a e mech) → b ≡ late entries (take i order) c
+  found-late : (b : Bool) → b ≡ overtaken next last (part a e mech) → Entries 65536 (part a e mech) → b ≡ late entries (take i order) c
   found-late b o m =
-      let m′ : Keys 65536 (entries c) = subst (Keys 65536) part-is m in
-      o ∙ ap (overtaken next last) part-is ∙ ap (λ y. overtaken y last (entries c)) x ∙ overtaken-is entries (take i order) last c t (all-places _ (m′ .small))
+      let m′ : Entries 65536 (entries c) = subst (Entries 65536) part-is m in
+      o ∙ ap (overtaken next last) part-is ∙ ap (λ y. overtaken y last (entries c)) x ∙ overtaken-is entries (take i order) last c t (all-places _ (m′ .names))
 
-  pub test-found : (b : Bool) → b ≡ overtaken next last (part a e mech) → Keys 65536 (part a e mech) → b ≡ true → Refused (OrderExchanged c) ≡ exchanged entries (take i order) (drop i order)
+  pub test-found : (b : Bool) → b ≡ overtaken next last (part a e mech) → Entries 65536 (part a e mech) → b ≡ true → Refused (OrderExchanged c) ≡ exchanged entries (take i order) (drop i order)
   test-found b o m y = exchange-found entries order i c h q (sym (found-late b o m) ∙ y)
 
-  pub test-goes-on : (b : Bool) → b ≡ overtaken next last (part a e mech) → Keys 65536 (part a e mech) → b ≡ false
+  pub test-goes-on : (b : Bool) → b ≡ overtaken next last (part a e mech) → Entries 65536 (part a e mech) → b ≡ false
       → exchanged entries (take (i + 1) order) (drop (i + 1) order) ≡ exchanged entries (take i order) (drop i order)
   test-goes-on b o m y = exchange-turn entries order i c h q (sym (found-late b o m) ∙ y)
 
