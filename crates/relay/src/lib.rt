@@ -1,4 +1,5 @@
 // Relay-BP over a Tanner graph: its settings and its answers. What they mean stands in specs/.
+mod config;
 mod order;
 
 use refusals::Refusal;
