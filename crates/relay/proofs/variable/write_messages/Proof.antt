@@ -1,58 +1,60 @@
+-- `relay::variable::write_messages` meets its contract. The invariant: the messages that the entries passed name are written.
+-- Assumes nothing.
+use mathlib.Core.Path.{_≡_, refl, ap, _∙_}
+use Prim.Native.Nat.{_≤_, _<_, _-_}
+use native.Mathlib.Omega.{arith}
+use lib.ListN.{length, take, length-set}
+use lib.Seq.{take-all}
+use Rattle.relay.specs.Step.{written}
+use Rattle.relay.proofs.Variables.{written-turn}
 use Rattle.relay.proofs.variable.write_messages.Statement.{statement}
 use Rattle.relay.proofs.variable.write_messages.Tie as tie
-use Rattle.relay.proofs.variable.write_messages.Reads as reads
-use Rattle.relay.proofs.variable.write_messages.Lts as lts
-use Rattle.messages_core.proofs.at.Reads as at-reads
 
 abbrev Inv-loop : tie.InvT-loop
-Inv-loop entries p c-to-v v-to-c₀ i₀ v-to-c i = ?
+Inv-loop entries p c-to-v v-to-c₀ i₀ v-to-c i = (i ≤ length entries) × (length v-to-c ≡ length v-to-c₀) × (v-to-c ≡ written p c-to-v v-to-c₀ (take i entries))
 
 abbrev μ-loop : tie.MeasureT-loop
-μ-loop entries p c-to-v v-to-c₀ i₀ v-to-c i = ?
+μ-loop entries p c-to-v v-to-c₀ i₀ v-to-c i = length entries - i
 
--- src/variable.rt:21:5
+-- the message that a turn names is one of both lists
+named : (c : tie.After-at Inv-loop μ-loop) → c .at .result < length (c .before .before .before .before .before .before .args .c-to-v .now)
+named c = omega (arith, c .at .ensures, c .before .before .before .before .before .before .pre .0 .names (c .before .before .loop .i) (c .before .loop-test .taken))
+
 loop-holds : tie.Need-loop-holds Inv-loop μ-loop
-loop-holds c = ?
+unfolding written
+loop-holds c = (omega arith, refl, refl)
 
--- src/variable.rt:22:13
 at-requires : tie.Need-at-requires Inv-loop μ-loop
-at-requires c κs = ?
+at-requires c κs = omega arith
 
--- src/variable.rt:23:25
 mul-v-to-c : tie.Need-mul-v-to-c Inv-loop μ-loop
-mul-v-to-c c = ?
+mul-v-to-c c = omega (arith, named c)
 
--- src/variable.rt:23:25
 shared-slice-read-v-to-c : tie.Need-shared-slice-read-v-to-c Inv-loop μ-loop
-shared-slice-read-v-to-c c = ?
+shared-slice-read-v-to-c c = named (c .before)
 
--- src/variable.rt:23:9
 mul-v-to-c-2 : tie.Need-mul-v-to-c-2 Inv-loop μ-loop
-mul-v-to-c-2 c = ?
+mul-v-to-c-2 c = omega (arith, named (c .before))
 
--- src/variable.rt:23:9
 slice-write-v-to-c : tie.Need-slice-write-v-to-c Inv-loop μ-loop
-slice-write-v-to-c c = ?
+slice-write-v-to-c c = omega (arith, named (c .before))
 
--- src/variable.rt:24:9
 add-i : tie.Need-add-i Inv-loop μ-loop
-add-i c = ?
+add-i c = omega arith
 
--- src/variable.rt:21:5
 loop-less : tie.Need-loop-less Inv-loop μ-loop
-loop-less c = ?
+loop-less c = omega arith
 
--- src/variable.rt:21:5
 loop-again : tie.Need-loop-again Inv-loop μ-loop
-loop-again c = ?
+loop-again c =
+    let l = c .before .before .before .loop in
+    (omega arith, simp length-set (omega arith), written-turn _ _ _ _ _ (l .i) _ (c .before .before .loop-test .taken) (c .before .at .ensures) (l .inv .2))
 
--- src/variable.rt:15:1
 same-length : tie.Need-same-length Inv-loop μ-loop
-same-length c = ?
+same-length c = omega arith
 
--- src/variable.rt:15:1
 returns : tie.Need-returns Inv-loop μ-loop
-returns c = ?
+returns c = c .before .loop .inv .2 ∙ ap (written _ _ _) (take-all _ _ (c .loop-test .left))
 
 pub write-messages-spec : {M : Type 1} → statement M
 write-messages-spec =
