@@ -25,3 +25,7 @@ part-names n a e xs h q = record { names = λ k l. go k l }
 -- as many names, however they are counted
 pub walks-along : (rows n m : ℕ) (entries off : List ℕ) → n ≡ m → Walks rows n entries off → Walks rows m entries off
 walks-along rows n m entries off e w = rw e at w
+
+-- as many rows and as many names
+pub walks-both : (rows rows′ n m : ℕ) (entries off : List ℕ) → rows ≡ rows′ → n ≡ m → Walks rows n entries off → Walks rows′ m entries off
+walks-both rows rows′ n m entries off r e w = rw (r, e) at w

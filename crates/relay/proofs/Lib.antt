@@ -8,3 +8,4 @@ pub mod SameOutcome
 pub mod OrderTests
 pub mod OrderWords
 pub mod Variables
+pub mod Passes

@@ -12,7 +12,7 @@ use Rattle.graph.specs.Messages.{fromVariables, cleared}
 use Rattle.graph.specs.Sound.{Sound}
 use Rattle.relay.specs.declared.Schedule.{Schedule}
 use Rattle.relay.specs.declared.Schedule.the-variants.{Flooding, CheckSerial}
-use Rattle.relay.specs.Step.{State, updateCheck, computeBias, checkPass, variablePass, floodingIteration, serialCheck, checkSerialIteration, iteration}
+use Rattle.relay.specs.Step.{State, updateCheck, computeBias, checkPass, variablePass, floodingIteration, serialCheck, serialPass, checkSerialIteration, iteration}
 use Rattle.relay.specs.Order.{upto, NamesOnce, exchanged, exchangeFault}
 use Rattle.relay.specs.Leg.{startLeg, runLeg, satisfied}
 use Rattle.relay.specs.Gammas.{gammaOf}
@@ -46,7 +46,7 @@ module _ (g : Graph) (sound : Sound g) (order : List ℕ) (names : NamesOnce (g 
   -- a serial iteration, in an order in which nothing is exchanged
   pub serial-same : exchanged (checkEntries g) [] order ≡ Done → (prior gamma : List Float) (s : State) → Sized g s
       → checkSerialIteration g alpha syndrome prior gamma order s ≡ checkSerialIteration g alpha syndrome prior gamma (upto (g .checks)) s
-  unfolding checkSerialIteration
+  unfolding checkSerialIteration serialPass
   serial-same e prior gamma s z =
       let bias = computeBias prior gamma (s .posterior) in
       let R = Apart (checkEntries g) in
@@ -71,7 +71,7 @@ module _ (g : Graph) (sound : Sound g) (order : List ℕ) (names : NamesOnce (g 
 
   -- so does an iteration
   keep-iteration : (schedule : Schedule) (prior gamma : List Float) (s : State) → Sized g s → Sized g (iteration schedule g alpha syndrome prior gamma order s)
-  unfolding floodingIteration checkSerialIteration checkPass
+  unfolding floodingIteration checkSerialIteration serialPass checkPass
   keep-iteration Flooding prior gamma s z =
       keep-pass (computeBias prior gamma (checkPass g alpha syndrome order s .posterior)) (checkPass g alpha syndrome order s) (g .mechanisms)
       (keeps (updateCheck g alpha syndrome) (g .checks) (Sized g) (FreeIf Any) (λ a b t. t .0) (keep-check g sound alpha syndrome [])

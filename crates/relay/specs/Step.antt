@@ -109,9 +109,13 @@ floodingIteration g alpha syndrome prior gamma order s =
 unfoldable pub serialCheck : Graph → Float → List ℕ → List Float → State → ℕ → State
 serialCheck g alpha syndrome bias s c = foldl (updateVariable g bias) (updateCheck g alpha syndrome s c) (checkEntries g c)
 
--- `check_serial_iteration`: the bias of the posterior, then the checks in the order given
+-- the checks of a serial iteration, in the order given
+unfoldable pub serialPass : Graph → Float → List ℕ → List Float → List ℕ → State → State
+serialPass g alpha syndrome bias order s = foldl (serialCheck g alpha syndrome bias) s order
+
+-- `check_serial_iteration`: the bias of the posterior, then the checks
 unfoldable pub checkSerialIteration : Graph → Float → List ℕ → List Float → List Float → List ℕ → State → State
-checkSerialIteration g alpha syndrome prior gamma order s = foldl (serialCheck g alpha syndrome (computeBias prior gamma (s .posterior))) s order
+checkSerialIteration g alpha syndrome prior gamma order s = serialPass g alpha syndrome (computeBias prior gamma (s .posterior)) order s
 
 -- one iteration of a schedule
 abbrev pub iteration : Schedule → Graph → Float → List ℕ → List Float → List Float → List ℕ → State → State

@@ -2,6 +2,7 @@
 mod check;
 mod config;
 mod order;
+mod step;
 mod variable;
 
 use refusals::Refusal;
