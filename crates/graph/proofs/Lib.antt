@@ -14,3 +14,6 @@ pub mod Passes
 pub mod QuickTests
 pub mod QuickTurns
 pub mod GraphTests
+pub mod Matrix
+pub mod MatrixTurns
+pub mod DenseTests
