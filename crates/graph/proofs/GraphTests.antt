@@ -4,7 +4,7 @@ use mathlib.Core.List.{List}
 use mathlib.Core.Path.{_≡_}
 use Prim.Native.Nat.{ℕ, _<_, _≤_}
 use lib.Dec.{eqb}
-use lib.Ieee.{Float, nan}
+use lib.Ieee.{Float, nan, fits}
 use lib.ListN.{length, getD}
 use borrow.Author.Tests.{leb-true, eqb-true}
 use Rattle.numbers.proofs.Cases.{and-both}
@@ -54,6 +54,7 @@ module _ (edges : ℕ) (priors : List Float) (g : Graph) where
     pub mechanisms-few : g .mechanisms ≤ 65536
     pub edges-few : edges ≤ 1048576
     pub priors-many : length priors ≡ g .mechanisms
+    pub fits : graphFits edges g ≡ true
     pub long : Long edges g
     pub priors-good : (m : ℕ) → m < g .mechanisms → priorGood (getD priors m nan) ≡ true
     pub is-graph : isGraph g ≡ true
@@ -72,6 +73,7 @@ module _ (edges : ℕ) (priors : List Float) (g : Graph) where
         mechanisms-few = leb-true _ _ (t .1);
         edges-few = leb-true _ _ (s .1);
         priors-many = eqb-true _ _ (l .0);
+        fits = l .1;
         long = long-told edges g (l .1);
         priors-good = λ m k. unless-done _ (BadPrior m) (first-all (priorFault priors) (g .mechanisms) (c .0) m k);
         is-graph = unless-done _ NoSuchGraph (c .1);

@@ -17,3 +17,6 @@ pub mod GraphTests
 pub mod Matrix
 pub mod MatrixTurns
 pub mod DenseTests
+pub mod Models
+pub mod Sound
+pub mod Theorems

@@ -60,16 +60,16 @@ module _ (edges : ℕ) (g : Graph) (f : Long edges g) (t : Passes edges g) where
   off-is : g .checkOffset ≡ offsets (g .checks) (mechanismsOf (g .mechanisms) (told g))
   off-is = parts-offsets (g .checks) (g .checkOffset) (g .checkVar) cut _ check-row
 
-  keys : Keys (g .mechanisms) (g .checkVar)
+  pub keys : Keys (g .mechanisms) (g .checkVar)
   keys = rw mech-is (graph-keys (g .checks) (g .mechanisms) (told g))
 
-  lengths-agree : (v : ℕ) → v < (g .mechanisms) → length (row (g .varOffset) v (g .varMessage)) ≡ length (row (g .varOffset) v (g .varCheck))
+  pub lengths-agree : (v : ℕ) → v < (g .mechanisms) → length (row (g .varOffset) v (g .varMessage)) ≡ length (row (g .varOffset) v (g .varCheck))
   lengths-agree v h =
       row-length (g .mechanisms) edges (g .varOffset) (g .varMessage) (t .var-cut) (f .var-message) v h ∙ sym (row-length (g .mechanisms) edges (g .varOffset) (g .varCheck) (t .var-cut) (f .var-check) v h)
 
   -- the messages of a variable rise, and it stands at each
-  msgs-rise : (v : ℕ) → v < (g .mechanisms) → Rising (length (g .checkVar)) (row (g .varOffset) v (g .varMessage))
-  msgs-rise v h =
+  pub messages-rise : (v : ℕ) → v < (g .mechanisms) → Rising (length (g .checkVar)) (row (g .varOffset) v (g .varMessage))
+  messages-rise v h =
       record {
         below = λ i l.
             let i′ = rw (lengths-agree v h) at l in
@@ -88,8 +88,8 @@ module _ (edges : ℕ) (g : Graph) (f : Long edges g) (t : Passes edges g) where
             );
       }
 
-  msgs-stand : (v : ℕ) → v < (g .mechanisms) → (q : ℕ) → q < length (row (g .varOffset) v (g .varMessage)) → stands (g .checkVar) v (getD (row (g .varOffset) v (g .varMessage)) q 0) ≡ true
-  msgs-stand v h q l = stands-yes (g .checkVar) v _ (t .var-meets v q h (rw (lengths-agree v h) at l) .is)
+  messages-stand : (v : ℕ) → v < (g .mechanisms) → (q : ℕ) → q < length (row (g .varOffset) v (g .varMessage)) → stands (g .checkVar) v (getD (row (g .varOffset) v (g .varMessage)) q 0) ≡ true
+  messages-stand v h q l = stands-yes (g .checkVar) v _ (t .var-meets v q h (rw (lengths-agree v h) at l) .is)
 
   degree : (v : ℕ) → v < (g .mechanisms) → getD (g .varOffset) (suc v) 0 ≤ getD (g .varOffset) v 0 + count (g .checkVar) v (length (g .checkVar))
   unfolding count
@@ -97,7 +97,7 @@ module _ (edges : ℕ) (g : Graph) (f : Long edges g) (t : Passes edges g) where
       omega (
         arith,
         row-length (g .mechanisms) edges (g .varOffset) (g .varMessage) (t .var-cut) (f .var-message) v h,
-        few (stands (g .checkVar) v) (length (g .checkVar)) (row (g .varOffset) v (g .varMessage)) (msgs-rise v h) (msgs-stand v h),
+        few (stands (g .checkVar) v) (length (g .checkVar)) (row (g .varOffset) v (g .varMessage)) (messages-rise v h) (messages-stand v h),
       )
 
   -- so no degree is less than it must be, since they sum up to the same
@@ -112,20 +112,20 @@ module _ (edges : ℕ) (g : Graph) (f : Long edges g) (t : Passes edges g) where
   starts-at : (v : ℕ) → v ≤ (g .mechanisms) → getD (g .varOffset) v 0 ≡ first (g .checkVar) v
   starts-at v h = omega (arith, above v h, under ((g .mechanisms) - v) v (omega arith))
 
-  msgs-row : (v : ℕ) → v < (g .mechanisms) → row (g .varOffset) v (g .varMessage) ≡ places (g .checkVar) v
+  pub messages-row : (v : ℕ) → v < (g .mechanisms) → row (g .varOffset) v (g .varMessage) ≡ places (g .checkVar) v
   unfolding places count
-  msgs-row v h =
-      full (stands (g .checkVar) v) (length (g .checkVar)) (row (g .varOffset) v (g .varMessage)) (msgs-rise v h) (msgs-stand v h)
+  messages-row v h =
+      full (stands (g .checkVar) v) (length (g .checkVar)) (row (g .varOffset) v (g .varMessage)) (messages-rise v h) (messages-stand v h)
       (omega (arith, row-length (g .mechanisms) edges (g .varOffset) (g .varMessage) (t .var-cut) (f .var-message) v h, starts-at v (omega arith), starts-at (suc v) h, first-suc (g .checkVar) v))
 
-  msg-cut : Offsets (g .mechanisms) (length (g .varMessage)) (g .varOffset)
-  msg-cut = rw (f .var-message) (t .var-cut)
+  message-cut : Offsets (g .mechanisms) (length (g .varMessage)) (g .varOffset)
+  message-cut = rw (f .var-message) (t .var-cut)
 
-  msgs-are : g .varMessage ≡ joined (g .mechanisms) (places (g .checkVar))
-  msgs-are = parts-joined (g .mechanisms) (g .varOffset) (g .varMessage) msg-cut _ msgs-row
+  messages-are : g .varMessage ≡ joined (g .mechanisms) (places (g .checkVar))
+  messages-are = parts-joined (g .mechanisms) (g .varOffset) (g .varMessage) message-cut _ messages-row
 
   var-offset-is : g .varOffset ≡ offsets (g .mechanisms) (places (g .checkVar))
-  var-offset-is = parts-offsets (g .mechanisms) (g .varOffset) (g .varMessage) msg-cut _ msgs-row
+  var-offset-is = parts-offsets (g .mechanisms) (g .varOffset) (g .varMessage) message-cut _ messages-row
 
   checks-are : g .varCheck ≡ map (rowOf (g .checkOffset) (g .checks)) (g .varMessage)
   checks-are = ext-getD 0 (g .varCheck) _ (f .var-check ∙ sym (f .var-message) ∙ sym (length-map (g .varMessage) (rowOf (g .checkOffset) (g .checks)))) at
@@ -163,12 +163,12 @@ module _ (edges : ℕ) (g : Graph) (f : Long edges g) (t : Passes edges g) where
       vc : g .varCheck ≡ joined (g .mechanisms) (checksOf (g .checks) (told g))
       vc =
           checks-are
-          ∙ ap (map (rowOf (g .checkOffset) (g .checks))) (msgs-are ∙ ap (λ (x : List ℕ). joined (g .mechanisms) (places x)) mech-is)
+          ∙ ap (map (rowOf (g .checkOffset) (g .checks))) (messages-are ∙ ap (λ (x : List ℕ). joined (g .mechanisms) (places x)) mech-is)
           ∙ ap (λ (x : List ℕ). map (rowOf x (g .checks)) (joined (g .mechanisms) (places (entries (g .checks) (g .mechanisms) (told g))))) off-is
           ∙ graph-vars (g .checks) (g .mechanisms) (told g)
 
       vg : g .varMessage ≡ joined (g .mechanisms) (places (entries (g .checks) (g .mechanisms) (told g)))
-      vg = msgs-are ∙ ap (λ (x : List ℕ). joined (g .mechanisms) (places x)) mech-is
+      vg = messages-are ∙ ap (λ (x : List ℕ). joined (g .mechanisms) (places x)) mech-is
 
       vo : g .varOffset ≡ offsets (g .mechanisms) (checksOf (g .checks) (told g))
       vo = var-offset-is ∙ ap (λ (x : List ℕ). offsets (g .mechanisms) (places x)) mech-is ∙ graph-var-offsets (g .checks) (g .mechanisms) (told g)

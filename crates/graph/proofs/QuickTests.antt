@@ -15,7 +15,7 @@ use Rattle.graph.specs.Model.{rising, offsetsGood, isGraph}
 use Rattle.graph.specs.QuickTest.{low, stepGood, risesBelow, ownNumber, metGood, entryGood, entriesGood, checkGood, varGood, graphTest}
 use Rattle.graph.specs.Sound.{Offsets, Long, Rising, Met}
 use Rattle.graph.proofs.ModelTests.{offsets-told}
-use Rattle.graph.proofs.Passes.{Passes, sound, graph-passes}
+use Rattle.graph.proofs.Passes.{Passes, sound, graph-long, graph-passes}
 use Rattle.graph.proofs.Sameness.{is-graph-told, is-graph-some}
 
 -- ---- the quick test
@@ -109,7 +109,11 @@ own-length : (checks mechanisms : ℕ) (inc : ℕ → ℕ → Bool) → length (
 unfolding graphOf
 own-length checks mechanisms inc = refl
 
-all-pass : (checks mechanisms edges : ℕ) (g : Graph) (inc : ℕ → ℕ → Bool) → length (g .checkVar) ≡ edges → g ≡ graphOf checks mechanisms inc → Passes edges g
+-- every graph has the lengths that fit
+pub all-long : (checks mechanisms edges : ℕ) (g : Graph) (inc : ℕ → ℕ → Bool) → length (g .checkVar) ≡ edges → g ≡ graphOf checks mechanisms inc → Long edges g
+all-long checks mechanisms edges g inc l e = rw (sym l ∙ ap (λ (h : Graph). length (h .checkVar)) e ∙ own-length checks mechanisms inc, e) (graph-long checks mechanisms inc)
+
+pub all-pass : (checks mechanisms edges : ℕ) (g : Graph) (inc : ℕ → ℕ → Bool) → length (g .checkVar) ≡ edges → g ≡ graphOf checks mechanisms inc → Passes edges g
 all-pass checks mechanisms edges g inc l e = rw (sym l ∙ ap (λ (h : Graph). length (h .checkVar)) e ∙ own-length checks mechanisms inc, e) (graph-passes checks mechanisms inc)
 
 test-true : (edges : ℕ) (g : Graph) → Passes edges g → graphTest edges g ≡ true
