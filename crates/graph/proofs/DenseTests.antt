@@ -6,7 +6,7 @@ use Prim.Native.Nat.{ℕ, _*_, _≤_}
 use native.Mathlib.Nat.{mul-le-mul}
 use native.Mathlib.Omega.{arith}
 use lib.Dec.{eqb, leb}
-use lib.Ieee.{Float, fits}
+use lib.Ieee.{Float}
 use lib.ListN.{length}
 use borrow.Author.Tests.{leb-true, eqb-true}
 use Rattle.numbers.proofs.Cases.{and-both}
@@ -92,6 +92,7 @@ dense-is priors matrix g = refl
 -- the two ways out of `build_dense`
 module _ (priors : List Float) (matrix : List ℕ) (a : Answer) (edges : ℕ) (fit : Bool) (old : Graph) (c : edges ≡ countEdges matrix) (f : fit ≡ graphFits edges old)
     (p : a ≡ denseTests (old .checks) (old .mechanisms) edges priors (length matrix) fit) where
+  -- the answer is that of the definition
   answer : a ≡ denseFault priors matrix old
   answer =
       p

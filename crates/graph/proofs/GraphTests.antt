@@ -4,7 +4,7 @@ use mathlib.Core.List.{List}
 use mathlib.Core.Path.{_≡_}
 use Prim.Native.Nat.{ℕ, _<_, _≤_}
 use lib.Dec.{eqb}
-use lib.Ieee.{Float, nan, fits}
+use lib.Ieee.{Float, nan}
 use lib.ListN.{length, getD}
 use borrow.Author.Tests.{leb-true, eqb-true}
 use Rattle.numbers.proofs.Cases.{and-both}
@@ -59,6 +59,7 @@ module _ (edges : ℕ) (priors : List Float) (g : Graph) where
     pub priors-good : (m : ℕ) → m < g .mechanisms → priorGood (getD priors m nan) ≡ true
     pub is-graph : isGraph g ≡ true
 
+  -- and that it does
   pub graph-told : graphFault edges priors g ≡ Done → GraphTold
   unfolding graphFault sizesGood countsGood edgesGood priorFault
   graph-told h =

@@ -12,7 +12,6 @@ use Rattle.graph.specs.Lists.{passing, stands, places}
 use Rattle.graph.specs.Model.{isGraph}
 use Rattle.graph.specs.Sound.{Long, Listed, Sound}
 use Rattle.graph.specs.Steps.{rowOf}
-use Rattle.graph.proofs.Built.{within}
 use Rattle.graph.proofs.Cuts.{offsets-rise, row-of, Row, row-is}
 use Rattle.graph.proofs.Passes.{Passes, keys, lengths-agree, messages-rise, messages-row}
 use Rattle.graph.proofs.Passing.{passing-at, passing-counts}
@@ -37,6 +36,7 @@ module _ (g : Graph) (f : Long (length (g .checkVar)) g) (t : Passes (length (g 
         },
       )
 
+  -- so the graph is sound
   pub quick-sound : Sound g
   quick-sound =
       record {

@@ -1,22 +1,31 @@
 -- What holds of the calls of this crate as a whole. Assumes nothing.
-use mathlib.Core.Bool.{Bool, true}
+use mathlib.Core.Bool.{Bool, true, _&&_}
 use mathlib.Core.List.{List}
-use mathlib.Core.Path.{_≡_, sym, ap, _∙_}
-use Prim.Native.Nat.{ℕ, _<_, _≤_}
+use mathlib.Core.Path.{_≡_, refl, sym, ap, _∙_}
+use Prim.Native.Nat.{ℕ, _*_, _<_, _≤_}
 use native.Mathlib.Omega.{arith}
-use lib.Ieee.{Float, nan, le, neg}
+use lib.Dec.{eqb, leb}
+use lib.Ieee.{Float, nan, le, neg, fits}
 use lib.ListN.{length, replicate, length-replicate, getD-replicate}
+use borrow.Author.Tests.{eq-eqb, le-leb}
 use Rattle.numbers.specs.Floats.{zero⁺}
 use Rattle.numbers.specs.Loops.{row}
-use Rattle.refusals.specs.Tests.{unlessRefused}
+use Rattle.refusals.proofs.Tests.{or-done}
+use Rattle.refusals.specs.Tests.{firstOf, unlessRefused}
 use Rattle.refusals.specs.declared.Answer.{Answer}
 use Rattle.refusals.specs.declared.Answer.the-variants.{Done}
 use Rattle.graph.specs.Graph.{Graph, graphOf, among, marked, told}
 use Rattle.graph.specs.Lists.{has}
-use Rattle.graph.specs.Model.{graphFits, priorGood, isGraph, Outcome, outcome, built, sparseFault, buildSparse, countEdges, denseFault, buildDense, graphFault}
+use Rattle.graph.specs.Model.{graphFits, priorGood, priorFault, isGraph, Outcome, outcome, built, sparseFault, buildSparse, countEdges, denseFault, buildDense, graphFault}
+use Rattle.graph.specs.Steps.{Valid, fewCounts}
+use Rattle.graph.proofs.Built.{sparse-length}
+use Rattle.graph.proofs.DenseTests.{dense-5, DenseTold, dense-told, dense-is, dense-done}
 use Rattle.graph.proofs.GraphTests.{graph-told}
-use Rattle.graph.proofs.Models.{GoodPriors, built-from}
+use Rattle.graph.proofs.Matrix.{matrix-edges}
+use Rattle.graph.proofs.Models.{GoodPriors, good-none, none-good, mechanisms-good, built-from, graph-checked}
+use Rattle.graph.proofs.Rising.{few}
 use Rattle.graph.proofs.Sameness.{graph-agrees, is-graph-told, is-graph-some}
+use Rattle.graph.proofs.SparseTests.{Told, sparse-told, sparse-is}
 
 -- ---- the lists that a builder wrote
 
@@ -31,11 +40,41 @@ sparse-lists : (edges : ℕ) (priors : List Float) (off dets : List ℕ) (g : Gr
 unfolding buildSparse
 sparse-lists edges priors off dets g h = built-lists (sparseFault edges priors off dets g) (among off dets) g h
 
+-- answer and all
+sparse-whole : (edges : ℕ) (priors : List Float) (off dets : List ℕ) (g : Graph) → buildSparse edges priors off dets g .answer ≡ Done
+    → buildSparse edges priors off dets g ≡ outcome Done (graphOf (g .checks) (g .mechanisms) (among off dets))
+unfolding buildSparse built unlessRefused
+sparse-whole edges priors off dets g h = rw h
+
 -- and an accepted dense model's
 dense-lists : (priors : List Float) (matrix : List ℕ) (g : Graph) → buildDense priors matrix g .answer ≡ Done
     → buildDense priors matrix g .lists ≡ graphOf (g .checks) (g .mechanisms) (marked (g .mechanisms) matrix)
 unfolding buildDense
 dense-lists priors matrix g h = built-lists (denseFault priors matrix g) (marked (g .mechanisms) matrix) g h
+
+-- what the tests tell of an accepted sparse model
+sparse-accepted : (edges : ℕ) (priors : List Float) (off dets : List ℕ) (g : Graph) → buildSparse edges priors off dets g .answer ≡ Done
+    → Told (g .checks) (g .mechanisms) edges priors off dets (graphFits edges g)
+unfolding buildSparse built
+sparse-accepted edges priors off dets g h = sparse-told (g .checks) (g .mechanisms) edges priors off dets (graphFits edges g) (sparse-is edges priors off dets g ∙ h)
+
+-- and that its priors are good
+sparse-good : (edges : ℕ) (priors : List Float) (off dets : List ℕ) (g : Graph) → buildSparse edges priors off dets g .answer ≡ Done → GoodPriors (g .mechanisms) priors
+unfolding buildSparse built sparseFault
+sparse-good edges priors off dets g h =
+    mechanisms-good (g .checks) (g .mechanisms) priors off dets (sparse-accepted edges priors off dets g h .lengths .priors-many) (or-done _ _ (or-done _ _ (or-done _ _ h .1) .1) .1)
+
+-- what they tell of an accepted dense model
+dense-accepted : (priors : List Float) (matrix : List ℕ) (g : Graph) → buildDense priors matrix g .answer ≡ Done
+    → DenseTold (g .checks) (g .mechanisms) (countEdges matrix) priors (length matrix) (graphFits (countEdges matrix) g)
+unfolding buildDense built
+dense-accepted priors matrix g h = dense-told (g .checks) (g .mechanisms) (countEdges matrix) priors (length matrix) (graphFits (countEdges matrix) g) (dense-is priors matrix g ∙ h)
+
+-- and that its priors are good
+dense-good : (priors : List Float) (matrix : List ℕ) (g : Graph) → buildDense priors matrix g .answer ≡ Done → GoodPriors (g .mechanisms) priors
+unfolding buildDense built denseFault
+dense-good priors matrix g h =
+    none-good (g .mechanisms) priors (dense-accepted priors matrix g h .priors-many) (or-done _ _ (or-done _ _ (or-done _ _ (or-done _ _ h .1) .1) .1) .1)
 
 -- ---- 1
 
@@ -46,6 +85,35 @@ pub sparse-is-dense : (edges : ℕ) (priors priors′ : List Float) (off dets ma
     → buildSparse edges priors off dets g .lists ≡ buildDense priors′ matrix g .lists
 sparse-is-dense edges priors priors′ off dets matrix g h k e =
     sparse-lists edges priors off dets g h ∙ graph-agrees (g .checks) (g .mechanisms) _ _ e ∙ sym (dense-lists priors′ matrix g k)
+
+-- the graph has as many edges as detectors, and as the matrix has nonzero bytes
+same-edges : (checks mechanisms : ℕ) (off dets matrix : List ℕ) → Valid checks mechanisms off dets → length matrix ≡ checks * mechanisms
+    → ((c m : ℕ) → c < checks → m < mechanisms → among off dets c m ≡ marked mechanisms matrix c m) → countEdges matrix ≡ length dets
+unfolding graphOf
+same-edges checks mechanisms off dets matrix v l e =
+    sym (matrix-edges checks mechanisms matrix l)
+    ∙ sym (ap (λ (g : Graph). length (g .checkVar)) (graph-agrees checks mechanisms (among off dets) (marked mechanisms matrix) e))
+    ∙ sparse-length checks mechanisms off dets v
+
+-- More than the lists: a dense model of the same counts, priors and incidences as an accepted sparse one, whose matrix has its length, is accepted too and
+-- has the same outcome.
+pub dense-is-sparse : (edges : ℕ) (priors : List Float) (off dets matrix : List ℕ) (g : Graph) → buildSparse edges priors off dets g .answer ≡ Done → length matrix ≡ g .checks * g .mechanisms
+    → ((c m : ℕ) → c < g .checks → m < g .mechanisms → among off dets c m ≡ marked (g .mechanisms) matrix c m)
+    → buildDense priors matrix g ≡ buildSparse edges priors off dets g
+dense-is-sparse edges priors off dets matrix g h l e =
+    let t = sparse-accepted edges priors off dets g h in
+    let p = sparse-good edges priors off dets g h in
+    let n : countEdges matrix ≡ edges = same-edges (g .checks) (g .mechanisms) off dets matrix (t .valid) l e ∙ t .lengths .dets-many in
+    let fits : graphFits (countEdges matrix) g ≡ true = rw n (t .lengths .fits) in
+    let lengths : (eqb (length matrix) (g .checks * g .mechanisms) && eqb (length priors) (g .mechanisms)) ≡ true =
+    rw (eq-eqb (length matrix) (g .checks * g .mechanisms) l, eq-eqb (length priors) (g .mechanisms) (p .many)) in
+    let counts : fewCounts (g .checks) (g .mechanisms) ≡ true = rw (le-leb (g .checks) 65536 (t .checks-few), le-leb (g .mechanisms) 65536 (t .mechanisms-few)) in
+    let few : leb (countEdges matrix) 1048576 ≡ true = le-leb (countEdges matrix) 1048576 (omega (arith, n, t .edges-few)) in
+    let none : Done ≡ firstOf (length priors) (priorFault priors) = sym (ap (λ (k : ℕ). firstOf k (priorFault priors)) (p .many) ∙ good-none (g .mechanisms) priors p) in
+    let tests = dense-5 (g .checks) (g .mechanisms) (countEdges matrix) priors (length matrix) (graphFits (countEdges matrix) g) Done counts lengths few fits none in
+    sym (dense-done priors matrix Done (countEdges matrix) (graphFits (countEdges matrix) g) g refl refl tests _ refl refl)
+    ∙ ap (outcome Done) (sym (graph-agrees (g .checks) (g .mechanisms) (among off dets) (marked (g .mechanisms) matrix) e))
+    ∙ sym (sparse-whole edges priors off dets g h)
 
 -- ---- 2
 
@@ -67,6 +135,23 @@ sparse-passes edges priors off dets g h = is-graph-some (g .checks) (g .mechanis
 -- Lists that `build_dense` wrote pass 7.
 pub dense-passes : (priors : List Float) (matrix : List ℕ) (g : Graph) → buildDense priors matrix g .answer ≡ Done → isGraph (buildDense priors matrix g .lists) ≡ true
 dense-passes priors matrix g h = is-graph-some (g .checks) (g .mechanisms) _ (marked (g .mechanisms) matrix) (dense-lists priors matrix g h)
+
+-- And with the model's edges and priors they pass all of `check_graph`.
+pub sparse-checked : (edges : ℕ) (priors : List Float) (off dets : List ℕ) (g : Graph) → buildSparse edges priors off dets g .answer ≡ Done
+    → graphFault edges priors (buildSparse edges priors off dets g .lists) ≡ Done
+sparse-checked edges priors off dets g h =
+    let t = sparse-accepted edges priors off dets g h in
+    rw (sparse-lists edges priors off dets g h)
+    (graph-checked (g .checks) (g .mechanisms) edges (among off dets) priors (t .checks-few) (t .mechanisms-few) (t .edges-few)
+    (sparse-length (g .checks) (g .mechanisms) off dets (t .valid) ∙ t .lengths .dets-many) (sparse-good edges priors off dets g h))
+
+-- So do those of `build_dense`, with as many edges as the matrix has nonzero bytes.
+pub dense-checked : (priors : List Float) (matrix : List ℕ) (g : Graph) → buildDense priors matrix g .answer ≡ Done → graphFault (countEdges matrix) priors (buildDense priors matrix g .lists) ≡ Done
+dense-checked priors matrix g h =
+    let t = dense-accepted priors matrix g h in
+    rw (dense-lists priors matrix g h)
+    (graph-checked (g .checks) (g .mechanisms) (countEdges matrix) (marked (g .mechanisms) matrix) priors (t .checks-few) (t .mechanisms-few) (t .edges-few)
+    (matrix-edges (g .checks) (g .mechanisms) matrix (t .bytes-many)) (dense-good priors matrix g h))
 
 -- ---- 4
 

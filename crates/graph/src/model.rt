@@ -1,4 +1,4 @@
-// Tests 1 to 6: sizes, lengths, detector offsets, and mechanism by mechanism priors and detectors.
+// Tests 1 to 6, of sparse and of dense models: sizes, lengths, detector offsets, priors and detectors.
 ghost use mathlib.Core.Path.{_≡_};
 ghost use mathlib.Core.Bool.{_&&_};
 ghost use Prim.Native.Nat.{suc, _<_, _≤_};
