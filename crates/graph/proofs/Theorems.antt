@@ -5,7 +5,7 @@ use mathlib.Core.Path.{_≡_, refl, sym, ap, _∙_}
 use Prim.Native.Nat.{ℕ, _*_, _<_, _≤_}
 use native.Mathlib.Omega.{arith}
 use lib.Dec.{eqb, leb}
-use lib.Ieee.{Float, nan, le, neg, fits}
+use lib.Ieee.{Float, nan, le, neg}
 use lib.ListN.{length, replicate, length-replicate, getD-replicate}
 use borrow.Author.Tests.{eq-eqb, le-leb}
 use Rattle.numbers.specs.Floats.{zero⁺}
@@ -23,7 +23,6 @@ use Rattle.graph.proofs.DenseTests.{dense-5, DenseTold, dense-told, den
 use Rattle.graph.proofs.GraphTests.{graph-told}
 use Rattle.graph.proofs.Matrix.{matrix-edges}
 use Rattle.graph.proofs.Models.{GoodPriors, good-none, none-good, mechanisms-good, built-from, graph-checked}
-use Rattle.graph.proofs.Rising.{few}
 use Rattle.graph.proofs.Sameness.{graph-agrees, is-graph-told, is-graph-some}
 use Rattle.graph.proofs.SparseTests.{Told, sparse-told, sparse-is}
 
@@ -76,7 +75,7 @@ unfolding buildDense built denseFault
 dense-good priors matrix g h =
     none-good (g .mechanisms) priors (dense-accepted priors matrix g h .priors-many) (or-done _ _ (or-done _ _ (or-done _ _ (or-done _ _ h .1) .1) .1) .1)
 
--- ---- 1
+-- ---- 1: sparse and dense
 
 -- Sparse and dense building give the same lists on the same incidences: where a sparse and a dense model are both accepted, and for each check and
 -- mechanism within the counts the one names the pair exactly where the other marks it, the six lists are the same, whatever the priors.
@@ -108,14 +107,14 @@ dense-is-sparse edges priors off dets matrix g h l e =
     let lengths : (eqb (length matrix) (g .checks * g .mechanisms) && eqb (length priors) (g .mechanisms)) ≡ true =
     rw (eq-eqb (length matrix) (g .checks * g .mechanisms) l, eq-eqb (length priors) (g .mechanisms) (p .many)) in
     let counts : fewCounts (g .checks) (g .mechanisms) ≡ true = rw (le-leb (g .checks) 65536 (t .checks-few), le-leb (g .mechanisms) 65536 (t .mechanisms-few)) in
-    let few : leb (countEdges matrix) 1048576 ≡ true = le-leb (countEdges matrix) 1048576 (omega (arith, n, t .edges-few)) in
+    let small : leb (countEdges matrix) 1048576 ≡ true = le-leb (countEdges matrix) 1048576 (omega (arith, n, t .edges-few)) in
     let none : Done ≡ firstOf (length priors) (priorFault priors) = sym (ap (λ (k : ℕ). firstOf k (priorFault priors)) (p .many) ∙ good-none (g .mechanisms) priors p) in
-    let tests = dense-5 (g .checks) (g .mechanisms) (countEdges matrix) priors (length matrix) (graphFits (countEdges matrix) g) Done counts lengths few fits none in
+    let tests = dense-5 (g .checks) (g .mechanisms) (countEdges matrix) priors (length matrix) (graphFits (countEdges matrix) g) Done counts lengths small fits none in
     sym (dense-done priors matrix Done (countEdges matrix) (graphFits (countEdges matrix) g) g refl refl tests _ refl refl)
     ∙ ap (outcome Done) (sym (graph-agrees (g .checks) (g .mechanisms) (among off dets) (marked (g .mechanisms) matrix) e))
     ∙ sym (sparse-whole edges priors off dets g h)
 
--- ---- 2
+-- ---- 2: the detectors' order
 
 -- The detectors' order within a mechanism changes nothing: two accepted models of the same counts, each of whose mechanisms has the same set of detectors
 -- in both, build the same lists.
@@ -126,7 +125,7 @@ unfolding among
 order-free edges edges′ priors priors′ off off′ dets dets′ g h k e =
     sparse-lists edges priors off dets g h ∙ graph-agrees (g .checks) (g .mechanisms) (among off dets) (among off′ dets′) (λ c m x y. e m c y) ∙ sym (sparse-lists edges′ priors′ off′ dets′ g k)
 
--- ---- 3
+-- ---- 3: what is built passes
 
 -- Lists that `build_sparse` wrote pass 7.
 pub sparse-passes : (edges : ℕ) (priors : List Float) (off dets : List ℕ) (g : Graph) → buildSparse edges priors off dets g .answer ≡ Done → isGraph (buildSparse edges priors off dets g .lists) ≡ true
@@ -153,7 +152,7 @@ dense-checked priors matrix g h =
     (graph-checked (g .checks) (g .mechanisms) (countEdges matrix) (marked (g .mechanisms) matrix) priors (t .checks-few) (t .mechanisms-few) (t .edges-few)
     (matrix-edges (g .checks) (g .mechanisms) matrix (t .bytes-many)) (dense-good priors matrix g h))
 
--- ---- 4
+-- ---- 4: what passes is built
 
 -- as many priors of positive zero
 abbrev pub zeroes : ℕ → List Float
@@ -182,7 +181,7 @@ checked-built edges priors g h =
     ∙ built-from g g (told g) priors (is-graph-told g (t .is-graph)) (t .checks-few) (t .mechanisms-few) (omega (arith, n, t .edges-few)) (record { many = t .priors-many; good = t .priors-good })
     (rw n (t .fits))
 
--- ---- 5
+-- ---- 5: one result
 
 -- Two results that one equation allows coincide.
 pub coincide {ℓ} : {A : Type ℓ} (x y z : A) → x ≡ z → y ≡ z → x ≡ y
