@@ -18,18 +18,22 @@ use Rattle.graph.proofs.Passing.{passing-at, passing-counts, passed, pa
 use Rattle.graph.proofs.Rows.{among-yes, among-place, rows-of, map-joined}
 use Rattle.graph.proofs.Slots.{length-bucket}
 
+-- lists of the same lengths begin at the same places
 pub start-same : (n : ℕ) (g h : ℕ → List ℕ) → ((k : ℕ) → k < n → length (g k) ≡ length (h k)) → (k : ℕ) → k ≤ n → start g k ≡ start h k
 start-same n g h e zero l = start-zero g ∙ sym (start-zero h)
 start-same n g h e (suc k) l = omega (arith, start-same n g h e k (omega arith), start-suc g k, start-suc h k, e k l)
 
+-- an offset is where a list begins
 pub offsets-at : (n i : ℕ) (f : ℕ → List ℕ) → i ≤ n → getD (offsets n f) i 0 ≡ start f i
 unfolding offsets
 offsets-at n i f h = getD-table (suc n) (start f) i 0 (omega arith)
 
+-- lists of the same lengths have the same offsets
 pub offsets-same : (n : ℕ) (g h : ℕ → List ℕ) → ((k : ℕ) → k < n → length (g k) ≡ length (h k)) → offsets n g ≡ offsets n h
 unfolding offsets
 offsets-same n g h e = is-table (suc n) (start h) _ (length-table (suc n) (start g)) (λ i l. getD-table (suc n) (start g) i 0 l ∙ start-same n g h e i (omega arith))
 
+-- how many offsets there are
 pub length-offsets : (n : ℕ) (f : ℕ → List ℕ) → length (offsets n f) ≡ suc n
 unfolding offsets
 length-offsets n f = length-table (suc n) (start f)
@@ -45,6 +49,7 @@ offsets-cut n f =
     }
 
 module _ (checks mechanisms : ℕ) (inc : ℕ → ℕ → Bool) where
+  -- a graph's check offsets cut its check entries
   pub graph-offsets : Offsets checks (length (entries checks mechanisms inc)) (offsets checks (mechanismsOf mechanisms inc))
   unfolding entries
   graph-offsets = offsets-cut checks (mechanismsOf mechanisms inc)
@@ -55,12 +60,14 @@ module _ (checks mechanisms : ℕ) (inc : ℕ → ℕ → Bool) where
     pub meets : inc c m ≡ true
     pub counts : length (passing m (inc c)) ≡ q
 
+  -- each entry of a check is one of its mechanisms
   pub entry : (c q : ℕ) → c < checks → q < length (mechanismsOf mechanisms inc c) → Entry c q (getD (entries checks mechanisms inc) (start (mechanismsOf mechanisms inc) c + q) 0)
   unfolding entries mechanismsOf
   entry c q h l =
       let s = passed (inc c) mechanisms q l in
       rw (joined-at (mechanismsOf mechanisms inc) c checks q h l) (record { below = s .below; meets = s .passes; counts = s .counts })
 
+  -- every check entry is a mechanism
   pub graph-keys : Keys mechanisms (entries checks mechanisms inc)
   unfolding entries
   graph-keys =
@@ -78,6 +85,7 @@ module _ (checks mechanisms : ℕ) (inc : ℕ → ℕ → Bool) where
       let b = offsets-at checks (suc c) (mechanismsOf mechanisms inc) h in
       (i - start (mechanismsOf mechanisms inc) c, omega (arith, a, b, start-suc (mechanismsOf mechanisms inc) c), omega (arith, a))
 
+  -- no check names a mechanism twice
   pub graph-distinct : Distinct checks (offsets checks (mechanismsOf mechanisms inc)) (entries checks mechanisms inc)
   graph-distinct =
       record {
@@ -92,6 +100,7 @@ module _ (checks mechanisms : ℕ) (inc : ℕ → ℕ → Bool) where
             omega (arith, u .2, v .2);
       }
 
+  -- a mechanism of a check stands in its part
   at-place : (c m : ℕ) → c < checks → m < mechanisms → inc c m ≡ true → among (offsets checks (mechanismsOf mechanisms inc)) (entries checks mechanisms inc) m c ≡ true
   unfolding mechanismsOf entries
   at-place c m h l t =
@@ -102,12 +111,14 @@ module _ (checks mechanisms : ℕ) (inc : ℕ → ℕ → Bool) where
       among-yes checks (offsets checks (mechanismsOf mechanisms inc)) (entries checks mechanisms inc) graph-offsets m c (start (mechanismsOf mechanisms inc) c + q) h (omega (arith, a)) (omega (arith, b, start-suc (mechanismsOf mechanisms inc) c))
       (joined-at (mechanismsOf mechanisms inc) c checks q h n ∙ passing-at (inc c) m mechanisms l t)
 
+  -- what stands in its part is a mechanism of the check
   met : (c m : ℕ) → c < checks → among (offsets checks (mechanismsOf mechanisms inc)) (entries checks mechanisms inc) m c ≡ true → inc c m ≡ true
   met c m h s =
       let w = among-place checks (offsets checks (mechanismsOf mechanisms inc)) (entries checks mechanisms inc) graph-offsets m c h s in
       let u = within c (w .0) h (w .1 .from) (w .1 .to) in
       rw (sym (w .1 .is) ∙ ap (λ (k : ℕ). getD (entries checks mechanisms inc) k 0) (u .2)) (entry c (u .0) h (u .1) .meets)
 
+  -- a graph's check lists tell its incidences
   pub graph-among : (c m : ℕ) → c < checks → m < mechanisms → among (offsets checks (mechanismsOf mechanisms inc)) (entries checks mechanisms inc) m c ≡ inc c m
   graph-among c m h l = ⊎-elim yes no (either (inc c m))
     where
@@ -124,9 +135,11 @@ module _ (checks mechanisms : ℕ) (inc : ℕ → ℕ → Bool) where
       rows-of checks (offsets checks (mechanismsOf mechanisms inc)) (entries checks mechanisms inc) graph-offsets graph-distinct m
       ∙ passing-same checks _ _ (λ c l. graph-among c m l h)
 
+  -- so the parts that the places of the mechanisms lie in are their checks
   pub graph-vars : map (rowOf (offsets checks (mechanismsOf mechanisms inc)) checks) (joined mechanisms (places (entries checks mechanisms inc))) ≡ joined mechanisms (checksOf checks inc)
   graph-vars = map-joined _ mechanisms _ _ vars-of
 
+  -- and the places of each mechanism are as many as its checks
   pub graph-var-offsets : offsets mechanisms (places (entries checks mechanisms inc)) ≡ offsets mechanisms (checksOf checks inc)
   graph-var-offsets = offsets-same mechanisms _ _ (λ m l. sym (length-map (places (entries checks mechanisms inc) m) _) ∙ ap length (vars-of m l))
 
@@ -153,20 +166,25 @@ module _ (checks mechanisms : ℕ) (inc : ℕ → ℕ → Bool) where
   second-valid checkOffset checkVar em eo = rw (em, eo) (graph-offsets, graph-keys)
 
 module _ (checks mechanisms : ℕ) (off dets : List ℕ) (v : Valid checks mechanisms off dets) where
+  -- the parts of the detectors that name a check are its mechanisms
   mechanisms-of : (c : ℕ) → map (rowOf off mechanisms) (places dets c) ≡ mechanismsOf mechanisms (among off dets) c
   unfolding mechanismsOf
   mechanisms-of c = rows-of mechanisms off dets (v .cut) (v .distinct) c
 
+  -- so are, check by check, the check entries of the model's graph
   pub sparse-entries : map (rowOf off mechanisms) (joined checks (places dets)) ≡ entries checks mechanisms (among off dets)
   unfolding entries
   sparse-entries = map-joined _ checks _ _ (λ c l. mechanisms-of c)
 
+  -- and its check offsets
   pub sparse-offsets : offsets checks (places dets) ≡ offsets checks (mechanismsOf mechanisms (among off dets))
   sparse-offsets = offsets-same checks _ _ (λ c l. sym (length-map (places dets c) _) ∙ ap length (mechanisms-of c))
 
+  -- a valid model has as many edges as detectors
   pub sparse-length : length (entries checks mechanisms (among off dets)) ≡ length dets
   sparse-length = ap length (sym sparse-entries) ∙ length-map (joined checks (places dets)) _ ∙ length-bucket checks dets (v .keys)
 
+  -- what the first pass writes are the check lists
   pub first-pass : (next rowAt placeAt : List ℕ) → Bucketed off mechanisms checks dets next rowAt placeAt
       → (rowAt ≡ entries checks mechanisms (among off dets)) × (next ≡ offsets checks (mechanismsOf mechanisms (among off dets)))
   first-pass next rowAt placeAt b = (b .owners ∙ sparse-entries, b .starts ∙ sparse-offsets)

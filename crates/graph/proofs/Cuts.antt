@@ -11,11 +11,13 @@ use Rattle.graph.specs.Sound.{Offsets}
 use Rattle.graph.specs.Steps.{rowOf}
 
 module _ (rows n : ℕ) (off : List ℕ) (o : Offsets rows n off) where
+  -- offsets rise over any distance
   pub offsets-rise : (a b : ℕ) → a ≤ b → b ≤ rows → getD off a 0 ≤ getD off b 0
   offsets-rise a zero h l = let e : a ≡ 0 = omega arith in rw e (omega arith)
   offsets-rise a (suc b) h l =
       ⊎-elim (λ e. rw e (omega arith)) (λ d. let r = offsets-rise a b (omega arith) (omega arith) in omega (arith, o .rises b l)) (equal-or-not a (suc b))
 
+  -- the part that a place lies in, among the first m
   row-of-to : (m r j : ℕ) → r < m → m ≤ rows → getD off r 0 ≤ j → j < getD off (suc r) 0 → rowOf off m j ≡ r
   unfolding rowOf
   row-of-to zero r j h l a b = absurd (omega arith)
@@ -25,15 +27,17 @@ module _ (rows n : ℕ) (off : List ℕ) (o : Offsets rows n off) where
       (λ d. rw (lt-leb (getD off m 0) j (omega (arith, offsets-rise (suc r) m d (omega arith)))) (row-of-to m r j d (omega arith) a b))
       (last-or-before r m h)
 
+  -- the part that a place lies in is the one between whose offsets it stands
   pub row-of : (r j : ℕ) → r < rows → getD off r 0 ≤ j → j < getD off (suc r) 0 → rowOf off rows j ≡ r
   row-of r j h a b = row-of-to rows r j h (omega arith) a b
 
-  -- every place lies in a part
+  -- the place j lies in the part r
   pub record Row (j r : ℕ) : Type 0 where
     pub below : r < rows
     pub from : getD off r 0 ≤ j
     pub to : j < getD off (suc r) 0
 
+  -- some part holds the place
   find : (m j : ℕ) → m ≤ rows → j < getD off m 0 → (r : ℕ) × Row j r
   find zero j h l = absurd (omega (arith, o .starts))
   find (suc m) j h l =
@@ -42,5 +46,6 @@ module _ (rows n : ℕ) (off : List ℕ) (o : Offsets rows n off) where
       (λ g. (m, record { below = omega arith; from = g; to = l }))
       (less-or-not j (getD off m 0))
 
+  -- and `rowOf` says which
   pub row-is : (j : ℕ) → j < n → Row j (rowOf off rows j)
   row-is j l = let w = find rows j (omega arith) (omega (arith, o .ends)) in rw (row-of (w .0) j (w .1 .below) (w .1 .from) (w .1 .to)) (w .1)

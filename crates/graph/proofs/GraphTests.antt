@@ -54,10 +54,12 @@ module _ (edges : ℕ) (priors : List Float) (g : Graph) where
     pub mechanisms-few : g .mechanisms ≤ 65536
     pub edges-few : edges ≤ 1048576
     pub priors-many : length priors ≡ g .mechanisms
+    pub fits : graphFits edges g ≡ true
     pub long : Long edges g
     pub priors-good : (m : ℕ) → m < g .mechanisms → priorGood (getD priors m nan) ≡ true
     pub is-graph : isGraph g ≡ true
 
+  -- and that it does
   pub graph-told : graphFault edges priors g ≡ Done → GraphTold
   unfolding graphFault sizesGood countsGood edgesGood priorFault
   graph-told h =
@@ -72,6 +74,7 @@ module _ (edges : ℕ) (priors : List Float) (g : Graph) where
         mechanisms-few = leb-true _ _ (t .1);
         edges-few = leb-true _ _ (s .1);
         priors-many = eqb-true _ _ (l .0);
+        fits = l .1;
         long = long-told edges g (l .1);
         priors-good = λ m k. unless-done _ (BadPrior m) (first-all (priorFault priors) (g .mechanisms) (c .0) m k);
         is-graph = unless-done _ NoSuchGraph (c .1);

@@ -14,3 +14,9 @@ pub mod Passes
 pub mod QuickTests
 pub mod QuickTurns
 pub mod GraphTests
+pub mod Matrix
+pub mod MatrixTurns
+pub mod DenseTests
+pub mod Models
+pub mod Sound
+pub mod Theorems

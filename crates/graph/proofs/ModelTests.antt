@@ -28,6 +28,7 @@ use Rattle.graph.proofs.Rows.{has-at, part-at}
 
 -- ---- repeats
 
+-- what is in two lists, one after the other, is in one of them
 has-append : (xs ys : List ℕ) (x : ℕ) → has (xs ++ ys) x ≡ (has xs x || has ys x)
 unfolding has
 has-append [] ys x = refl
@@ -37,15 +38,18 @@ has-append (y ∷ xs) ys x = rw (has-append xs ys x) (again (eqb y x) (has xs x)
     again true b c = refl
     again false b c = refl
 
+-- one detector more that is another
 pub repeat-turn : (ds : List ℕ) (j d e : ℕ) → j < length ds → e ≡ getD ds j 0 → has (take j ds) d ≡ false → (e ≡ d → ⊥) → has (take (j + 1) ds) d ≡ false
 unfolding has
 repeat-turn ds j d e l q h n = rw (add-one, take-suc ds j 0 l, has-append, h, ne-eqb (getD ds j 0) d (λ z. n (q ∙ z)))
 
+-- one that is the same
 pub repeat-found : (ds : List ℕ) (i j d e : ℕ) → j < i → i ≤ length ds → e ≡ getD ds j 0 → e ≡ d → has (take i ds) d ≡ true
 repeat-found ds i j d e l m q z = has-at (take i ds) j d (rw (length-take-le i ds m) l) (getD-take i ds j 0 l ∙ sym q ∙ z)
 
 -- ---- what the tests tell
 
+-- offsets that pass 3 cut the list
 pub offsets-told : (rows n : ℕ) (off : List ℕ) → length off ≡ suc rows → offsetsGood rows n off ≡ true → Offsets rows n off
 unfolding offsetsGood rising
 offsets-told rows n off l h =
@@ -58,6 +62,7 @@ offsets-told rows n off l h =
       ends = eqb-true _ _ (b .1);
     }
 
+-- a detector that passes 5 and 6 is in range and new
 pub detector-told : (checks m : ℕ) (ds : List ℕ) (i : ℕ) → detectorFault checks m ds i ≡ Done → (getD ds i 0 < checks) × (has (take i ds) (getD ds i 0) ≡ false)
 unfolding detectorFault
 detector-told checks m ds i h =
@@ -68,6 +73,7 @@ detector-told checks m ds i h =
     flip true e = absurd (false≢true e)
     flip false e = refl
 
+-- so is each of a mechanism's
 pub mech-told : (checks m : ℕ) (prior : Float) (ds : List ℕ) → mechanismTest checks m prior ds ≡ Done → (i : ℕ) → i < length ds → (getD ds i 0 < checks) × (has (take i ds) (getD ds i 0) ≡ false)
 unfolding mechanismTest
 mech-told checks m prior ds h i l = detector-told checks m ds i (first-all (detectorFault checks m ds) (length ds) (or-done _ _ h .1) i l)
@@ -93,6 +99,7 @@ module _ (checks mechanisms : ℕ) (priors : List Float) (off dets : List ℕ) (
             (sym (repeat-found (part a e dets) (i - a) (j - a) (getD (part a e dets) (i - a) 0) _ (omega arith) (rw long (omega (arith, r .to))) refl (there ∙ q ∙ sym here)) ∙ t .1),
       )
 
+  -- a model that passes 3 to 6 is valid
   pub valid-told : Valid checks mechanisms off dets
   valid-told =
       record {
@@ -103,18 +110,22 @@ module _ (checks mechanisms : ℕ) (priors : List Float) (off dets : List ℕ) (
 
 -- ---- single tests, as the code has them
 
+-- a prior of at least -30 is good where it is at most 30
 pub prior-yes : (x : Float) → le (fin true 15 (pos 1)) x ≡ true → le x (fin false 15 (pos 1)) ≡ priorGood x
 unfolding priorGood neg
 prior-yes x h = rw h
 
+-- one that is not, or is NaN, is not good
 pub prior-no : (x : Float) → le (fin true 15 (pos 1)) x ≡ false → le (fin true 15 (pos 1)) x ≡ priorGood x
 unfolding priorGood neg
 prior-no x h = rw h
 
+-- an offset that is not below the one before it
 pub rising-yes : (off : List ℕ) (r a b : ℕ) → a ≡ getD off r 0 → b ≡ getD off (r + 1) 0 → a ≤ b → rising off r ≡ true
 unfolding rising
 rising-yes off r a b p q h = let e : b ≡ getD off (suc r) 0 = rw add-one at q in le-leb (getD off r 0) (getD off (suc r) 0) (omega arith)
 
+-- one that is
 pub rising-no : (off : List ℕ) (r a b : ℕ) → a ≡ getD off r 0 → b ≡ getD off (r + 1) 0 → b < a → rising off r ≡ false
 unfolding rising
 rising-no off r a b p q h = let e : b ≡ getD off (suc r) 0 = rw add-one at q in lt-leb (getD off r 0) (getD off (suc r) 0) (omega arith)
@@ -124,22 +135,27 @@ pub detector-range : (checks m : ℕ) (ds : List ℕ) (i d : ℕ) → d ≡ getD
 unfolding detectorFault orElse unless
 detector-range checks m ds i d p h = rw (le-ltb (getD ds i 0) checks (omega arith))
 
+-- repeated
 pub detector-repeat : (checks m : ℕ) (ds : List ℕ) (i d : ℕ) → d ≡ getD ds i 0 → d < checks → has (take i ds) d ≡ true → Refused (DetectorRepeated m) ≡ detectorFault checks m ds i
 unfolding detectorFault orElse unless
 detector-repeat checks m ds i d p h t = rw (lt-ltb (getD ds i 0) checks (omega arith), rw p at t)
 
+-- neither
 pub detector-fine : (checks m : ℕ) (ds : List ℕ) (i d : ℕ) → d ≡ getD ds i 0 → d < checks → has (take i ds) d ≡ false → Done ≡ detectorFault checks m ds i
 unfolding detectorFault orElse unless
 detector-fine checks m ds i d p h t = rw (lt-ltb (getD ds i 0) checks (omega arith), rw p at t)
 
+-- a mechanism whose prior is refused
 pub mech-prior : (checks m : ℕ) (x : Float) (ds : List ℕ) → false ≡ priorGood x → Refused (BadPrior m) ≡ mechanismTest checks m x ds
 unfolding mechanismTest orElse unless
 mech-prior checks m x ds h = rw (← h)
 
+-- one whose prior is not: its detectors decide
 pub mech-rest : (checks m : ℕ) (x : Float) (ds : List ℕ) (a : Answer) → true ≡ priorGood x → a ≡ firstOf (length ds) (detectorFault checks m ds) → a ≡ mechanismTest checks m x ds
 unfolding mechanismTest orElse unless
 mech-rest checks m x ds a h e = rw (← h) e
 
+-- a mechanism of a model, its detectors cut out by the code
 pub mech-at : (checks : ℕ) (priors : List Float) (off dets : List ℕ) (m a e : ℕ) (x : Answer) → a ≡ getD off m 0 → e ≡ getD off (m + 1) 0
     → x ≡ mechanismTest checks m (getD priors m nan) (take (e - a) (drop a dets)) → x ≡ mechanismFault checks priors off dets m
 unfolding mechanismFault mechanismTest priorFault

@@ -25,9 +25,11 @@ use Rattle.graph.proofs.Slots.{stands-yes, stands-true, first-suc, firs
 
 -- a part between offsets
 module _ (rows n : ℕ) (off xs : List ℕ) (o : Offsets rows n off) (many : length xs ≡ n) where
+  -- a part's length
   pub row-length : (r : ℕ) → r < rows → length (row off r xs) ≡ getD off (suc r) 0 - getD off r 0
   row-length r h = length-part (getD off r 0) (getD off (suc r) 0) xs (omega (arith, o .ends, offsets-rise rows n off o (suc r) rows h (omega arith)))
 
+  -- a part's elements
   pub row-at : (r i : ℕ) → r < rows → i < length (row off r xs) → getD (row off r xs) i 0 ≡ getD xs (getD off r 0 + i) 0
   row-at r i h l = part-at (getD off r 0) (getD off (suc r) 0) i xs (rw (row-length r h) at l)
 
@@ -44,32 +46,38 @@ pub record Passes (edges : ℕ) (g : Graph) : Type 0 where
 -- ---- lists that pass are the graph of what they tell
 
 module _ (edges : ℕ) (g : Graph) (f : Long edges g) (t : Passes edges g) where
+  -- the check offsets cut the check entries
   cut : Offsets (g .checks) (length (g .checkVar)) (g .checkOffset)
   cut = rw (f .check-var) (t .check-cut)
 
+  -- the entries of a check are the mechanisms that they tell
   check-row : (c : ℕ) → c < (g .checks) → row (g .checkOffset) c (g .checkVar) ≡ mechanismsOf (g .mechanisms) (told g) c
   unfolding mechanismsOf told
   check-row c h =
       let xs = row (g .checkOffset) c (g .checkVar) in
       all-full (told g c) (g .mechanisms) xs (t .check-rises c h) (λ q l. has-at xs q _ l refl) (λ i l e. has-place xs i e)
 
+  -- so are all check entries
   mech-is : g .checkVar ≡ entries (g .checks) (g .mechanisms) (told g)
   unfolding entries
   mech-is = parts-joined (g .checks) (g .checkOffset) (g .checkVar) cut _ check-row
 
+  -- and the check offsets
   off-is : g .checkOffset ≡ offsets (g .checks) (mechanismsOf (g .mechanisms) (told g))
   off-is = parts-offsets (g .checks) (g .checkOffset) (g .checkVar) cut _ check-row
 
-  keys : Keys (g .mechanisms) (g .checkVar)
+  -- every check entry is a mechanism
+  pub keys : Keys (g .mechanisms) (g .checkVar)
   keys = rw mech-is (graph-keys (g .checks) (g .mechanisms) (told g))
 
-  lengths-agree : (v : ℕ) → v < (g .mechanisms) → length (row (g .varOffset) v (g .varMessage)) ≡ length (row (g .varOffset) v (g .varCheck))
+  -- a variable has as many messages as checks
+  pub lengths-agree : (v : ℕ) → v < (g .mechanisms) → length (row (g .varOffset) v (g .varMessage)) ≡ length (row (g .varOffset) v (g .varCheck))
   lengths-agree v h =
       row-length (g .mechanisms) edges (g .varOffset) (g .varMessage) (t .var-cut) (f .var-message) v h ∙ sym (row-length (g .mechanisms) edges (g .varOffset) (g .varCheck) (t .var-cut) (f .var-check) v h)
 
   -- the messages of a variable rise, and it stands at each
-  msgs-rise : (v : ℕ) → v < (g .mechanisms) → Rising (length (g .checkVar)) (row (g .varOffset) v (g .varMessage))
-  msgs-rise v h =
+  pub messages-rise : (v : ℕ) → v < (g .mechanisms) → Rising (length (g .checkVar)) (row (g .varOffset) v (g .varMessage))
+  messages-rise v h =
       record {
         below = λ i l.
             let i′ = rw (lengths-agree v h) at l in
@@ -88,16 +96,18 @@ module _ (edges : ℕ) (g : Graph) (f : Long edges g) (t : Passes edges g) where
             );
       }
 
-  msgs-stand : (v : ℕ) → v < (g .mechanisms) → (q : ℕ) → q < length (row (g .varOffset) v (g .varMessage)) → stands (g .checkVar) v (getD (row (g .varOffset) v (g .varMessage)) q 0) ≡ true
-  msgs-stand v h q l = stands-yes (g .checkVar) v _ (t .var-meets v q h (rw (lengths-agree v h) at l) .is)
+  -- the variable stands at each of its messages
+  messages-stand : (v : ℕ) → v < (g .mechanisms) → (q : ℕ) → q < length (row (g .varOffset) v (g .varMessage)) → stands (g .checkVar) v (getD (row (g .varOffset) v (g .varMessage)) q 0) ≡ true
+  messages-stand v h q l = stands-yes (g .checkVar) v _ (t .var-meets v q h (rw (lengths-agree v h) at l) .is)
 
+  -- so it has at most as many as it stands at
   degree : (v : ℕ) → v < (g .mechanisms) → getD (g .varOffset) (suc v) 0 ≤ getD (g .varOffset) v 0 + count (g .checkVar) v (length (g .checkVar))
   unfolding count
   degree v h =
       omega (
         arith,
         row-length (g .mechanisms) edges (g .varOffset) (g .varMessage) (t .var-cut) (f .var-message) v h,
-        few (stands (g .checkVar) v) (length (g .checkVar)) (row (g .varOffset) v (g .varMessage)) (msgs-rise v h) (msgs-stand v h),
+        few (stands (g .checkVar) v) (length (g .checkVar)) (row (g .varOffset) v (g .varMessage)) (messages-rise v h) (messages-stand v h),
       )
 
   -- so no degree is less than it must be, since they sum up to the same
@@ -105,28 +115,35 @@ module _ (edges : ℕ) (g : Graph) (f : Long edges g) (t : Passes edges g) where
   above zero h = omega (arith, t .var-cut .starts)
   above (suc v) h = omega (arith, above v (omega arith), degree v h, first-suc (g .checkVar) v)
 
+  -- nor more
   under : (d v : ℕ) → v + d ≡ (g .mechanisms) → first (g .checkVar) v ≤ getD (g .varOffset) v 0
   under zero v e = let w : v ≡ (g .mechanisms) = omega arith in rw w (omega (arith, t .var-cut .ends, first-last (g .mechanisms) (g .checkVar) keys, f .check-var))
   under (suc d) v e = omega (arith, under d (suc v) (omega arith), degree v (omega arith), first-suc (g .checkVar) v)
 
+  -- so its part begins where its places do
   starts-at : (v : ℕ) → v ≤ (g .mechanisms) → getD (g .varOffset) v 0 ≡ first (g .checkVar) v
   starts-at v h = omega (arith, above v h, under ((g .mechanisms) - v) v (omega arith))
 
-  msgs-row : (v : ℕ) → v < (g .mechanisms) → row (g .varOffset) v (g .varMessage) ≡ places (g .checkVar) v
+  -- and its messages are its places
+  pub messages-row : (v : ℕ) → v < (g .mechanisms) → row (g .varOffset) v (g .varMessage) ≡ places (g .checkVar) v
   unfolding places count
-  msgs-row v h =
-      full (stands (g .checkVar) v) (length (g .checkVar)) (row (g .varOffset) v (g .varMessage)) (msgs-rise v h) (msgs-stand v h)
+  messages-row v h =
+      full (stands (g .checkVar) v) (length (g .checkVar)) (row (g .varOffset) v (g .varMessage)) (messages-rise v h) (messages-stand v h)
       (omega (arith, row-length (g .mechanisms) edges (g .varOffset) (g .varMessage) (t .var-cut) (f .var-message) v h, starts-at v (omega arith), starts-at (suc v) h, first-suc (g .checkVar) v))
 
-  msg-cut : Offsets (g .mechanisms) (length (g .varMessage)) (g .varOffset)
-  msg-cut = rw (f .var-message) (t .var-cut)
+  -- the variable offsets cut the messages
+  message-cut : Offsets (g .mechanisms) (length (g .varMessage)) (g .varOffset)
+  message-cut = rw (f .var-message) (t .var-cut)
 
-  msgs-are : g .varMessage ≡ joined (g .mechanisms) (places (g .checkVar))
-  msgs-are = parts-joined (g .mechanisms) (g .varOffset) (g .varMessage) msg-cut _ msgs-row
+  -- so are all messages
+  messages-are : g .varMessage ≡ joined (g .mechanisms) (places (g .checkVar))
+  messages-are = parts-joined (g .mechanisms) (g .varOffset) (g .varMessage) message-cut _ messages-row
 
+  -- and the variable offsets
   var-offset-is : g .varOffset ≡ offsets (g .mechanisms) (places (g .checkVar))
-  var-offset-is = parts-offsets (g .mechanisms) (g .varOffset) (g .varMessage) msg-cut _ msgs-row
+  var-offset-is = parts-offsets (g .mechanisms) (g .varOffset) (g .varMessage) message-cut _ messages-row
 
+  -- the check of each variable entry is the one that its message lies in
   checks-are : g .varCheck ≡ map (rowOf (g .checkOffset) (g .checks)) (g .varMessage)
   checks-are = ext-getD 0 (g .varCheck) _ (f .var-check ∙ sym (f .var-message) ∙ sym (length-map (g .varMessage) (rowOf (g .checkOffset) (g .checks)))) at
     where
@@ -147,6 +164,7 @@ module _ (edges : ℕ) (g : Graph) (f : Long edges g) (t : Passes edges g) where
           ∙ ap (rowOf (g .checkOffset) (g .checks)) b
           ∙ sym (map-at (rowOf (g .checkOffset) (g .checks)) (g .varMessage) i (omega (arith, f .var-check, f .var-message)))
 
+  -- so the lists are the graph of what they tell
   pub sound : g ≡ graphOf (g .checks) (g .mechanisms) (told g)
   unfolding graphOf same
   sound = graph-same _ _ _ _ _ _ _ _ _ _ _ _ _ _ mech-is msg off-is vc vg vo
@@ -163,12 +181,12 @@ module _ (edges : ℕ) (g : Graph) (f : Long edges g) (t : Passes edges g) where
       vc : g .varCheck ≡ joined (g .mechanisms) (checksOf (g .checks) (told g))
       vc =
           checks-are
-          ∙ ap (map (rowOf (g .checkOffset) (g .checks))) (msgs-are ∙ ap (λ (x : List ℕ). joined (g .mechanisms) (places x)) mech-is)
+          ∙ ap (map (rowOf (g .checkOffset) (g .checks))) (messages-are ∙ ap (λ (x : List ℕ). joined (g .mechanisms) (places x)) mech-is)
           ∙ ap (λ (x : List ℕ). map (rowOf x (g .checks)) (joined (g .mechanisms) (places (entries (g .checks) (g .mechanisms) (told g))))) off-is
           ∙ graph-vars (g .checks) (g .mechanisms) (told g)
 
       vg : g .varMessage ≡ joined (g .mechanisms) (places (entries (g .checks) (g .mechanisms) (told g)))
-      vg = msgs-are ∙ ap (λ (x : List ℕ). joined (g .mechanisms) (places x)) mech-is
+      vg = messages-are ∙ ap (λ (x : List ℕ). joined (g .mechanisms) (places x)) mech-is
 
       vo : g .varOffset ≡ offsets (g .mechanisms) (checksOf (g .checks) (told g))
       vo = var-offset-is ∙ ap (λ (x : List ℕ). offsets (g .mechanisms) (places x)) mech-is ∙ graph-var-offsets (g .checks) (g .mechanisms) (told g)
@@ -177,6 +195,7 @@ module _ (edges : ℕ) (g : Graph) (f : Long edges g) (t : Passes edges g) where
 
 -- the parts of joined rising lists
 module _ (checks mechanisms : ℕ) (inc : ℕ → ℕ → Bool) where
+  -- the mechanisms of a check rise
   pub parts-rise : (c : ℕ) → c < checks → Rising mechanisms (row (offsets checks (mechanismsOf mechanisms inc)) c (entries checks mechanisms inc))
   parts-rise c h = record { below = λ i l. has i l .below; rises = λ i j l m. higher i j l m }
     where
@@ -198,15 +217,18 @@ module _ (checks mechanisms : ℕ) (inc : ℕ → ℕ → Bool) where
           let y = has j m in
           ⊎-elim (λ k. k) (λ k. absurd (omega (arith, length-rises (inc c) _ _ k, x .counts, y .counts))) (less-or-not _ _)
 
+  -- there are as many check entries as variable entries
   pub graph-length : length (entries checks mechanisms inc) ≡ length (joined mechanisms (checksOf checks inc))
   graph-length =
       sym (length-bucket mechanisms (entries checks mechanisms inc) (graph-keys checks mechanisms inc))
       ∙ sym (length-map (joined mechanisms (places (entries checks mechanisms inc))) (rowOf (offsets checks (mechanismsOf mechanisms inc)) checks))
       ∙ ap length (graph-vars checks mechanisms inc)
 
+  -- a graph's variable offsets cut its variable entries
   pub graph-var-cut : Offsets mechanisms (length (entries checks mechanisms inc)) (offsets mechanisms (checksOf checks inc))
   graph-var-cut = rw graph-length (offsets-cut mechanisms (checksOf checks inc))
 
+  -- a graph's lists have the lengths of its edges
   pub graph-long : Long (length (entries checks mechanisms inc)) (graphOf checks mechanisms inc)
   unfolding graphOf
   graph-long =
@@ -220,10 +242,12 @@ module _ (checks mechanisms : ℕ) (inc : ℕ → ℕ → Bool) where
       }
 
 module _ (checks mechanisms : ℕ) (inc : ℕ → ℕ → Bool) where
+  -- the checks of a mechanism rise
   pub var-parts-rise : (v : ℕ) → v < mechanisms → Rising checks (row (offsets mechanisms (checksOf checks inc)) v (joined mechanisms (checksOf checks inc)))
   unfolding entries mechanismsOf checksOf
   var-parts-rise v h = parts-rise mechanisms checks (flipped inc) v h
 
+  -- each holds its message, where the mechanism stands
   pub var-parts-meet : (v i : ℕ) → v < mechanisms → i < length (row (offsets mechanisms (checksOf checks inc)) v (joined mechanisms (checksOf checks inc)))
       → Met (offsets checks (mechanismsOf mechanisms inc)) (entries checks mechanisms inc) v (getD (row (offsets mechanisms (checksOf checks inc)) v (joined mechanisms (checksOf checks inc))) i 0)
       (getD (row (offsets mechanisms (checksOf checks inc)) v (joined mechanisms (places (entries checks mechanisms inc)))) i 0)
@@ -254,6 +278,7 @@ module _ (checks mechanisms : ℕ) (inc : ℕ → ℕ → Bool) where
       let q : getD (row vo v vc) i 0 ≡ rowOf co checks (getD (places cm v) i 0) = a ∙ e ∙ ap (rowOf co checks) m in
       rw (p, q) (record { from = r .from; to = r .to; is = stands-true cm v _ (w .passes) })
 
+  -- so every graph passes
   pub graph-passes : Passes (length (entries checks mechanisms inc)) (graphOf checks mechanisms inc)
   unfolding graphOf same
   graph-passes =

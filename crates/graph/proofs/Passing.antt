@@ -12,31 +12,39 @@ use Rattle.numbers.proofs.Cases.{either, less-or-not, equal-or-not, last-or-bef
 use Rattle.graph.specs.Lists.{passing, joined, start}
 
 module _ (p : ℕ → Bool) where
+  -- none below 0
   pub passing-none : passing 0 p ≡ []
   unfolding passing
   passing-none = refl
 
+  -- one more that passes
   pub passing-yes : (n : ℕ) → p n ≡ true → passing (suc n) p ≡ passing n p ++ (n ∷ [])
   unfolding passing
   passing-yes n h = rw h
 
+  -- one more that does not
   pub passing-no : (n : ℕ) → p n ≡ false → passing (suc n) p ≡ passing n p
   unfolding passing
   passing-no n h = rw h (append-nil _)
 
+  -- one more in number
   pub length-yes : (n : ℕ) → p n ≡ true → length (passing (suc n) p) ≡ suc (length (passing n p))
   length-yes n h = rw (passing-yes n h, length-append) (omega arith)
 
+  -- none more in number
   pub length-no : (n : ℕ) → p n ≡ false → length (passing (suc n) p) ≡ length (passing n p)
   length-no n h = rw (passing-no n h)
 
+  -- never fewer
   pub length-grows : (n : ℕ) → length (passing n p) ≤ length (passing (suc n) p)
   length-grows n = ⊎-elim (λ e. omega (arith, length-yes n e)) (λ e. omega (arith, length-no n e)) (either (p n))
 
+  -- at most n of those below n
   pub length-below : (n : ℕ) → length (passing n p) ≤ n
   length-below zero = rw (passing-none) (omega arith)
   length-below (suc n) = let h = length-below n in ⊎-elim (λ e. omega (arith, length-yes n e)) (λ e. omega (arith, length-no n e)) (either (p n))
 
+  -- nor over any distance
   pub length-rises : (i n : ℕ) → i ≤ n → length (passing i p) ≤ length (passing n p)
   length-rises i zero h = let e : i ≡ 0 = omega arith in rw e (omega arith)
   length-rises i (suc n) h =
@@ -56,6 +64,7 @@ module _ (p : ℕ → Bool) where
       (either (p n)))
       (last-or-before i n h)
 
+  -- there are more than before it
   pub passing-counts : (i n : ℕ) → i < n → p i ≡ true → length (passing i p) < length (passing n p)
   passing-counts i n h t = omega (arith, length-yes i t, length-rises (suc i) n h)
 
@@ -65,9 +74,11 @@ module _ (p : ℕ → Bool) where
     pub passes : p i ≡ true
     pub counts : length (passing i p) ≡ q
 
+  -- what is so below n is so below n + 1
   weaker : (n q i : ℕ) → Passed n q i → Passed (suc n) q i
   weaker n q i s = record { below = omega (arith, s .below); passes = s .passes; counts = s .counts }
 
+  -- what stands at q passes, and q of those before it do
   pub passed : (n q : ℕ) → q < length (passing n p) → Passed n q (getD (passing n p) q 0)
   unfolding passing
   passed zero q h = absurd (not-suc-le-zero h)
@@ -88,18 +99,22 @@ passing-same zero p q h = refl
 passing-same (suc n) p q h = rw (passing-same n p q (λ i l. h i (omega arith)), h n (omega arith))
 
 module _ (f : ℕ → List ℕ) where
+  -- the first list begins at 0
   pub start-zero : start f 0 ≡ 0
   unfolding start joined
   start-zero = refl
 
+  -- the next begins where this one ends
   pub start-suc : (k : ℕ) → start f (suc k) ≡ start f k + length (f k)
   unfolding start joined
   start-suc k = length-append (joined k f) (f k)
 
+  -- joined lists end where the next would begin
   pub length-joined : (k : ℕ) → length (joined k f) ≡ start f k
   unfolding start
   length-joined k = refl
 
+  -- beginnings rise
   pub start-rises : (k n : ℕ) → k ≤ n → start f k ≤ start f n
   start-rises k zero h = let e : k ≡ 0 = omega arith in rw e (omega arith)
   start-rises k (suc n) h =
@@ -125,6 +140,7 @@ module _ (f : ℕ → List ℕ) where
     pub within : place < length (f list)
     pub is : x ≡ start f list + place
 
+  -- every place lies in a list
   pub lies : (n x : ℕ) → x < start f n → Lies n x
   lies zero x h = absurd (omega (arith, start-zero))
   lies (suc n) x h =

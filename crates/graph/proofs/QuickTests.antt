@@ -15,15 +15,17 @@ use Rattle.graph.specs.Model.{rising, offsetsGood, isGraph}
 use Rattle.graph.specs.QuickTest.{low, stepGood, risesBelow, ownNumber, metGood, entryGood, entriesGood, checkGood, varGood, graphTest}
 use Rattle.graph.specs.Sound.{Offsets, Long, Rising, Met}
 use Rattle.graph.proofs.ModelTests.{offsets-told}
-use Rattle.graph.proofs.Passes.{Passes, sound, graph-passes}
+use Rattle.graph.proofs.Passes.{Passes, sound, graph-long, graph-passes}
 use Rattle.graph.proofs.Sameness.{is-graph-told, is-graph-some}
 
 -- ---- the quick test
 
+-- a step that passes rises and stays below n
 step-told : (n : ℕ) (xs : List ℕ) (i : ℕ) → stepGood n xs i ≡ true → (low xs i ≤ getD xs i 0) × (getD xs i 0 < n)
 unfolding stepGood
 step-told n xs i h = let w = and-both _ _ h in (leb-true _ _ (w .0), ltb-true _ _ (w .1))
 
+-- a list that passes rises
 pub rises-told : (n : ℕ) (xs : List ℕ) → risesBelow n xs ≡ true → Rising n xs
 unfolding risesBelow low
 rises-told n xs h =
@@ -36,6 +38,7 @@ rises-told n xs h =
     go i zero l m = absurd (omega arith)
     go i (suc j) l m = ⊎-elim (λ (e : i ≡ j). rw e (next j m)) (λ k. omega (arith, go i j k (omega arith), next j m)) (last-or-before i j l)
 
+-- a list that rises passes
 pub rises-test : (n : ℕ) (xs : List ℕ) → Rising n xs → risesBelow n xs ≡ true
 unfolding risesBelow stepGood low
 rises-test n xs r = every-true (length xs) (stepGood n xs) go
@@ -44,10 +47,12 @@ rises-test n xs r = every-true (length xs) (stepGood n xs) go
     go zero l = rw (le-leb 0 (getD xs 0 0) (omega arith), lt-ltb (getD xs 0 0) n (r .below 0 l))
     go (suc i) l = rw (le-leb (suc (getD xs i 0)) (getD xs (suc i) 0) (r .rises i (suc i) (omega arith) l), lt-ltb (getD xs (suc i) 0) n (r .below (suc i) l))
 
+-- offsets that cut a list pass 3
 pub offsets-test : (rows n : ℕ) (off : List ℕ) → Offsets rows n off → offsetsGood rows n off ≡ true
 unfolding offsetsGood rising
 offsets-test rows n off o = rw (eq-eqb _ _ (o .starts), every-true rows (rising off) (λ r l. le-leb _ _ (o .rises r l)), eq-eqb _ _ (o .ends))
 
+-- a message that passes lies in its check and names its mechanism
 met-told : (co cm : List ℕ) (v c m : ℕ) → metGood co cm v c m ≡ true → Met co cm v c m
 unfolding metGood
 met-told co cm v c m h =
@@ -55,10 +60,12 @@ met-told co cm v c m h =
     let b = and-both _ _ (a .1) in
     record { from = leb-true _ _ (a .0); to = ltb-true _ _ (b .0); is = eqb-true _ _ (b .1) }
 
+-- and the other way
 met-test : (co cm : List ℕ) (v c m : ℕ) → Met co cm v c m → metGood co cm v c m ≡ true
 unfolding metGood
 met-test co cm v c m w = rw (le-leb _ _ (w .from), lt-ltb _ _ (w .to), eq-eqb _ _ (w .is))
 
+-- what a variable's entries are like, where they pass
 var-told : (g : Graph) (v : ℕ) → varGood g v ≡ true
     → Rising (g .checks) (row (g .varOffset) v (g .varCheck))
     × ((i : ℕ) → i < length (row (g .varOffset) v (g .varCheck))
@@ -69,6 +76,7 @@ var-told g v h =
     let w = and-both _ _ h in
     (rises-told (g .checks) cs (w .0), λ i l. met-told (g .checkOffset) (g .checkVar) v _ _ (every-at (length cs) (entryGood (g .checkOffset) (g .checkVar) v cs (row (g .varOffset) v (g .varMessage))) (w .1) i l))
 
+-- lists that pass the quick test have what it asks
 test-told : (edges : ℕ) (g : Graph) → Long edges g → graphTest edges g ≡ true → Passes edges g
 unfolding graphTest checkGood ownNumber
 test-told edges g f h =
@@ -85,18 +93,22 @@ test-told edges g f h =
       var-meets = λ v i l m. var-told g v (every-at (g .mechanisms) (varGood g) (d .1) v l) .1 i m;
     }
 
+-- a check's entries that rise pass
 check-good : (g : Graph) (c : ℕ) → Rising (g .mechanisms) (row (g .checkOffset) c (g .checkVar)) → checkGood (g .mechanisms) (g .checkOffset) (g .checkVar) c ≡ true
 unfolding checkGood
 check-good g c r = rises-test (g .mechanisms) _ r
 
+-- a number at its own place passes
 number-good : (xs : List ℕ) (i : ℕ) → getD xs i 0 ≡ i → ownNumber xs i ≡ true
 unfolding ownNumber
 number-good xs i e = eq-eqb _ _ e
 
+-- an entry in its check passes
 entry-good : (co cm : List ℕ) (v : ℕ) (cs ms : List ℕ) (i : ℕ) → Met co cm v (getD cs i 0) (getD ms i 0) → entryGood co cm v cs ms i ≡ true
 unfolding entryGood
 entry-good co cm v cs ms i w = met-test co cm v _ _ w
 
+-- a variable's entries pass
 var-good : (g : Graph) (v : ℕ) → Rising (g .checks) (row (g .varOffset) v (g .varCheck))
     → ((i : ℕ) → i < length (row (g .varOffset) v (g .varCheck))
     → Met (g .checkOffset) (g .checkVar) v (getD (row (g .varOffset) v (g .varCheck)) i 0) (getD (row (g .varOffset) v (g .varMessage)) i 0))
@@ -105,13 +117,20 @@ unfolding varGood entriesGood
 var-good g v r w =
     rw (rises-test (g .checks) (row (g .varOffset) v (g .varCheck)) r) (every-true _ _ (λ i l. entry-good (g .checkOffset) (g .checkVar) v (row (g .varOffset) v (g .varCheck)) (row (g .varOffset) v (g .varMessage)) i (w i l)))
 
+-- how many edges a graph has
 own-length : (checks mechanisms : ℕ) (inc : ℕ → ℕ → Bool) → length (graphOf checks mechanisms inc .checkVar) ≡ length (entries checks mechanisms inc)
 unfolding graphOf
 own-length checks mechanisms inc = refl
 
-all-pass : (checks mechanisms edges : ℕ) (g : Graph) (inc : ℕ → ℕ → Bool) → length (g .checkVar) ≡ edges → g ≡ graphOf checks mechanisms inc → Passes edges g
+-- every graph has the lengths that fit
+pub all-long : (checks mechanisms edges : ℕ) (g : Graph) (inc : ℕ → ℕ → Bool) → length (g .checkVar) ≡ edges → g ≡ graphOf checks mechanisms inc → Long edges g
+all-long checks mechanisms edges g inc l e = rw (sym l ∙ ap (λ (h : Graph). length (h .checkVar)) e ∙ own-length checks mechanisms inc, e) (graph-long checks mechanisms inc)
+
+-- and passes
+pub all-pass : (checks mechanisms edges : ℕ) (g : Graph) (inc : ℕ → ℕ → Bool) → length (g .checkVar) ≡ edges → g ≡ graphOf checks mechanisms inc → Passes edges g
 all-pass checks mechanisms edges g inc l e = rw (sym l ∙ ap (λ (h : Graph). length (h .checkVar)) e ∙ own-length checks mechanisms inc, e) (graph-passes checks mechanisms inc)
 
+-- lists that have what the quick test asks pass it
 test-true : (edges : ℕ) (g : Graph) → Passes edges g → graphTest edges g ≡ true
 unfolding graphTest
 test-true edges g t =
@@ -134,6 +153,7 @@ test-true edges g t =
 
 -- ---- one and the same
 
+-- the quick test says what 7 says
 pub test-is : (edges : ℕ) (g : Graph) → Long edges g → graphTest edges g ≡ isGraph g
 test-is edges g f =
     ⊎-elim

@@ -10,21 +10,22 @@ use lib.Seq.{length-take-le, ext-getD, take-add, take-all}
 use Rattle.numbers.proofs.Cases.{either, less-or-not, equal-or-not, last-or-before}
 use Rattle.numbers.specs.Loops.{row}
 use Rattle.graph.specs.Lists.{passing, joined, start, offsets}
-use Rattle.graph.specs.QuickTest.{low}
 use Rattle.graph.specs.Sound.{Offsets, Rising}
 use Rattle.graph.proofs.BucketPass.{is-table}
-use Rattle.graph.proofs.Built.{within}
 use Rattle.graph.proofs.Cuts.{offsets-rise}
 use Rattle.graph.proofs.Passing.{passing-none, length-yes, length-no, passing-at, passing-counts}
 
 module _ (p : ℕ → Bool) (n : ℕ) (us : List ℕ) (r : Rising n us) (passes : (q : ℕ) → q < length us → p (getD us q 0) ≡ true) where
+  -- each that passes counts more before it than the last
   step : (q : ℕ) → suc q < length us → length (passing (getD us q 0) p) < length (passing (getD us (suc q) 0) p)
   step q h = passing-counts p (getD us q 0) (getD us (suc q) 0) (r .rises q (suc q) (omega arith) h) (passes q (omega arith))
 
+  -- so at least q pass before the q-th
   up : (q : ℕ) → q < length us → q ≤ length (passing (getD us q 0) p)
   up zero h = omega arith
   up (suc q) h = omega (arith, up q (omega arith), step q h)
 
+  -- and after it at least as many as are left
   down : (d q : ℕ) → length us ≡ q + suc d → length (passing (getD us q 0) p) + suc d ≤ length (passing n p)
   down zero q h = omega (arith, passing-counts p (getD us q 0) n (r .below q (omega arith)) (passes q (omega arith)))
   down (suc d) q h = omega (arith, down d (suc q) (omega arith), step q (omega arith))
@@ -93,6 +94,7 @@ module _ (p : ℕ → Bool) (n : ℕ) (us : List ℕ) (r : Rising n us) (passes 
 -- ---- a list that is cut into parts
 
 module _ (rows : ℕ) (off xs : List ℕ) (o : Offsets rows (length xs) off) (f : ℕ → List ℕ) (same-parts : (r : ℕ) → r < rows → row off r xs ≡ f r) where
+  -- the parts before r, one after the other
   front : (r : ℕ) → r ≤ rows → take (getD off r 0) xs ≡ joined r f
   unfolding joined
   front zero h = rw (o .starts)
@@ -102,9 +104,11 @@ module _ (rows : ℕ) (off xs : List ℕ) (o : Offsets rows (length xs) off) (f 
       cut : (r : ℕ) → r < rows → getD off (suc r) 0 ≡ getD off r 0 + (getD off (suc r) 0 - getD off r 0)
       cut r h = omega (arith, o .rises r h)
 
+  -- parts that are f 0, f 1, .. make the list of all of them
   pub parts-joined : xs ≡ joined rows f
   parts-joined = sym (take-all (getD off rows 0) xs (omega (arith, o .ends))) ∙ front rows (omega arith)
 
+  -- with their offsets
   pub parts-offsets : off ≡ offsets rows f
   unfolding offsets start
   parts-offsets =

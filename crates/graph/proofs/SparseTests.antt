@@ -3,9 +3,9 @@ use mathlib.Core.Bool.{Bool, true, false, _&&_}
 use mathlib.Core.List.{List}
 use mathlib.Core.Path.{_≡_, refl, ap, _∙_}
 use Prim.Native.Nat.{ℕ, suc, _≤_}
-use lib.Ieee.{Float, fits}
+use lib.Ieee.{Float}
 use lib.ListN.{length}
-use borrow.Author.Tests.{leb-true, eqb-true}
+use borrow.Author.Tests.{eq-eqb, leb-true, eqb-true}
 use Rattle.numbers.proofs.Cases.{and-both}
 use Rattle.refusals.proofs.Tests.{or-done, unless-done}
 use Rattle.refusals.specs.Tests.{isDone, unless, orElse, firstOf, unlessRefused}
@@ -19,31 +19,37 @@ use Rattle.graph.specs.Steps.{Valid, fewSizes, sparseLengths, sparseTest
 use Rattle.graph.proofs.ModelTests.{offsets-told, valid-told}
 
 module _ (checks mechanisms edges : ℕ) (priors : List Float) (off dets : List ℕ) (fit : Bool) where
+  -- 1
   pub sparse-1 : fewSizes checks mechanisms edges ≡ false → Refused SizeAboveLimit ≡ sparseTests checks mechanisms edges priors off dets fit
   unfolding sparseTests orElse unless
   sparse-1 h = rw h
 
+  -- 2
   pub sparse-2 : fewSizes checks mechanisms edges ≡ true → (sparseLengths mechanisms edges (length priors) (length off) (length dets) && fit) ≡ false
       → Refused ModelListLength ≡ sparseTests checks mechanisms edges priors off dets fit
   unfolding sparseTests orElse unless
   sparse-2 h k = rw (h, k)
 
+  -- 3
   pub sparse-3 : fewSizes checks mechanisms edges ≡ true → (sparseLengths mechanisms edges (length priors) (length off) (length dets) && fit) ≡ true
       → offsetsGood mechanisms (length dets) off ≡ false → Refused BadDetectorOffsets ≡ sparseTests checks mechanisms edges priors off dets fit
   unfolding sparseTests orElse unless
   sparse-3 h k l = rw (h, k, l)
 
+  -- 4, 5 or 6, or none
   pub sparse-4 : (a : Answer) → fewSizes checks mechanisms edges ≡ true → (sparseLengths mechanisms edges (length priors) (length off) (length dets) && fit) ≡ true
       → offsetsGood mechanisms (length dets) off ≡ true → a ≡ firstOf mechanisms (mechanismFault checks priors off dets) → a ≡ sparseTests checks mechanisms edges priors off dets fit
   unfolding sparseTests orElse unless
   sparse-4 a h k l e = rw (h, k, l) e
 
+  -- what the lengths are where they fit
   pub record Lengths : Type 0 where
     pub priors-many : length priors ≡ mechanisms
     pub off-many : length off ≡ suc mechanisms
     pub dets-many : length dets ≡ edges
     pub fits : fit ≡ true
 
+  -- and that the test tells it
   pub lengths-told : (sparseLengths mechanisms edges (length priors) (length off) (length dets) && fit) ≡ true → Lengths
   lengths-told h =
       let a = and-both _ _ h in
@@ -51,6 +57,7 @@ module _ (checks mechanisms edges : ℕ) (priors : List Float) (off dets : List 
       let c = and-both _ _ (b .1) in
       record { priors-many = eqb-true _ _ (b .0); off-many = eqb-true _ _ (c .0); dets-many = eqb-true _ _ (c .1); fits = a .1 }
 
+  -- what the tests tell where none refuses
   pub record Told : Type 0 where
     pub checks-few : checks ≤ 65536
     pub mechanisms-few : mechanisms ≤ 65536
@@ -58,6 +65,7 @@ module _ (checks mechanisms edges : ℕ) (priors : List Float) (off dets : List 
     pub lengths : Lengths
     pub valid : Valid checks mechanisms off dets
 
+  -- and that they do
   pub sparse-told : sparseTests checks mechanisms edges priors off dets fit ≡ Done → Told
   unfolding sparseTests
   sparse-told h =
@@ -98,6 +106,19 @@ long-told edges g h =
       var-offset = eqb-true _ _ (e .1);
     }
 
+-- and the other way
+pub long-fits : (edges : ℕ) (g : Graph) → Long edges g → graphFits edges g ≡ true
+unfolding graphFits
+long-fits edges g f =
+    rw (
+      eq-eqb (length (g .checkVar)) edges (f .check-var),
+      eq-eqb (length (g .checkMessage)) edges (f .check-message),
+      eq-eqb (length (g .checkOffset)) (suc (g .checks)) (f .check-offset),
+      eq-eqb (length (g .varCheck)) edges (f .var-check),
+      eq-eqb (length (g .varMessage)) edges (f .var-message),
+      eq-eqb (length (g .varOffset)) (suc (g .mechanisms)) (f .var-offset),
+    )
+
 -- a call that answers a: what it builds where it refuses nothing
 pub built-done : (a b : Answer) (inc : ℕ → ℕ → Bool) (old new : Graph) → a ≡ b → isDone a ≡ true → new ≡ graphOf (old .checks) (old .mechanisms) inc → outcome a new ≡ built b inc old
 unfolding built unlessRefused
@@ -111,6 +132,7 @@ built-refused a b inc old p d = rw (← p, d)
 -- the two ways out of `build_sparse`
 module _ (edges : ℕ) (priors : List Float) (off dets : List ℕ) (a : Answer) (fit : Bool) (old : Graph) (f : fit ≡ graphFits edges old)
     (p : a ≡ sparseTests (old .checks) (old .mechanisms) edges priors off dets fit) where
+  -- the answer is that of the definition
   answer : a ≡ sparseFault edges priors off dets old
   answer = p ∙ ap (λ (b : Bool). sparseTests (old .checks) (old .mechanisms) edges priors off dets b) f ∙ sparse-is edges priors off dets old
 

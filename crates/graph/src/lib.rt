@@ -2,13 +2,16 @@
 // Every call takes every input; a refusal writes nothing.
 mod buckets;
 mod build;
+mod dense;
 mod model;
 mod seven;
 
 ghost use mathlib.Core.Path.{_≡_};
 ghost use Rattle.graph.specs.Graph.{graph};
-ghost use Rattle.graph.specs.Model.{outcome, buildSparse, graphFault};
+ghost use Rattle.graph.specs.Model.{outcome, buildSparse, countEdges, buildDense, graphFault};
 use build::from_detectors;
+use dense::from_matrix;
+use model::dense_fault;
 use model::lists_fit;
 use model::priors_fault;
 use model::sizes_good;
@@ -58,6 +61,68 @@ pub fn build_sparse(
             size.mechanisms,
             detector_offsets,
             detectors,
+            check_var,
+            check_message,
+            check_offset,
+            var_check,
+            var_message,
+            var_offset,
+        );
+        return a;
+    }
+    a
+}
+
+// How many bytes of a dense model's matrix are not zero: as many edges its graph has.
+pub fn count_edges(matrix: &[u8]) -> usize
+    ensures { λ r. ⌜ r ≡ countEdges (now (matrix .entry)) ⌝ }
+{
+    let mut edges = 0;
+    let mut i = 0;
+    while i < matrix.len() {
+        if matrix[i] != 0 {
+            edges += 1;
+        }
+        i += 1;
+    }
+    edges
+}
+
+// The graph of a dense model, in the caller's lists: the matrix lies check by check, and a byte that is not zero is an incidence.
+pub fn build_dense(
+    checks: usize,
+    mechanisms: usize,
+    priors: &[f64],
+    matrix: &[u8],
+    check_var: &mut [u32],
+    check_message: &mut [u32],
+    check_offset: &mut [u32],
+    var_check: &mut [u32],
+    var_message: &mut [u32],
+    var_offset: &mut [u32],
+) -> Answer
+    ensures { λ r. ⌜ outcome r (graph checks mechanisms (now («check_var» .exit)) (now («check_message» .exit)) (now («check_offset» .exit)) (now («var_check» .exit)) (now («var_message» .exit)) (now («var_offset» .exit))) ≡ buildDense (now (priors .entry)) (now (matrix .entry)) (graph checks mechanisms (now («check_var» .entry)) (now («check_message» .entry)) (now («check_offset» .entry)) (now («var_check» .entry)) (now («var_message» .entry)) (now («var_offset» .entry))) ⌝ }
+{
+    let size = Size {
+        checks: checks,
+        mechanisms: mechanisms,
+        edges: count_edges(matrix),
+    };
+    let fit = lists_fit(
+        size,
+        check_var.len(),
+        check_message.len(),
+        check_offset.len(),
+        var_check.len(),
+        var_message.len(),
+        var_offset.len(),
+    );
+    let a = dense_fault(size, priors, matrix.len(), fit);
+    if is_done(a) {
+        from_matrix(
+            checks,
+            mechanisms,
+            matrix,
             check_var,
             check_message,
             check_offset,

@@ -1,4 +1,4 @@
-// Tests 1 to 6: sizes, lengths, detector offsets, and mechanism by mechanism priors and detectors.
+// Tests 1 to 6, of sparse and of dense models: sizes, lengths, detector offsets, priors and detectors.
 ghost use mathlib.Core.Path.{_≡_};
 ghost use mathlib.Core.Bool.{_&&_};
 ghost use Prim.Native.Nat.{suc, _<_, _≤_};
@@ -9,7 +9,7 @@ ghost use Rattle.refusals.specs.Tests.{firstOf};
 ghost use Rattle.graph.specs.Lists.{has};
 ghost use Rattle.graph.specs.Model.{rising, offsetsGood, priorGood, priorFault, detectorFault, mechanismFault};
 ghost use Rattle.graph.specs.Sound.{Offsets};
-ghost use Rattle.graph.specs.Steps.{fewCounts, fewSizes, sparseLengths, graphLengths, mechanismTest, sparseTests};
+ghost use Rattle.graph.specs.Steps.{fewCounts, fewSizes, sparseLengths, graphLengths, mechanismTest, sparseTests, denseTests};
 use crate::Size;
 use crate::buckets::at;
 use numbers::at_most;
@@ -230,4 +230,29 @@ pub(crate) fn sparse_fault(s: Size, priors: &[f64], off: &[u32], dets: &[u32], f
         return Answer::Refused(Refusal::BadDetectorOffsets);
     }
     mechanisms_fault(s.checks, s.mechanisms, priors, off, dets)
+}
+
+// ---- the tests of a dense model
+
+// Counts, the lengths of matrix and priors, edges, the lent graph lists, priors. `bytes`: the matrix's length; the size's edges: how many of
+// its bytes are not zero; `fit`: the lent graph lists have their lengths.
+pub(crate) fn dense_fault(s: Size, priors: &[f64], bytes: usize, fit: bool) -> Answer
+    ensures { λ r. ⌜ r ≡ denseTests (s .checks) (s .mechanisms) (s .edges) (now (priors .entry)) bytes fit ⌝ }
+{
+    if !counts_good(s.checks, s.mechanisms) {
+        return Answer::Refused(Refusal::SizeAboveLimit);
+    }
+    if !both(
+        same_number(bytes, s.checks * s.mechanisms),
+        same_number(priors.len(), s.mechanisms),
+    ) {
+        return Answer::Refused(Refusal::ModelListLength);
+    }
+    if !edges_good(s.edges) {
+        return Answer::Refused(Refusal::SizeAboveLimit);
+    }
+    if !fit {
+        return Answer::Refused(Refusal::ModelListLength);
+    }
+    priors_fault(priors)
 }

@@ -1,0 +1,96 @@
+-- `graph::build_dense` meets its contract: where no test refuses, the lists fit, which is all that building asks; a refusal leaves them. Assumes nothing.
+use mathlib.Core.Path.{sym, _∙_}
+use native.Mathlib.Omega.{arith}
+use lib.ListN.{length}
+use borrow.Author.Needs.{needs}
+use Rattle.refusals.proofs.Tests.{done-is}
+use Rattle.graph.specs.Graph.{Graph, graph}
+use Rattle.graph.specs.Model.{graphFits}
+use Rattle.graph.specs.Sound.{Long}
+use Rattle.graph.proofs.DenseTests.{DenseTold, dense-told, dense-done, dense-refused}
+use Rattle.graph.proofs.SparseTests.{long-told}
+use Rattle.graph.proofs.build_dense.Statement.{statement}
+use Rattle.graph.proofs.build_dense.Tie as tie
+
+-- the lists as they are lent
+abbrev lists : tie.Start → Graph
+lists c = let a = c .args in graph (a .checks) (a .mechanisms) (a .check-var .now) (a .check-message .now) (a .check-offset .now) (a .var-check .now) (a .var-message .now) (a .var-offset .now)
+
+-- what the tests told
+told : (c : tie.Then1)
+    → let a = c .before .before .before .before .before .before .before .before .before .before .before .before .before .args in
+    DenseTold (a .checks) (a .mechanisms) (c .before .before .before .before .count-edges .result) (a .priors .now) (length (a .matrix .now)) (c .before .before .before .lists-fit .result)
+told c = dense-told _ _ _ _ _ _ (sym (c .before .before .dense-fault .ensures) ∙ done-is _ (sym (c .before .is-done .ensures) ∙ c .if1 .taken))
+
+-- and of the graph lists
+long : (c : tie.Then1) → Long (c .before .before .before .before .count-edges .result) (lists (c .before .before .before .before .before .before .before .before .before .before .before .before .before))
+unfolding graphFits
+long c = long-told _ (lists (c .before .before .before .before .before .before .before .before .before .before .before .before .before)) (sym (c .before .before .before .lists-fit .ensures) ∙ told c .fits)
+
+count-edges-requires : tie.Need-count-edges-requires
+count-edges-requires c κs = search needs
+
+lists-fit-requires : tie.Need-lists-fit-requires
+lists-fit-requires c κs = search needs
+
+dense-fault-requires : tie.Need-dense-fault-requires
+dense-fault-requires c κs = search needs
+
+is-done-requires : tie.Need-is-done-requires
+is-done-requires c κs = search needs
+
+from-matrix-requires : tie.Need-from-matrix-requires
+from-matrix-requires c κs =
+    let t = told (c .before .before .before .before .before .before) in
+    let f = long (c .before .before .before .before .before .before) in
+    let d = c .before .before .before .before .before .before .before .before .before .before .count-edges .ensures in (
+      t .bytes-many,
+      (
+        (omega (arith, t .checks-few), omega (arith, t .mechanisms-few), omega (arith, d, t .edges-few)),
+        ((f .check-var ∙ d, f .check-message ∙ d, f .check-offset), (f .var-check ∙ d, f .var-message ∙ d, f .var-offset)),
+      ),
+    )
+
+same-length : tie.Need-same-length
+same-length c = search needs
+
+same-length-2 : tie.Need-same-length-2
+same-length-2 c = search needs
+
+same-length-3 : tie.Need-same-length-3
+same-length-3 c = search needs
+
+same-length-4 : tie.Need-same-length-4
+same-length-4 c = search needs
+
+same-length-5 : tie.Need-same-length-5
+same-length-5 c = search needs
+
+same-length-6 : tie.Need-same-length-6
+same-length-6 c = search needs
+
+returns : tie.Need-returns
+unfolding graphFits
+returns c = dense-done _ _ _ _ _ (lists (c .before .before .before .before .before .before .before .before .before .before .before .before .before .before .before .before .before .before .before .before .before .before .before .before .before .before .before .before .before .before .before .before)) (c .before .before .before .before .before .before .before .before .before .before .before .before .before .before .before .before .before .before .before .before .before .before .before .count-edges .ensures) (c .before .before .before .before .before .before .before .before .before .before .before .before .before .before .before .before .before .before .before .before .before .before .lists-fit .ensures) (c .before .before .before .before .before .before .before .before .before .before .before .before .before .before .before .before .before .before .before .before .before .dense-fault .ensures) _ (sym (c .before .before .before .before .before .before .before .before .before .before .before .before .before .before .before .before .before .before .before .before .is-done .ensures) ∙ c .before .before .before .before .before .before .before .before .before .before .before .before .before .before .before .before .before .before .before .if1 .taken) (c .before .before .before .before .before .before .before .before .before .before .before .before .from-matrix .ensures)
+
+returns-2 : tie.Need-returns-2
+unfolding graphFits
+returns-2 c = dense-refused _ _ _ _ _ (lists (c .before .before .before .before .before .before .before .before .before .before .before .before .before)) (c .before .before .before .before .count-edges .ensures) (c .before .before .before .lists-fit .ensures) (c .before .before .dense-fault .ensures) (sym (c .before .is-done .ensures) ∙ c .if1 .left)
+
+pub build-dense-spec : {M : Type 1} → statement M
+build-dense-spec =
+    tie.close
+    (tie.spec
+    count-edges-requires
+    lists-fit-requires
+    dense-fault-requires
+    is-done-requires
+    from-matrix-requires
+    same-length
+    same-length-2
+    same-length-3
+    same-length-4
+    same-length-5
+    same-length-6
+    returns
+    returns-2)
