@@ -12,7 +12,7 @@ use Rattle.relay.proofs.step.check_pass.Statement.{statement}
 use Rattle.relay.proofs.step.check_pass.Tie as tie
 
 abbrev Inv-loop : tie.InvT-loop
-Inv-loop alpha syndrome check-var check-offset order v-to-c c-to-v₀ i₀ c-to-v i = 
+Inv-loop alpha syndrome check-var check-offset order v-to-c c-to-v₀ i₀ c-to-v i =
     (i ≤ length order) × (length c-to-v ≡ length c-to-v₀)
     × (state c-to-v v-to-c [] ≡ checkPass (ofChecks (length syndrome) check-var check-offset) alpha syndrome (take i order) (state c-to-v₀ v-to-c []))
 
@@ -27,7 +27,7 @@ at-requires : tie.Need-at-requires Inv-loop μ-loop
 at-requires c κs = omega arith
 
 update-one-requires : tie.Need-update-one-requires Inv-loop μ-loop
-update-one-requires c κs = 
+update-one-requires c κs =
     let s = c .before .before .before .before .before .before .before .before .before .before in
     let l = c .before .before .before .loop in
     (omega (arith, c .before .at .ensures, s .pre .1 .0 .names (l .i) (c .before .before .loop-test .taken)), (s .pre .0, (s .pre .1 .1 .0, l .inv .1 ∙ s .pre .1 .1 .1)))
@@ -39,7 +39,7 @@ loop-less : tie.Need-loop-less Inv-loop μ-loop
 loop-less c = omega arith
 
 loop-again : tie.Need-loop-again Inv-loop μ-loop
-loop-again c = 
+loop-again c =
     let l = c .before .before .before .before .before .before .loop in
     let u = c .before .before .update-one in
     (omega arith, u .kept .1 .1 .1 .1 .1 .1 .0 ∙ l .inv .1, checks-turn _ _ _ _ _ _ _ (l .i) _ (c .before .before .before .before .before .loop-test .taken) (c .before .before .before .before .at .ensures) (l .inv .2) (u .ensures))

@@ -55,7 +55,7 @@ loop-less : tie.Need-loop-less Inv-loop μ-loop
 loop-less c = omega arith
 
 loop-again : tie.Need-loop-again Inv-loop μ-loop
-loop-again c = 
+loop-again c =
     let l = c .before .before .before .before .before .loop in
     (omega arith, simp length-set (omega arith), bias-turn _ _ _ (l .bias) (l .v) _ (omega arith) (l .inv .2) (c .bias-of .ensures))
 
@@ -64,7 +64,7 @@ same-length c = omega arith
 
 returns : tie.Need-returns Inv-loop μ-loop
 unfolding computeBias
-returns c = 
+returns c =
     let l = c .before .loop in
     sym (take-all (l .v) (l .bias) (omega arith)) ∙ l .inv .2 ∙ ap (biasesTo _ _ _) (omega arith)
 

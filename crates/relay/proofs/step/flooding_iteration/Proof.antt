@@ -15,7 +15,7 @@ compute-bias-requires : tie.Need-compute-bias-requires
 compute-bias-requires c κs = search needs
 
 variable-pass-requires : tie.Need-variable-pass-requires
-variable-pass-requires c κs = 
+variable-pass-requires c κs =
     let s = c .before .before .before .before .before .before .before .before .before .before .before .before .before .before .before .before .before .before .before .before .before .before .before .before .before .before in
     let p = s .pre .1 .1 .1 in
     let b = c .before .before .before .before .before .before .compute-bias .kept .1 .1 .1 .0 ∙ p .0 .1 in
@@ -35,7 +35,7 @@ same-length-4 : tie.Need-same-length-4
 same-length-4 c = search needs
 
 returns : tie.Need-returns
-returns c = 
+returns c =
     let p = c .before .before .before .before .before .before .before .before .before .before .before .before .before .before .before .before .before .before .before .before .before .before .before .before .before .before .before .before .before .before .before .pre .1 .1 .1 in
     flooding-is _ _ _ _ _ _ _ _ _ _ _ _ _ _ _ _ _ refl (c .before .before .before .before .before .before .before .before .before .before .before .before .before .before .before .before .check-pass .ensures) (c .before .before .before .before .before .before .before .before .before .before .before .compute-bias .ensures) (c .before .before .before .before .before .before .before .before .before .before .before .compute-bias .kept .1 .1 .1 .0 ∙ p .0 .1) (c .before .before .before .before .variable-pass .ensures)
 

@@ -27,7 +27,7 @@ shared-slice-read-update-part : tie.Need-shared-slice-read-update-part
 shared-slice-read-update-part c = search needs
 
 update-part-requires : tie.Need-update-part-requires
-update-part-requires c κs = 
+update-part-requires c κs =
     let w = within (c .before .before .before) in
     let p = c .before .before .before .before .before .before .before .before .before .before .before .before .before .before .pre .1 .1 .1 .1 in
     (w .0, w .1, p .1, p .0)
@@ -45,7 +45,7 @@ part-update-variables-end : tie.Need-part-update-variables-end
 part-update-variables-end c = within (c .before .before .before .before .before .before) .1
 
 update-variables-requires : tie.Need-update-variables-requires
-update-variables-requires c κs = 
+update-variables-requires c κs =
     let s = c .before .before .before .before .before .before .before .before .before .before .before .before .before .before .before .before .before .before .before .before .before in
     let p = s .pre .1 .1 .1 in
     let k = c .before .before .before .before .before .before .update-part .kept .1 .1 .1 .1 .1 .1 .0 in
@@ -61,7 +61,7 @@ same-length-3 : tie.Need-same-length-3
 same-length-3 c = search needs
 
 returns : tie.Need-returns
-returns c = 
+returns c =
     serial-is _ _ _ _ _ _ _ _ _ _ _ _ (c .before .before .before .before .before .before .before .before .before .before .before .before .before .before .before .before .before .before .before .before .before .before .before .before .before .before .args .c) _ _ (c .before .before .before .before .before .before .before .before .before .before .before .before .before .before .before .before .at .ensures) (c .before .before .before .before .before .before .before .before .before .before .before .before .before .before .before .at2 .ensures) (c .before .before .before .before .before .before .before .before .before .before .before .update-part .ensures) _ _ (c .before .before .before .before .update-variables .ensures)
 
 pub serial-check-spec : {M : Type 1} → statement M

@@ -28,7 +28,7 @@ at-requires : tie.Need-at-requires Inv-loop μ-loop
 at-requires c κs = omega arith
 
 serial-check-requires : tie.Need-serial-check-requires Inv-loop μ-loop
-serial-check-requires c κs = 
+serial-check-requires c κs =
     let s = c .before .before .before .before .before .before .before .before .before .before .before .before .before .before .before .before in
     let l = c .before .before .before .before .before .loop in
     (omega (arith, c .before .before .before .at .ensures, s .pre .1 .1 .0 .names (l .i) (c .before .before .before .before .loop-test .taken)), (s .pre .0, (s .pre .1 .0, (l .inv .3 ∙ s .pre .1 .1 .1 .0, (l .inv .1 ∙ s .pre .1 .1 .1 .1 .0, l .inv .2 ∙ s .pre .1 .1 .1 .1 .1)))))
@@ -40,7 +40,7 @@ loop-less : tie.Need-loop-less Inv-loop μ-loop
 loop-less c = omega arith
 
 loop-again : tie.Need-loop-again Inv-loop μ-loop
-loop-again c = 
+loop-again c =
     let l = c .before .before .before .before .before .before .before .before .before .before .before .before .loop in
     let u = c .before .before .before .before .before .before .serial-check in (
       omega arith,

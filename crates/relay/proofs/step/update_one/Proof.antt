@@ -26,7 +26,7 @@ shared-slice-read-update-part : tie.Need-shared-slice-read-update-part
 shared-slice-read-update-part c = search needs
 
 update-part-requires : tie.Need-update-part-requires
-update-part-requires c κs = 
+update-part-requires c κs =
     let w = within (c .before .before) in
     let p = c .before .before .before .before .before .before .before .before .before .pre .1 .1 in
     (w .0, w .1, p .0, p .1)

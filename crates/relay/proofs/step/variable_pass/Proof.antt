@@ -11,7 +11,7 @@ use Rattle.relay.proofs.step.variable_pass.Statement.{statement}
 use Rattle.relay.proofs.step.variable_pass.Tie as tie
 
 abbrev Inv-loop : tie.InvT-loop
-Inv-loop bias var-message var-offset c-to-v v-to-c₀ posterior₀ v₀ v-to-c posterior v = 
+Inv-loop bias var-message var-offset c-to-v v-to-c₀ posterior₀ v₀ v-to-c posterior v =
     (v ≤ length bias) × (length v-to-c ≡ length v-to-c₀) × (length posterior ≡ length posterior₀)
     × (state c-to-v v-to-c posterior ≡ variablePass (ofVariables (length bias) var-message var-offset) bias (state c-to-v v-to-c₀ posterior₀) v)
 
@@ -23,7 +23,7 @@ unfolding variablePass
 loop-holds c = (omega arith, refl, refl, refl)
 
 update-variable-requires : tie.Need-update-variable-requires Inv-loop μ-loop
-update-variable-requires c κs = 
+update-variable-requires c κs =
     let s = c .before .before .before .before .before .before .before .before .before .before in
     let l = c .before .before .before .loop in
     ((c .before .before .loop-test .taken, l .inv .2 ∙ s .pre .0), (s .pre .1 .0, l .inv .1 ∙ s .pre .1 .1))
@@ -35,7 +35,7 @@ loop-less : tie.Need-loop-less Inv-loop μ-loop
 loop-less c = omega arith
 
 loop-again : tie.Need-loop-again Inv-loop μ-loop
-loop-again c = 
+loop-again c =
     let l = c .before .before .before .before .before .before .before .before .loop in
     let u = c .before .before .before .before .update-variable in
     (omega arith, u .kept .1 .1 .1 .1 .1 .0 ∙ l .inv .1, u .kept .1 .1 .1 .1 .1 .1 .0 ∙ l .inv .2, variables-on _ _ _ _ _ (l .v) (l .inv .3) (u .ensures))
