@@ -56,3 +56,15 @@ pub fn from_variables(check_var: &[u32], values: &[f64], v_to_c: &mut [f64])
         i += 1;
     }
 }
+
+// `to.copy_from_slice(from)`.
+pub fn copy(from: &[f64], to: &mut [f64])
+    requires { ⌜ length (now to) ≡ length (now from) ⌝ }
+    ensures { λ _. ⌜ now (to .exit) ≡ now (from .entry) ⌝ }
+{
+    let mut i = 0;
+    while i < from.len() {
+        to[i] = from[i];
+        i += 1;
+    }
+}

@@ -2,3 +2,4 @@
 pub mod Variables
 pub mod Checks
 pub mod Average
+pub mod Rounds

@@ -1,7 +1,5 @@
 -- `min_sum::check::start_scan` meets its contract: each arm is one case of the definition. Assumes nothing.
-use mathlib.Core.Path.{refl}
 use lib.Ieee.{ofBits, neg}
-use borrow.Author.Needs.{needs}
 use borrow.Author.Needs.{needs}
 use Rattle.min_sum.proofs.check.start_scan.Statement.{statement}
 use Rattle.min_sum.proofs.check.start_scan.Tie as tie
