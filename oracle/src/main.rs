@@ -1,26 +1,8 @@
-//! The published Rust as an oracle: document 01's small runs, fixed lists of cases with the Rust's
-//! answers, and a count of the branches that those cases take.
+//! The oracle's command: what it checks on the published Rust, and the lists that it writes.
 
-// `drive.rs` is mounted once for each copy of the published files, on purpose.
-#![allow(clippy::duplicate_mod)]
-
-mod answers;
-mod belief_cases;
-mod branches;
-mod counted;
-mod decode_cases;
-mod exact;
-mod graph_cases;
-mod line;
-mod lists;
-mod model;
-mod runs;
-mod splitmix;
-mod tally;
-mod toolchain;
-
+use oracle::tally::Tally;
+use oracle::{branches, lists, runs, toolchain};
 use std::process::ExitCode;
-use tally::Tally;
 
 const USAGE: &str = "usage: oracle toolchain|runs|lists|branches|all";
 

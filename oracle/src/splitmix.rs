@@ -10,6 +10,10 @@ impl SplitMix64 {
         Self { state: seed }
     }
 
+    pub fn state(&self) -> u64 {
+        self.state
+    }
+
     pub fn draw(&mut self) -> u64 {
         self.state = self.state.wrapping_add(0x9E37_79B9_7F4A_7C15);
         let mut mixed = self.state;

@@ -2,3 +2,6 @@ pub mod Lists
 pub mod Graph
 pub mod Messages
 pub mod Model
+pub mod Sound
+pub mod Steps
+pub mod QuickTest

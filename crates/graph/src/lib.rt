@@ -1,8 +1,119 @@
-// The Tanner graph of a model: its sizes.
+// The Tanner graph of a model: its sizes, its six lists from a sparse or a dense model, and the test of lists that a caller lends.
+// Every call takes every input; a refusal writes nothing.
+mod buckets;
+mod build;
+mod model;
+mod seven;
+
+ghost use mathlib.Core.Path.{_≡_};
+ghost use Rattle.graph.specs.Graph.{graph};
+ghost use Rattle.graph.specs.Model.{outcome, buildSparse, graphFault};
+use build::from_detectors;
+use model::lists_fit;
+use model::priors_fault;
+use model::sizes_good;
+use model::sparse_fault;
+use numbers::both;
+use numbers::same_number;
+use refusals::Answer;
+use refusals::Refusal;
+use refusals::is_done;
+use seven::is_graph;
 
 // How many checks, mechanisms and edges a model has.
 pub struct Size {
     pub checks: usize,
     pub mechanisms: usize,
     pub edges: usize,
+}
+
+// The graph of a sparse model, in the caller's lists: mechanism m's detectors stand in `detectors` from offset m to offset m + 1.
+pub fn build_sparse(
+    size: Size,
+    priors: &[f64],
+    detector_offsets: &[u32],
+    detectors: &[u32],
+    check_var: &mut [u32],
+    check_message: &mut [u32],
+    check_offset: &mut [u32],
+    var_check: &mut [u32],
+    var_message: &mut [u32],
+    var_offset: &mut [u32],
+) -> Answer
+    ensures { λ r. ⌜ outcome r (graph (size .checks) (size .mechanisms) (now («check_var» .exit)) (now («check_message» .exit)) (now («check_offset» .exit)) (now («var_check» .exit)) (now («var_message» .exit)) (now («var_offset» .exit))) ≡ buildSparse (size .edges) (now (priors .entry)) (now («detector_offsets» .entry)) (now (detectors .entry)) (graph (size .checks) (size .mechanisms) (now («check_var» .entry)) (now («check_message» .entry)) (now («check_offset» .entry)) (now («var_check» .entry)) (now («var_message» .entry)) (now («var_offset» .entry))) ⌝ }
+{
+    let fit = lists_fit(
+        size,
+        check_var.len(),
+        check_message.len(),
+        check_offset.len(),
+        var_check.len(),
+        var_message.len(),
+        var_offset.len(),
+    );
+    let a = sparse_fault(size, priors, detector_offsets, detectors, fit);
+    if is_done(a) {
+        from_detectors(
+            size.checks,
+            size.mechanisms,
+            detector_offsets,
+            detectors,
+            check_var,
+            check_message,
+            check_offset,
+            var_check,
+            var_message,
+            var_offset,
+        );
+        return a;
+    }
+    a
+}
+
+// Whether lent graph lists and their priors are a graph: 1, 2, 4 and 7.
+pub fn check_graph(
+    size: Size,
+    priors: &[f64],
+    check_var: &[u32],
+    check_message: &[u32],
+    check_offset: &[u32],
+    var_check: &[u32],
+    var_message: &[u32],
+    var_offset: &[u32],
+) -> Answer
+    ensures { λ r. ⌜ r ≡ graphFault (size .edges) (now (priors .entry)) (graph (size .checks) (size .mechanisms) (now («check_var» .entry)) (now («check_message» .entry)) (now («check_offset» .entry)) (now («var_check» .entry)) (now («var_message» .entry)) (now («var_offset» .entry))) ⌝ }
+{
+    if !sizes_good(size) {
+        return Answer::Refused(Refusal::SizeAboveLimit);
+    }
+    let fit = lists_fit(
+        size,
+        check_var.len(),
+        check_message.len(),
+        check_offset.len(),
+        var_check.len(),
+        var_message.len(),
+        var_offset.len(),
+    );
+    if !both(same_number(priors.len(), size.mechanisms), fit) {
+        return Answer::Refused(Refusal::ModelListLength);
+    }
+    let a = priors_fault(priors);
+    if !is_done(a) {
+        return a;
+    }
+    if !is_graph(
+        size.checks,
+        size.mechanisms,
+        size.edges,
+        check_var,
+        check_message,
+        check_offset,
+        var_check,
+        var_message,
+        var_offset,
+    ) {
+        return Answer::Refused(Refusal::NoSuchGraph);
+    }
+    Answer::Done
 }

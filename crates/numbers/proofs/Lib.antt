@@ -1,5 +1,6 @@
 -- The laws that stand by themselves, for the proofs of this crate and of those above it.
 pub mod Tests
+pub mod Cases
 pub mod Floats
 pub mod Loops
 pub mod Product

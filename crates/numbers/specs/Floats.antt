@@ -1,6 +1,5 @@
 -- binary64 as the Rust uses it: its operators, the constants that it names, `abs`, `is_finite`, the sign that `copysign` reads, and `message_sign`.
 -- A float is a value of `lib.Ieee`: `nan`, `inf s`, or `fin s m e`, which is m * 2 ^ e, negative where s is true. Definitions only. Assumes nothing.
-use Prim.Native.Nat.{ℕ}
 use mathlib.Core.Bool.{Bool, true, false, cond}
 use lib.IntN.{pos}
 use lib.Ieee.{Float, nan, inf, fin, binary64, add, sub, mul, lt}

@@ -9,7 +9,6 @@ use lib.Ieee.{Float, nan}
 use lib.ListN.{length, getD, replicate}
 use Rattle.numbers.specs.Floats.{zero⁺, isFinite}
 use Rattle.numbers.specs.Loops.{every, over}
-use Rattle.refusals.specs.declared.Refusal.{Refusal}
 use Rattle.refusals.specs.declared.Refusal.the-variants.{BadAlpha, SyndromeLength, SyndromeNotBinary, LentListLength, StateNotFinite, NonFinite}
 use Rattle.refusals.specs.declared.Answer.{Answer}
 use Rattle.refusals.specs.declared.Answer.the-variants.{Done, Refused}
@@ -17,20 +16,22 @@ use Rattle.refusals.specs.Tests.{unless, orElse, firstOf, unlessRefused}
 use Rattle.graph.specs.Graph.{Graph, varEntries}
 use Rattle.graph.specs.Model.{graphFault}
 use Rattle.relay.specs.declared.Schedule.{Schedule}
-use Rattle.relay.specs.declared.Settings.{Settings}
 use Rattle.relay.specs.declared.Decoded.{Decoded}
 use Rattle.relay.specs.declared.Decoded.the-variants as Decoded
 use Rattle.relay.specs.declared.LegRecord.{LegRecord}
 use Rattle.relay.specs.declared.LegRecord.the-variants as LegRecord
 use Rattle.relay.specs.Settings.{alphaGood, settingsFault}
 use Rattle.relay.specs.Step.{State, state, iteration}
-use Rattle.relay.specs.Order.{upto, anyOf, namesFault, exchangeFault}
+use Rattle.relay.specs.Order.{upto, namesFault, exchangeFault}
 use Rattle.relay.specs.Decode.{Shot, Run, Ended, decoded, refused, decodeLegs, correctionOf}
+
+-- 21 for one check: its byte is 0 or 1
+unfoldable pub byteFault : List ℕ → ℕ → Answer
+byteFault syndrome c = unless (leb (getD syndrome c 0) 1) (SyndromeNotBinary c)
 
 -- 20, then 21: a byte for each check, and each 0 or 1
 unfoldable pub syndromeFault : ℕ → List ℕ → Answer
-syndromeFault checks syndrome =
-    orElse (unless (eqb (length syndrome) checks) SyndromeLength) (firstOf checks (λ c. unless (leb (getD syndrome c 0) 1) (SyndromeNotBinary c)))
+syndromeFault checks syndrome = orElse (unless (eqb (length syndrome) checks) SyndromeLength) (firstOf checks (byteFault syndrome))
 
 -- ---- the single iteration
 
@@ -56,9 +57,13 @@ stepFits edges g gamma l =
     && (eqb (length (l .now .cToV)) edges
     && (eqb (length (l .now .vToC)) edges && (eqb (length (l .now .posterior)) (g .mechanisms) && eqb (length (l .bias)) (g .mechanisms))))
 
--- whether all of a list are finite
+-- whether the element i is finite
+unfoldable pub finiteAt : List Float → ℕ → Bool
+finiteAt xs i = isFinite (getD xs i nan)
+
+-- whether all of a list are
 unfoldable pub allFinite : List Float → Bool
-allFinite xs = every (length xs) (λ i. isFinite (getD xs i nan))
+allFinite xs = every (length xs) (finiteAt xs)
 
 -- 25: the messages, the posterior and the gammas are finite
 unfoldable pub stateFinite : List Float → State → Bool
@@ -73,16 +78,21 @@ stepFault edges prior g alpha gamma syndrome order l =
     (orElse (unless (stepFits edges g gamma l) LentListLength)
     (orElse (namesFault (g .checks) order) (unless (stateFinite gamma (l .now)) StateNotFinite)))))
 
+-- both messages that the i-th of these entries names are finite
+unfoldable pub messageFinite : State → List ℕ → ℕ → Bool
+messageFinite s entries i = finiteAt (s .cToV) (getD entries i 0) && finiteAt (s .vToC) (getD entries i 0)
+
 -- the posterior and all messages of the mechanism v are finite
 unfoldable pub mechanismFinite : Graph → State → ℕ → Bool
-mechanismFinite g s v =
-    let entries = varEntries g v in
-    isFinite (getD (s .posterior) v nan)
-    && every (length entries) (λ i. isFinite (getD (s .cToV) (getD entries i 0) nan) && isFinite (getD (s .vToC) (getD entries i 0) nan))
+mechanismFinite g s v = finiteAt (s .posterior) v && every (length (varEntries g v)) (messageFinite s (varEntries g v))
+
+-- 30 for one mechanism
+unfoldable pub mechanismFault : Graph → State → ℕ → Answer
+mechanismFault g s v = unless (mechanismFinite g s v) (NonFinite v)
 
 -- 30: the first mechanism that has a posterior or a message that is not finite
 unfoldable pub stepEnd : Graph → State → Answer
-stepEnd g s = firstOf (g .mechanisms) (λ v. unless (mechanismFinite g s v) (NonFinite v))
+stepEnd g s = firstOf (g .mechanisms) (mechanismFault g s)
 
 -- past the tests: the state after the step, zeroed on 30, and a zeroed bias
 unfoldable pub stepped : ℕ → Graph → State → StepOutcome

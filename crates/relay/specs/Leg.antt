@@ -18,9 +18,13 @@ use Rattle.relay.specs.Step.{State, state}
 unfoldable pub startLeg : Graph → List Float → List Float → State
 startLeg g prior posterior = state (cleared g) (fromVariables g prior) posterior
 
--- the hard decision: a bit is 1 when its posterior is below 0
+-- a bit is 1 when its posterior is below 0
+unfoldable pub hardBit : Float → ℕ
+hardBit p = cond (lt p zero⁺) 1 0
+
+-- the hard decision
 unfoldable pub hardDecision : List Float → List ℕ
-hardDecision posterior = map (λ p. cond (lt p zero⁺) 1 0) posterior
+hardDecision posterior = map hardBit posterior
 
 -- the parity of the bits that the entries name
 unfoldable pub parity : List ℕ → List ℕ → ℕ
@@ -49,6 +53,10 @@ runLeg step test zero ok k s = leg ok k s
 runLeg step test (suc n) true k s = leg true k s
 runLeg step test (suc n) false k s = let t = step s in runLeg step test n (test (t .posterior)) (suc k) t
 
+-- `f64::from(bit) * prior`
+unfoldable pub cost : Float → ℕ → Float
+cost prior bit = ofInt binary64 (pos bit) *ᶠ prior
+
 -- `correction_weight`: the sum of bit times prior over the variables below n, from -0.0
 unfoldable pub correctionWeight : List Float → List ℕ → ℕ → Float
-correctionWeight prior bits n = turns n (λ v w. w +ᶠ ofInt binary64 (pos (getD bits v 0)) *ᶠ getD prior v nan) zero⁻
+correctionWeight prior bits n = turns n (λ v weight. weight +ᶠ cost (getD prior v nan) (getD bits v 0)) zero⁻

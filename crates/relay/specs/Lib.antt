@@ -5,3 +5,4 @@ pub mod Leg
 pub mod Gammas
 pub mod Decode
 pub mod Calls
+pub mod Marks

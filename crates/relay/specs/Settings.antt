@@ -1,8 +1,8 @@
 -- Relay's settings: the published operating point, and refusals 10 to 19 of document 01 in their order. Definitions only. Assumes nothing.
 use Prim.Native.Nat.{ℕ, _*_}
-use mathlib.Core.Bool.{Bool, true, not, _&&_, _||_}
+use mathlib.Core.Bool.{Bool, _&&_, _||_}
 use mathlib.Core.List.{List}
-use lib.Dec.{eqb, leb, ltb}
+use lib.Dec.{eqb, leb}
 use lib.Ieee.{Float, nan, binary64, ofBits, lt, le}
 use lib.ListN.{length, getD}
 use Rattle.numbers.specs.Floats.{_-ᶠ_, zero⁺, one⁺, isFinite}
@@ -49,6 +49,10 @@ legIterationsGood legs n = leb n 65535 && (leb 1 n || eqb legs 0)
 unfoldable pub intervalGood : Float → Float → Bool
 intervalGood low high = isFinite low && (isFinite high && (isFinite (high -ᶠ low) && le low high))
 
+-- 19 for one gamma of the flat list
+unfoldable pub gammaFault : List Float → ℕ → Answer
+gammaFault gammas i = unless (isFinite (getD gammas i nan)) (GammaNotFinite i)
+
 -- 17, 18 and 19, of an explicit source alone: some set where there are legs; as many gammas as the sets have mechanisms; each finite.
 -- `gammas` is the flat list
 unfoldable pub sourceFault : GammaSource → ℕ → ℕ → List Float → Answer
@@ -56,7 +60,7 @@ sourceFault Seeded legs mechanisms gammas = Done
 sourceFault (Explicit sets) legs mechanisms gammas =
     orElse (unless (leb 1 sets || eqb legs 0) NoGammaSets)
     (orElse (unless (leb sets 65535 && eqb (length gammas) (sets * mechanisms)) GammaSetsLength)
-    (firstOf (length gammas) (λ i. unless (isFinite (getD gammas i nan)) (GammaNotFinite i))))
+    (firstOf (length gammas) (gammaFault gammas)))
 
 -- `validate_config`: 10 to 19
 unfoldable pub settingsFault : Settings → ℕ → List Float → Answer

@@ -79,10 +79,17 @@ updateVariable g bias s v =
     let p = getD bias v nan +ᶠ total (s .cToV) (varEntries g v) in
     state (s .cToV) (written p (s .cToV) (s .vToC) (varEntries g v)) (set (s .posterior) v p)
 
--- `compute_bias`: prior + gamma times (posterior - prior)
+-- a variable's bias: prior + gamma times (posterior - prior)
+unfoldable pub biasOf : Float → Float → Float → Float
+biasOf prior gamma posterior = prior +ᶠ gamma *ᶠ (posterior -ᶠ prior)
+
+-- the first n biases
+unfoldable pub biasesTo : List Float → List Float → List Float → ℕ → List Float
+biasesTo prior gamma posterior n = table n (λ v. biasOf (getD prior v nan) (getD gamma v nan) (getD posterior v nan))
+
+-- `compute_bias`
 unfoldable pub computeBias : List Float → List Float → List Float → List Float
-computeBias prior gamma posterior =
-    table (length prior) (λ v. getD prior v nan +ᶠ getD gamma v nan *ᶠ (getD posterior v nan -ᶠ getD prior v nan))
+computeBias prior gamma posterior = biasesTo prior gamma posterior (length prior)
 
 -- the checks in the order given
 unfoldable pub checkPass : Graph → Float → List ℕ → List ℕ → State → State

@@ -1,4 +1,6 @@
 // Relay-BP over a Tanner graph: its settings and its answers. What they mean stands in specs/.
+mod order;
+
 use refusals::Refusal;
 
 // The order in which messages are passed within an iteration.

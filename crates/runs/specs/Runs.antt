@@ -2,7 +2,7 @@
 -- every test is taken, and the lent lists come in filled with 9. Definitions only. Assumes nothing.
 use Prim.Native.Nat.{ℕ, suc, _*_}
 use mathlib.Core.Path.{_≡_}
-use mathlib.Core.Bool.{Bool, true, false}
+use mathlib.Core.Bool.{true, false}
 use mathlib.Core.List.{List, [], _∷_}
 use mathlib.Core.Option.{some, none}
 use lib.IntN.{pos}
@@ -23,7 +23,6 @@ use Rattle.relay.specs.declared.Schedule.{Schedule}
 use Rattle.relay.specs.declared.Schedule.the-variants.{Flooding, CheckSerial}
 use Rattle.relay.specs.declared.GammaSource.the-variants.{Seeded}
 use Rattle.relay.specs.Leg.{startLeg}
-use Rattle.relay.specs.Decode.{Shot}
 use Rattle.relay.specs.Calls as Calls
 use Rattle.relay.specs.Calls.{iterationCall, decodeInOrder, stepLists, told, tellOf}
 

@@ -1,0 +1,90 @@
+-- `graph::build_sparse` meets its contract: where no test refuses, the model is valid and the lists fit, which is all that building asks; a refusal leaves them. Assumes nothing.
+use mathlib.Core.Path.{sym, _∙_}
+use native.Mathlib.Omega.{arith}
+use borrow.Author.Needs.{needs}
+use Rattle.refusals.proofs.Tests.{done-is}
+use Rattle.graph.specs.Graph.{Graph, graph}
+use Rattle.graph.specs.Model.{graphFits}
+use Rattle.graph.specs.Sound.{Long}
+use Rattle.graph.proofs.SparseTests.{Told, sparse-told, long-told, sparse-done, sparse-refused}
+use Rattle.graph.proofs.build_sparse.Statement.{statement}
+use Rattle.graph.proofs.build_sparse.Tie as tie
+
+-- the lists as they are lent
+abbrev lists : tie.Start → Graph
+lists c = let a = c .args in graph (a .size .checks) (a .size .mechanisms) (a .check-var .now) (a .check-message .now) (a .check-offset .now) (a .var-check .now) (a .var-message .now) (a .var-offset .now)
+
+-- what the tests told
+told : (c : tie.Then1)
+    → let a = c .before .before .before .before .before .before .before .before .before .before .before .before .before .args in
+    Told (a .size .checks) (a .size .mechanisms) (a .size .edges) (a .priors .now) (a .detector-offsets .now) (a .detectors .now) (c .before .before .before .lists-fit .result)
+told c = sparse-told _ _ _ _ _ _ _ (sym (c .before .before .sparse-fault .ensures) ∙ done-is _ (sym (c .before .is-done .ensures) ∙ c .if1 .taken))
+
+-- and of the graph lists
+long : (c : tie.Then1) → Long (c .before .before .before .before .before .before .before .before .before .before .before .before .before .args .size .edges) (lists (c .before .before .before .before .before .before .before .before .before .before .before .before .before))
+unfolding graphFits
+long c = long-told _ (lists (c .before .before .before .before .before .before .before .before .before .before .before .before .before)) (sym (c .before .before .before .lists-fit .ensures) ∙ told c .lengths .fits)
+
+lists-fit-requires : tie.Need-lists-fit-requires
+lists-fit-requires c κs = search needs
+
+sparse-fault-requires : tie.Need-sparse-fault-requires
+sparse-fault-requires c κs = search needs
+
+is-done-requires : tie.Need-is-done-requires
+is-done-requires c κs = search needs
+
+from-detectors-requires : tie.Need-from-detectors-requires
+from-detectors-requires c κs =
+    let t = told (c .before .before .before .before .before .before) in
+    let f = long (c .before .before .before .before .before .before) in
+    let d = t .lengths .dets-many in (
+      t .valid,
+      (
+        (omega (arith, t .checks-few), omega (arith, t .mechanisms-few), omega (arith, d, t .edges-few)),
+        ((f .check-var ∙ sym d, f .check-message ∙ sym d, f .check-offset), (f .var-check ∙ sym d, f .var-message ∙ sym d, f .var-offset)),
+      ),
+    )
+
+same-length : tie.Need-same-length
+same-length c = search needs
+
+same-length-2 : tie.Need-same-length-2
+same-length-2 c = search needs
+
+same-length-3 : tie.Need-same-length-3
+same-length-3 c = search needs
+
+same-length-4 : tie.Need-same-length-4
+same-length-4 c = search needs
+
+same-length-5 : tie.Need-same-length-5
+same-length-5 c = search needs
+
+same-length-6 : tie.Need-same-length-6
+same-length-6 c = search needs
+
+returns : tie.Need-returns
+unfolding graphFits
+returns c = sparse-done _ _ _ _ _ _ (lists (c .before .before .before .before .before .before .before .before .before .before .before .before .before .before .before .before .before .before .before .before .before .before .before .before .before .before .before .before .before .before .before .before)) (c .before .before .before .before .before .before .before .before .before .before .before .before .before .before .before .before .before .before .before .before .before .before .lists-fit .ensures) (c .before .before .before .before .before .before .before .before .before .before .before .before .before .before .before .before .before .before .before .before .before .sparse-fault .ensures) _ (sym (c .before .before .before .before .before .before .before .before .before .before .before .before .before .before .before .before .before .before .before .before .is-done .ensures) ∙ c .before .before .before .before .before .before .before .before .before .before .before .before .before .before .before .before .before .before .before .if1 .taken) (c .before .before .before .before .before .before .before .before .before .before .before .before .from-detectors .ensures)
+
+returns-2 : tie.Need-returns-2
+unfolding graphFits
+returns-2 c = sparse-refused _ _ _ _ _ _ (lists (c .before .before .before .before .before .before .before .before .before .before .before .before .before)) (c .before .before .before .lists-fit .ensures) (c .before .before .sparse-fault .ensures) (sym (c .before .is-done .ensures) ∙ c .if1 .left)
+
+pub build-sparse-spec : {M : Type 1} → statement M
+build-sparse-spec =
+    tie.close
+    (tie.spec
+    lists-fit-requires
+    sparse-fault-requires
+    is-done-requires
+    from-detectors-requires
+    same-length
+    same-length-2
+    same-length-3
+    same-length-4
+    same-length-5
+    same-length-6
+    returns
+    returns-2)

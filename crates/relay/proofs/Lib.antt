@@ -1,0 +1,9 @@
+pub mod All
+pub mod Rearrange
+pub mod Counts
+pub mod Witness
+pub mod Parts
+pub mod Exchange
+pub mod SameOutcome
+pub mod OrderTests
+pub mod OrderWords
