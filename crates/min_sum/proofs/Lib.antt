@@ -3,3 +3,4 @@ pub mod Variables
 pub mod Checks
 pub mod Average
 pub mod Rounds
+pub mod Calls

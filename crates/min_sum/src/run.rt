@@ -1,10 +1,12 @@
 // The run: an iteration with its weight, outer rounds, and the end rule.
+use refusals::Answer;
 ghost use mathlib.Core.Path.{_≡_};
 ghost use mathlib.Core.Bool.{true, false};
 ghost use mathlib.Core.List.{[]};
 ghost use lib.ListN.{length};
 ghost use Rattle.messages_core.specs.Needs.{Walks, walked, ofVariables};
 ghost use Rattle.min_sum.specs.MinSum.{messages, belief, weightOf, turned, round as roundOf, rounds as roundsOf, chosen as chosenOf, chosenTo, minSumBp};
+ghost use Rattle.min_sum.specs.Beliefs.{lists, outcome, ran as ranOf};
 
 // The weight of an iteration: 1 in the very first, else 0.3.
 fn weight(outer: usize, i: usize) -> f64
@@ -330,4 +332,51 @@ pub(crate) fn min_sum_bp(
         ewa_posterior,
         posterior,
     );
+}
+
+// Past the tests: the run, 30 with the first mechanism whose belief is not finite, and zeroed work lists.
+pub(crate) fn ran(
+    n: usize,
+    serial: bool,
+    scale: f64,
+    syndrome: &[u8],
+    priors: &[f64],
+    check_var: &[u32],
+    check_offset: &[u32],
+    var_message: &[u32],
+    var_offset: &[u32],
+    c_to_v: &mut [f64],
+    v_to_c: &mut [f64],
+    ewa_posterior: &mut [f64],
+    posterior: &mut [f64],
+) -> Answer
+    requires { ⌜ Walks (length (now syndrome)) (length (now priors)) (now «check_var») (now «check_offset») ⌝ }
+    requires { ⌜ Walks (length (now priors)) (length (now «check_var»)) (now «var_message») (now «var_offset») ⌝ }
+    requires { ⌜ (length (now «c_to_v») ≡ length (now «check_var»)) × (length (now «v_to_c») ≡ length (now «check_var»)) × (length (now «ewa_posterior») ≡ length (now priors)) ⌝ }
+    requires { ⌜ length (now posterior) ≡ length (now priors) ⌝ }
+    ensures { λ r. ⌜ outcome r (lists (now (posterior .exit)) (now («ewa_posterior» .exit)) (now («c_to_v» .exit)) (now («v_to_c» .exit))) ≡ ranOf (length (now («check_var» .entry))) (walked (length (now (syndrome .entry))) (length (now (priors .entry))) (now («check_var» .entry)) (now («check_offset» .entry)) (now («var_message» .entry)) (now («var_offset» .entry))) (minSumBp (walked (length (now (syndrome .entry))) (length (now (priors .entry))) (now («check_var» .entry)) (now («check_offset» .entry)) (now («var_message» .entry)) (now («var_offset» .entry))) serial scale (now (syndrome .entry)) (now (priors .entry)) n) ⌝ }
+{
+    min_sum_bp(
+        n,
+        serial,
+        scale,
+        syndrome,
+        priors,
+        check_var,
+        check_offset,
+        var_message,
+        var_offset,
+        c_to_v,
+        v_to_c,
+        ewa_posterior,
+        posterior,
+    );
+    messages_core::clear(ewa_posterior);
+    messages_core::clear(c_to_v);
+    messages_core::clear(v_to_c);
+    let a = messages_core::first_not_finite(posterior);
+    if !refusals::is_done(a) {
+        messages_core::clear(posterior);
+    }
+    a
 }
