@@ -95,11 +95,10 @@ module _ (g : Graph) (serial : Bool) (scale : Float) (syndrome : List ℕ) (prio
   one-round n s ewa t h e p = rw (lt-leb 6 n h, div-one) (p ∙ rw e)
 
   -- two rounds
-  pub two-rounds : (n : ℕ) (s : Messages) (ewa : List Float) (t u : Belief) → 6 ≤ n → ewa ≡ prior
-      → t ≡ round g serial scale syndrome prior (n / 2) 0 (belief s ewa) → u ≡ round g serial scale syndrome prior (n / 2) 1 t
-      → u ≡ rounds g serial scale syndrome prior n
+  pub two-rounds : (n a b : ℕ) (s : Messages) (ewa : List Float) (u : Belief) → 6 ≤ n → ewa ≡ prior → a ≡ n / 2 → b ≡ n / 2
+      → u ≡ round g serial scale syndrome prior b 1 (round g serial scale syndrome prior a 0 (belief s ewa)) → u ≡ rounds g serial scale syndrome prior n
   unfolding rounds round roundTo startRound
-  two-rounds n s ewa t u h e p q = rw (le-leb 6 n h) (q ∙ rw (p, e))
+  two-rounds n a b s ewa u h e p q t = rw (le-leb 6 n h) (t ∙ rw (p, q, e))
 
 -- both above zero, or both not, fails: the belief stays
 pub chosen-apart : (b raw : Float) → not (Bool·beq (lt zero⁺ b) (lt zero⁺ raw)) ≡ true → b ≡ chosen b raw

@@ -3,6 +3,7 @@ use refusals::Answer;
 ghost use mathlib.Core.Path.{_≡_};
 ghost use mathlib.Core.Bool.{true, false};
 ghost use mathlib.Core.List.{[]};
+ghost use Prim.Native.Nat.{_/_};
 ghost use lib.ListN.{length};
 ghost use Rattle.messages_core.specs.Needs.{Walks, walked, ofVariables};
 ghost use Rattle.min_sum.specs.MinSum.{messages, belief, weightOf, turned, round as roundOf, rounds as roundsOf, chosen as chosenOf, chosenTo, minSumBp};
@@ -183,6 +184,75 @@ fn round(
     }
 }
 
+// How many iterations each of two outer rounds has.
+struct Inner {
+    first: usize,
+    second: usize,
+}
+
+// The whole part of n / 2 in both: 7 are 3 and 3.
+fn halves(n: usize) -> Inner
+    ensures { λ r. ⌜ (r .first ≡ n / 2) × (r .second ≡ n / 2) ⌝ }
+{
+    Inner {
+        first: n / 2,
+        second: n / 2,
+    }
+}
+
+// Two outer rounds.
+fn two_rounds(
+    first: usize,
+    second: usize,
+    serial: bool,
+    scale: f64,
+    syndrome: &[u8],
+    priors: &[f64],
+    check_var: &[u32],
+    check_offset: &[u32],
+    var_message: &[u32],
+    var_offset: &[u32],
+    c_to_v: &mut [f64],
+    v_to_c: &mut [f64],
+    ewa_posterior: &mut [f64],
+)
+    requires { ⌜ Walks (length (now syndrome)) (length (now priors)) (now «check_var») (now «check_offset») ⌝ }
+    requires { ⌜ Walks (length (now priors)) (length (now «check_var»)) (now «var_message») (now «var_offset») ⌝ }
+    requires { ⌜ (length (now «c_to_v») ≡ length (now «check_var»)) × (length (now «v_to_c») ≡ length (now «check_var»)) × (length (now «ewa_posterior») ≡ length (now priors)) ⌝ }
+    ensures { λ _. ⌜ belief (messages (now («c_to_v» .exit)) (now («v_to_c» .exit))) (now («ewa_posterior» .exit)) ≡ roundOf (walked (length (now (syndrome .entry))) (length (now (priors .entry))) (now («check_var» .entry)) (now («check_offset» .entry)) (now («var_message» .entry)) (now («var_offset» .entry))) serial scale (now (syndrome .entry)) (now (priors .entry)) second 1 (roundOf (walked (length (now (syndrome .entry))) (length (now (priors .entry))) (now («check_var» .entry)) (now («check_offset» .entry)) (now («var_message» .entry)) (now («var_offset» .entry))) serial scale (now (syndrome .entry)) (now (priors .entry)) first 0 (belief (messages (now («c_to_v» .entry)) (now («v_to_c» .entry))) (now («ewa_posterior» .entry)))) ⌝ }
+{
+    round(
+        first,
+        0,
+        serial,
+        scale,
+        syndrome,
+        priors,
+        check_var,
+        check_offset,
+        var_message,
+        var_offset,
+        c_to_v,
+        v_to_c,
+        ewa_posterior,
+    );
+    round(
+        second,
+        1,
+        serial,
+        scale,
+        syndrome,
+        priors,
+        check_var,
+        check_offset,
+        var_message,
+        var_offset,
+        c_to_v,
+        v_to_c,
+        ewa_posterior,
+    );
+}
+
 // Two outer rounds of n / 2 from 6 on, else one of n.
 fn rounds(
     n: usize,
@@ -222,24 +292,10 @@ fn rounds(
         );
         return;
     }
-    round(
-        n / 2,
-        0,
-        serial,
-        scale,
-        syndrome,
-        priors,
-        check_var,
-        check_offset,
-        var_message,
-        var_offset,
-        c_to_v,
-        v_to_c,
-        ewa_posterior,
-    );
-    round(
-        n / 2,
-        1,
+    let h = halves(n);
+    two_rounds(
+        h.first,
+        h.second,
         serial,
         scale,
         syndrome,

@@ -23,14 +23,11 @@ same-length-3 c = search needs
 returns : tie.Need-returns
 returns c = one-round _ _ _ _ _ _ _ _ _ (c .before .before .before .before .before .before .before .before .before .before .if1 .taken) (c .before .before .before .before .before .before .before .before .before .before .before .before .before .copy .ensures) (c .before .before .before .before .before .before .round .ensures)
 
-round-requires-2 : tie.Need-round-requires-2
-round-requires-2 c κs = let p = c .before .before .before .before .before .before .before .before .before .before .before .before .before .before .before .before .before .pre in (p .0, (p .1 .0, (p .1 .1 .0, p .1 .1 .1, c .before .before .before .before .before .before .copy .kept .1 .0 ∙ p .1 .1 .2)))
+halves-requires : tie.Need-halves-requires
+halves-requires c κs = search needs
 
-round-requires-3 : tie.Need-round-requires-3
-round-requires-3 c κs =
-    let p = c .before .before .before .before .before .before .before .before .before .before .before .before .before .before .before .before .before .before .before .before .before .before .before .before .before .before .before .pre in
-    let k = c .before .before .before .before .before .before .before .before .before .round2 .kept .1 .1 .1 .1 .1 .1 .1 .1 .1 .1 in
-    (p .0, (p .1 .0, (k .0 ∙ p .1 .1 .0, k .1 .0 ∙ p .1 .1 .1, k .1 .1 .0 ∙ c .before .before .before .before .before .before .before .before .before .before .before .before .before .before .before .before .copy .kept .1 .0 ∙ p .1 .1 .2)))
+two-rounds-requires : tie.Need-two-rounds-requires
+two-rounds-requires c κs = let p = c .before .before .before .before .before .before .before .before .before .before .before .before .before .before .before .before .before .before .pre in (p .0, (p .1 .0, (p .1 .1 .0, p .1 .1 .1, c .before .before .before .before .before .before .before .copy .kept .1 .0 ∙ p .1 .1 .2)))
 
 same-length-4 : tie.Need-same-length-4
 same-length-4 c = search needs
@@ -42,7 +39,9 @@ same-length-6 : tie.Need-same-length-6
 same-length-6 c = search needs
 
 returns-2 : tie.Need-returns-2
-returns-2 c = two-rounds _ _ _ _ _ _ _ _ _ _ (c .before .before .before .before .before .before .before .before .before .before .before .before .before .before .before .before .before .before .before .before .if1 .left) (c .before .before .before .before .before .before .before .before .before .before .before .before .before .before .before .before .before .before .before .before .before .before .before .copy .ensures) (c .before .before .before .before .before .before .before .before .before .before .before .before .before .before .before .before .round2 .ensures) (c .before .before .before .before .before .before .round3 .ensures)
+returns-2 c =
+    let h = c .before .before .before .before .before .before .before .before .before .before .halves .ensures in
+    two-rounds _ _ _ _ _ _ _ _ _ _ _ (c .before .before .before .before .before .before .before .before .before .before .before .if1 .left) (c .before .before .before .before .before .before .before .before .before .before .before .before .before .before .copy .ensures) (h .0) (h .1) (c .before .before .before .before .before .before .two-rounds .ensures)
 
 pub rounds-spec : {M : Type 1} → statement M
 rounds-spec =
@@ -54,8 +53,8 @@ rounds-spec =
     same-length-2
     same-length-3
     returns
-    round-requires-2
-    round-requires-3
+    halves-requires
+    two-rounds-requires
     same-length-4
     same-length-5
     same-length-6
