@@ -4,3 +4,4 @@ pub mod Checks
 pub mod Average
 pub mod Rounds
 pub mod Calls
+pub mod Theorems
