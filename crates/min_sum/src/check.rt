@@ -2,7 +2,6 @@
 ghost use mathlib.Core.Path.{_≡_};
 ghost use Prim.Native.Nat.{_≤_};
 ghost use lib.ListN.{length};
-ghost use Rattle.numbers.specs.Floats.{_*ᶠ_, isNegative};
 ghost use Rattle.numbers.specs.Loops.{part, spliced};
 ghost use Rattle.graph.specs.Messages.{startScan, scanOf};
 ghost use Rattle.min_sum.specs.MinSum.{noPosition, flippedBy, scanned as scannedOf, scan as scanTo, signWithout, sent as sentOf, checkMessages};
@@ -89,18 +88,11 @@ fn scan_check(odd: bool, messages: &[f64]) -> Scan
     s
 }
 
-// Whether total sign times message is negative: negative zero counts.
-fn is_turned(total_sign: f64, message: f64) -> bool
-    ensures { λ r. ⌜ r ≡ isNegative («total_sign» *ᶠ message) ⌝ }
-{
-    numbers::is_negative(total_sign * message)
-}
-
 // `total_sign.copysign(total_sign * message)`, where the total sign is 1 or -1.
 fn sign_without(total_sign: f64, message: f64) -> f64
     ensures { λ r. ⌜ r ≡ signWithout «total_sign» message ⌝ }
 {
-    if is_turned(total_sign, message) {
+    if numbers::is_negative(total_sign * message) {
         return -1.0;
     }
     1.0

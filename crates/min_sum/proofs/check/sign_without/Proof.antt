@@ -5,16 +5,16 @@ use Rattle.min_sum.specs.MinSum.{signWithout}
 use Rattle.min_sum.proofs.check.sign_without.Statement.{statement}
 use Rattle.min_sum.proofs.check.sign_without.Tie as tie
 
-is-turned-requires : tie.Need-is-turned-requires
-is-turned-requires c κs = search needs
+is-negative-requires : tie.Need-is-negative-requires
+is-negative-requires c κs = search needs
 
 returns : tie.Need-returns
 unfolding signWithout ofBits neg
-returns c = rw (← c .before .is-turned .ensures, c .if1 .taken)
+returns c = rw (← c .before .is-negative .ensures, c .if1 .taken)
 
 returns-2 : tie.Need-returns-2
 unfolding signWithout ofBits
-returns-2 c = rw (← c .before .is-turned .ensures, c .if1 .left)
+returns-2 c = rw (← c .before .is-negative .ensures, c .if1 .left)
 
 pub sign-without-spec : {M : Type 1} → statement M
-sign-without-spec = tie.close (tie.spec is-turned-requires returns returns-2)
+sign-without-spec = tie.close (tie.spec is-negative-requires returns returns-2)
