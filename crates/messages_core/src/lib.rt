@@ -10,7 +10,7 @@ ghost use lib.ListN.{length, getD, replicate};
 ghost use Rattle.numbers.specs.Floats.{zero⁺, isFinite};
 ghost use Rattle.refusals.specs.declared.Refusal.the-variants.{NonFinite};
 ghost use Rattle.refusals.specs.Tests.{unless, firstOf};
-ghost use Rattle.graph.specs.Messages.{total as totalOf, valueFault};
+ghost use Rattle.graph.specs.Messages.{total as totalOf, scanOf, startScan, valueFault};
 ghost use Rattle.messages_core.specs.Needs.{Entries};
 
 // An entry of a list of indices.
@@ -19,6 +19,35 @@ pub fn at(xs: &[u32], i: usize) -> usize
     ensures { λ r. ⌜ r ≡ getD (now (xs .entry)) i 0 ⌝ }
 {
     xs[i] as usize
+}
+
+// What the first pass over a check's messages knows: the total sign, the least and the next magnitude, and whose the least is.
+pub struct Scan {
+    pub total_sign: f64,
+    pub min1: f64,
+    pub min2: f64,
+    pub least: usize,
+}
+
+// Before the first message: the least is nobody's.
+pub fn start_scan(odd: bool, nobody: usize) -> Scan
+    ensures { λ r. ⌜ scanOf (r .«total_sign») (r .min1) (r .min2) (r .least) ≡ startScan odd nobody ⌝ }
+{
+    let top = numbers::infinity();
+    if odd {
+        return Scan {
+            total_sign: -1.0,
+            min1: top,
+            min2: top,
+            least: nobody,
+        };
+    }
+    Scan {
+        total_sign: 1.0,
+        min1: top,
+        min2: top,
+        least: nobody,
+    }
 }
 
 // The sum of the messages that the entries name, in their order, from -0.0.

@@ -95,3 +95,22 @@ first-refuse f i n a b l h e d t = e ∙ sym (first-stop f i n l h (ap isDone (s
 -- and not taken
 pub first-go : (f : ℕ → Answer) (i : ℕ) (a : Answer) (b : Bool) → firstOf i f ≡ Done → a ≡ f i → b ≡ isDone a → not b ≡ false → firstOf (i + 1) f ≡ Done
 first-go f i a b h e d t = first-turn f i h (sym e ∙ done-is a (sym d ∙ not-false b t))
+
+-- ---- a loop of tests, each of one bool: `if !passed { return Refused(r); }`
+
+module _ (p : ℕ → Bool) (r : ℕ → Refusal) where
+  -- the i-th test
+  abbrev Test : ℕ → Answer
+  Test i = unless (p i) (r i)
+
+  -- taken
+  pub unless-refuse : (i n : ℕ) (b : Bool) → i < n → firstOf i Test ≡ Done → b ≡ p i → not b ≡ true → Refused (r i) ≡ firstOf n Test
+  unfolding unless
+  unless-refuse i n b l h e t =
+      let bad : Test i ≡ Refused (r i) = rw (sym e ∙ not-true b t) in
+      sym (first-stop Test i n l h (ap isDone bad) ∙ bad)
+
+  -- and not taken
+  pub unless-go : (i : ℕ) (b : Bool) → firstOf i Test ≡ Done → b ≡ p i → not b ≡ false → firstOf (i + 1) Test ≡ Done
+  unfolding unless
+  unless-go i b h e t = first-turn Test i h (rw (sym e ∙ not-false b t))

@@ -7,3 +7,4 @@ pub mod Exchange
 pub mod SameOutcome
 pub mod OrderTests
 pub mod OrderWords
+pub mod Variables

@@ -49,6 +49,10 @@ legIterationsGood legs n = leb n 65535 && (leb 1 n || eqb legs 0)
 unfoldable pub intervalGood : Float → Float → Bool
 intervalGood low high = isFinite low && (isFinite high && (isFinite (high -ᶠ low) && le low high))
 
+-- 18: at most 65,535 sets, and as many gammas as the sets have mechanisms
+unfoldable pub setsGood : ℕ → ℕ → ℕ → Bool
+setsGood sets mechanisms gammas = leb sets 65535 && eqb gammas (sets * mechanisms)
+
 -- 19 for one gamma of the flat list
 unfoldable pub gammaFault : List Float → ℕ → Answer
 gammaFault gammas i = unless (isFinite (getD gammas i nan)) (GammaNotFinite i)
@@ -59,7 +63,7 @@ unfoldable pub sourceFault : GammaSource → ℕ → ℕ → List Float → Answ
 sourceFault Seeded legs mechanisms gammas = Done
 sourceFault (Explicit sets) legs mechanisms gammas =
     orElse (unless (leb 1 sets || eqb legs 0) NoGammaSets)
-    (orElse (unless (leb sets 65535 && eqb (length gammas) (sets * mechanisms)) GammaSetsLength)
+    (orElse (unless (setsGood sets mechanisms (length gammas)) GammaSetsLength)
     (firstOf (length gammas) (gammaFault gammas)))
 
 -- `validate_config`: 10 to 19

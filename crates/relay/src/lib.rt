@@ -1,5 +1,8 @@
 // Relay-BP over a Tanner graph: its settings and its answers. What they mean stands in specs/.
+mod check;
+mod config;
 mod order;
+mod variable;
 
 use refusals::Refusal;
 

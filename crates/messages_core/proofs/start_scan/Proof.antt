@@ -1,8 +1,8 @@
--- `min_sum::check::start_scan` meets its contract: each arm is one case of the definition. Assumes nothing.
+-- `messages_core::start_scan` meets its contract: each arm is one case of the definition. Assumes nothing.
 use lib.Ieee.{ofBits, neg}
 use borrow.Author.Needs.{needs}
-use Rattle.min_sum.proofs.check.start_scan.Statement.{statement}
-use Rattle.min_sum.proofs.check.start_scan.Tie as tie
+use Rattle.messages_core.proofs.start_scan.Statement.{statement}
+use Rattle.messages_core.proofs.start_scan.Tie as tie
 
 infinity-requires : tie.Need-infinity-requires
 infinity-requires c κs = search needs
