@@ -9,3 +9,4 @@ pub mod OrderTests
 pub mod OrderWords
 pub mod Variables
 pub mod Passes
+pub mod Legs
