@@ -8,7 +8,7 @@ use lib.ListN.{length}
 use Rattle.graph.specs.Graph.{Graph, mechanismsOf, checksOf, entries, graphOf, told}
 use Rattle.graph.specs.Lists.{joined, offsets, places}
 use Rattle.graph.specs.Model.{isGraph}
-use Rattle.graph.specs.Sound.{Offsets as Cut}
+use Rattle.graph.specs.Sound as Sound
 use Rattle.graph.proofs.Built.{graph-offsets, graph-keys}
 use Rattle.graph.proofs.Cuts.{offsets-rise}
 use Rattle.graph.proofs.Passes.{graph-var-cut}
@@ -17,7 +17,7 @@ use Rattle.graph.proofs.Slots.{length-bucket, bucket-held}
 use Rattle.messages_core.specs.Needs.{Offsets, Walks}
 
 -- offsets that cut n places give each row a part of them
-cut-offsets : (rows n : ℕ) (off : List ℕ) → Cut rows n off → Offsets rows n off
+cut-offsets : (rows n : ℕ) (off : List ℕ) → Sound.Offsets rows n off → Offsets rows n off
 cut-offsets rows n off o =
     record { many = o .many; rises = o .rises; ends = λ r h. omega (arith, o .ends, offsets-rise rows n off o (suc r) rows h (omega arith)) }
 

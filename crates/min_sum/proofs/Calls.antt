@@ -55,12 +55,14 @@ module _ (edges : ℕ) (g : Graph) (m out w c v : List Float) (a : Answer) (b : 
 -- ---- a run reads four of the six lists
 
 module _ (checks mechanisms : ℕ) (cv cm co vc vm vo : List ℕ) (scale : Float) (syndrome : List ℕ) (prior : List Float) (n : ℕ) where
+  -- the beliefs of the whole graph are those of the four
   same-run : (serial : Bool)
       → minSumBp (walked checks mechanisms cv co vm vo) serial scale syndrome prior n ≡ minSumBp (graph checks mechanisms cv cm co vc vm vo) serial scale syndrome prior n
   unfolding minSumBp chosenTo rounds round roundTo startRound cleared fromVariables turn turned averaged averagedTo rawPosterior updateVariable updateCheck skipped parallelCheck checksTo variablesTo parallelIteration serialCheck serialTo serialIteration
   same-run true = refl
   same-run false = refl
 
+  -- and so is all that a run leaves
   same-ran : (edges : ℕ) (serial : Bool)
       → ran edges (walked checks mechanisms cv co vm vo) (minSumBp (walked checks mechanisms cv co vm vo) serial scale syndrome prior n)
       ≡ ran edges (graph checks mechanisms cv cm co vc vm vo) (minSumBp (graph checks mechanisms cv cm co vc vm vo) serial scale syndrome prior n)
@@ -98,6 +100,7 @@ pub record Told (edges checks mechanisms : ℕ) (cv co vm vo : List ℕ) (prior 
   pub v-many : length (l .vToC) ≡ length cv
 
 module _ (edges checks mechanisms : ℕ) (cv cm co vc vm vo : List ℕ) (prior : List Float) (syndrome : List ℕ) (iterations : ℕ) (l : Lists) where
+  -- where none refuses, they tell all that the run asks
   pub told : (a : Answer) (b : Bool) → a ≡ beliefsFault edges prior (graph checks mechanisms cv cm co vc vm vo) syndrome iterations l → b ≡ isDone a
       → not b ≡ false → Told edges checks mechanisms cv co vm vo prior syndrome l
   unfolding beliefsFault listsFit
