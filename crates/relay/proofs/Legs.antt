@@ -1,7 +1,7 @@
 -- One turn of each loop of a leg, as the code has it. Assumes nothing.
 use mathlib.Core.Path.{_≡_, refl, sym, ap, _∙_}
 use mathlib.Core.Bool.{Bool, true, false}
-use mathlib.Core.List.{List, [], _∷_, map, map-append, foldl}
+use mathlib.Core.List.{List, [], _∷_, map, map-append}
 use Prim.Native.Nat.{ℕ, zero, suc, _+_, _-_, _<_, _≤_}
 use native.Mathlib.Nat.{sub-zero, sub-eq-zero-of-le}
 use native.Mathlib.Numerals.{add-one}
@@ -12,11 +12,11 @@ use lib.Ieee.{Float, nan}
 use lib.ListN.{length, getD, take, set}
 use lib.Seq.{take-suc, take-suc-set, take-all}
 use Rattle.numbers.specs.Floats.{_+ᶠ_}
-use Rattle.numbers.specs.Loops.{part, every}
+use Rattle.numbers.specs.Loops.{part}
 use Rattle.numbers.proofs.Loops.{foldl-take}
 use Rattle.messages_core.specs.Needs.{ofChecks}
 use Rattle.relay.specs.Step.{State}
-use Rattle.relay.specs.Leg.{Leg, leg, hardBit, hardDecision, parity, matches, satisfied, cost, correctionWeight, runLeg}
+use Rattle.relay.specs.Leg.{leg, hardBit, hardDecision, parity, matches, cost, correctionWeight, runLeg}
 
 -- the weight, one variable further
 pub weight-turn : (prior : List Float) (bits : List ℕ) (v : ℕ) (w x : Float) → w ≡ correctionWeight prior bits v → x ≡ cost (getD prior v nan) (getD bits v 0)

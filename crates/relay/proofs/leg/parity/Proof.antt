@@ -1,7 +1,7 @@
 -- `relay::leg::parity` meets its contract. The invariant: the parity is that of the entries passed.
 -- Assumes nothing.
 use mathlib.Core.Path.{_≡_, refl}
-use Prim.Native.Nat.{_≤_, _<_, _-_}
+use Prim.Native.Nat.{_≤_, _-_}
 use native.Mathlib.Omega.{arith}
 use lib.ListN.{length, take}
 use Rattle.relay.specs.Leg.{parity}
