@@ -10,3 +10,4 @@ pub mod OrderWords
 pub mod Variables
 pub mod Passes
 pub mod Legs
+pub mod AnyOrder
