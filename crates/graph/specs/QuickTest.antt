@@ -6,7 +6,7 @@ use mathlib.Core.List.{List}
 use lib.Dec.{eqb, leb, ltb}
 use lib.ListN.{length, getD}
 use Rattle.numbers.specs.Loops.{every, row}
-use Rattle.graph.specs.Graph.{Graph, checkEntries, varEntries}
+use Rattle.graph.specs.Graph.{Graph, varEntries}
 use Rattle.graph.specs.Model.{offsetsGood}
 
 -- the least that may stand at i: one more than what stands before it

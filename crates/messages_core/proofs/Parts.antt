@@ -1,7 +1,7 @@
 -- The part that offsets give to a row: it lies within the list, and its entries name what the list's do. Assumes nothing.
 use mathlib.Core.Path.{_≡_}
 use mathlib.Core.List.{List}
-use Prim.Native.Nat.{ℕ, suc, _+_, _-_, _<_, _≤_}
+use Prim.Native.Nat.{ℕ, _+_, _-_, _<_, _≤_}
 use native.Mathlib.Numerals.{add-one}
 use native.Mathlib.Omega.{arith}
 use lib.ListN.{length, getD}
@@ -29,3 +29,7 @@ walks-along rows n m entries off e w = rw e at w
 -- as many rows and as many names
 pub walks-both : (rows rows′ n m : ℕ) (entries off : List ℕ) → rows ≡ rows′ → n ≡ m → Walks rows n entries off → Walks rows′ m entries off
 walks-both rows rows′ n m entries off r e w = rw (r, e) at w
+
+-- the same of entries
+pub entries-along : (n m : ℕ) (xs : List ℕ) → n ≡ m → Entries n xs → Entries m xs
+entries-along n m xs e h = rw e at h

@@ -42,3 +42,8 @@ from-turn values out vars i v h k e s =
 pub from-variables : (g : Graph) (values : List Float) → map (λ v. getD values v nan) (g .checkVar) ≡ fromVariables g values
 unfolding fromVariables
 from-variables g values = refl
+
+-- a copy, one further
+pub copy-turn : (from to : List Float) (i : ℕ) → i < length from → i < length to → take i to ≡ take i from
+    → take (i + 1) (set to i (getD from i nan)) ≡ take (i + 1) from
+copy-turn from to i h k s = rw (add-one, take-suc-set, k, s) (sym (take-suc from i nan h))

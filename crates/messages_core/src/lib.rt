@@ -1,12 +1,16 @@
 // What min-sum and Relay do alike with messages, one to an edge. Inner functions for these two crates: they ask that entries name something and that
 // lists fit, which a graph that has passed its tests grants.
+use refusals::Answer;
+use refusals::Refusal;
 ghost use mathlib.Core.Path.{_≡_};
 ghost use mathlib.Core.List.{map};
 ghost use Prim.Native.Nat.{_<_};
 ghost use lib.Ieee.{nan};
 ghost use lib.ListN.{length, getD, replicate};
-ghost use Rattle.numbers.specs.Floats.{zero⁺};
-ghost use Rattle.graph.specs.Messages.{total as totalOf, scanOf, startScan};
+ghost use Rattle.numbers.specs.Floats.{zero⁺, isFinite};
+ghost use Rattle.refusals.specs.declared.Refusal.the-variants.{NonFinite};
+ghost use Rattle.refusals.specs.Tests.{unless, firstOf};
+ghost use Rattle.graph.specs.Messages.{total as totalOf, scanOf, startScan, valueFault};
 ghost use Rattle.messages_core.specs.Needs.{Entries};
 
 // An entry of a list of indices.
@@ -84,4 +88,41 @@ pub fn from_variables(check_var: &[u32], values: &[f64], v_to_c: &mut [f64])
         v_to_c[i] = values[v];
         i += 1;
     }
+}
+
+// `to.copy_from_slice(from)`.
+pub fn copy(from: &[f64], to: &mut [f64])
+    requires { ⌜ length (now to) ≡ length (now from) ⌝ }
+    ensures { λ _. ⌜ now (to .exit) ≡ now (from .entry) ⌝ }
+{
+    let mut i = 0;
+    while i < from.len() {
+        to[i] = from[i];
+        i += 1;
+    }
+}
+
+// 30 for one mechanism.
+fn value_fault(v: usize, value: f64) -> Answer
+    ensures { λ r. ⌜ r ≡ unless (isFinite value) (NonFinite v) ⌝ }
+{
+    if numbers::is_finite(value) {
+        return Answer::Done;
+    }
+    Answer::Refused(Refusal::NonFinite(v))
+}
+
+// 30: the first mechanism whose value is not finite.
+pub fn first_not_finite(values: &[f64]) -> Answer
+    ensures { λ r. ⌜ r ≡ firstOf (length (now (values .entry))) (valueFault (now (values .entry))) ⌝ }
+{
+    let mut v = 0;
+    while v < values.len() {
+        let a = value_fault(v, values[v]);
+        if !refusals::is_done(a) {
+            return a;
+        }
+        v += 1;
+    }
+    Answer::Done
 }

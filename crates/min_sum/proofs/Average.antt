@@ -1,15 +1,15 @@
 -- One turn of the loops over all variables, as the code has it: their messages, and the running posterior, whose elements passed are new and whose others
 -- are old. Assumes nothing.
-use mathlib.Core.Path.{_≡_, refl, sym, ap, _∙_}
+use mathlib.Core.Path.{_≡_, sym, ap, _∙_}
 use mathlib.Core.List.{List}
-use Prim.Native.Nat.{ℕ, suc, _+_, _<_, _≤_}
+use Prim.Native.Nat.{ℕ, _+_, _<_, _≤_}
 use native.Mathlib.Numerals.{add-one}
 use native.Mathlib.Omega.{arith}
 use lib.Ieee.{Float, nan}
 use lib.ListN.{length, getD, take, drop, set}
 use lib.Seq.{take-all, take-suc-set, drop-set-lt, drop-drop, getD-drop}
 use Rattle.graph.specs.Graph.{Graph}
-use Rattle.min_sum.specs.MinSum.{Messages, messages, rawPosterior, updateVariable, variablesTo, mixed, averagedTo, averaged}
+use Rattle.min_sum.specs.MinSum.{Messages, rawPosterior, updateVariable, variablesTo, mixed, averagedTo, averaged}
 
 -- one variable further
 pub variables-further : (g : Graph) (prior : List Float) (s t u : Messages) (v : ℕ) → t ≡ variablesTo g prior s v → u ≡ updateVariable g prior t v

@@ -2,3 +2,6 @@
 pub mod Variables
 pub mod Checks
 pub mod Average
+pub mod Rounds
+pub mod Calls
+pub mod Theorems

@@ -1,7 +1,7 @@
 -- One turn of each loop over a variable's entries or over variables, as the code has it. Assumes nothing.
-use mathlib.Core.Path.{_≡_, refl, sym, ap, _∙_}
-use mathlib.Core.List.{List, [], foldl}
-use Prim.Native.Nat.{ℕ, suc, _+_, _<_, _≤_}
+use mathlib.Core.Path.{_≡_, sym}
+use mathlib.Core.List.{List, foldl}
+use Prim.Native.Nat.{ℕ, _+_, _<_}
 use native.Mathlib.Numerals.{add-one}
 use lib.Ieee.{Float, nan}
 use lib.ListN.{length, getD, take, set}
@@ -30,11 +30,6 @@ pub sum-is : (n : ℕ) (msgs off : List ℕ) (prior cToV vToC : List Float) (v a
     → sum ≡ getD prior v nan +ᶠ total cToV (part a e msgs) → sum ≡ rawPosterior (ofVariables n msgs off) prior (messages cToV vToC) v
 unfolding rawPosterior
 sum-is n msgs off prior cToV vToC v a e sum p q r = rw (r, p, q, add-one)
-
--- the same with any messages to checks: it does not read them
-pub raw-any : (g : Graph) (prior cToV u w : List Float) (v : ℕ) → rawPosterior g prior (messages cToV u) v ≡ rawPosterior g prior (messages cToV w) v
-unfolding rawPosterior
-raw-any g prior cToV u w v = refl
 
 -- the update of a variable, from the part of the entries as the code reads it
 pub update-is : (n : ℕ) (msgs off : List ℕ) (prior cToV vToC out : List Float) (v a e : ℕ) (sum : Float) → a ≡ getD off v 0 → e ≡ getD off (v + 1) 0

@@ -1,39 +1,12 @@
 // One check, over its own messages: a pass that finds the total sign and the two least magnitudes, and a pass that sends.
+use messages_core::Scan;
+use messages_core::start_scan;
 ghost use mathlib.Core.Path.{_≡_};
 ghost use Prim.Native.Nat.{_≤_};
 ghost use lib.ListN.{length};
 ghost use Rattle.numbers.specs.Loops.{part, spliced};
-ghost use Rattle.graph.specs.Messages.{startScan, scanOf};
-ghost use Rattle.min_sum.specs.MinSum.{noPosition, flippedBy, scanned as scannedOf, scan as scanTo, signWithout, sent as sentOf, checkMessages};
-
-// What the first pass knows: the total sign, the least and the next magnitude, and where the least stands.
-pub(crate) struct Scan {
-    pub(crate) total_sign: f64,
-    pub(crate) min1: f64,
-    pub(crate) min2: f64,
-    pub(crate) least: usize,
-}
-
-// Before the first message.
-fn start_scan(odd: bool) -> Scan
-    ensures { λ r. ⌜ scanOf (r .«total_sign») (r .min1) (r .min2) (r .least) ≡ startScan odd noPosition ⌝ }
-{
-    let top = numbers::infinity();
-    if odd {
-        return Scan {
-            total_sign: -1.0,
-            min1: top,
-            min2: top,
-            least: 18446744073709551615,
-        };
-    }
-    Scan {
-        total_sign: 1.0,
-        min1: top,
-        min2: top,
-        least: 18446744073709551615,
-    }
-}
+ghost use Rattle.graph.specs.Messages.{scanOf};
+ghost use Rattle.min_sum.specs.MinSum.{flippedBy, scanned as scannedOf, scan as scanTo, signWithout, sent as sentOf, checkMessages};
 
 // -sign below zero, else sign.
 fn flipped(sign: f64, message: f64) -> f64
@@ -79,7 +52,7 @@ fn scanned(s: Scan, position: usize, message: f64) -> Scan
 fn scan_check(odd: bool, messages: &[f64]) -> Scan
     ensures { λ r. ⌜ scanOf (r .«total_sign») (r .min1) (r .min2) (r .least) ≡ scanTo odd (now (messages .entry)) (length (now (messages .entry))) ⌝ }
 {
-    let mut s = start_scan(odd);
+    let mut s = start_scan(odd, 18446744073709551615);
     let mut i = 0;
     while i < messages.len() {
         s = scanned(s, i, messages[i]);

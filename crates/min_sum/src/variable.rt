@@ -2,8 +2,7 @@
 ghost use mathlib.Core.Path.{_≡_};
 ghost use mathlib.Core.List.{[], foldl};
 ghost use Prim.Native.Nat.{_<_};
-ghost use lib.Ieee.{nan};
-ghost use lib.ListN.{length, getD};
+ghost use lib.ListN.{length};
 ghost use Rattle.numbers.specs.Floats.{_+ᶠ_};
 ghost use Rattle.graph.specs.Messages.{total};
 ghost use Rattle.messages_core.specs.Needs.{Entries, Walks, ofVariables};

@@ -9,3 +9,5 @@ pub mod OrderTests
 pub mod OrderWords
 pub mod Variables
 pub mod Passes
+pub mod Legs
+pub mod AnyOrder

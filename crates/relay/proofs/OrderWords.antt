@@ -18,7 +18,7 @@ use Rattle.graph.specs.Lists.{has}
 use Rattle.graph.specs.Graph.{Graph, checkEntries}
 use Rattle.relay.specs.declared.Schedule.{Schedule}
 use Rattle.relay.specs.declared.Schedule.the-variants.{Flooding, CheckSerial}
-use Rattle.relay.specs.Order.{upto, count, NamesOnce, namesOnce, anyOf, shares, above, late, exchanged, exchangeFault, KeepsOrder, FirstLate}
+use Rattle.relay.specs.Order.{upto, count, NamesOnce, anyOf, shares, above, late, exchanged, exchangeFault, KeepsOrder, FirstLate}
 use Rattle.relay.proofs.All.{All, all-places, all-at, any-none}
 use Rattle.relay.proofs.Counts.{count-same, count-other, count-insert}
 use Rattle.relay.proofs.OrderTests.{any-false, any-same, any-swap, exchange-turn, exchange-found, exchange-done}

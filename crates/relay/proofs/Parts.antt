@@ -1,13 +1,13 @@
 -- A place within or outside a part of a list, and parts that do not meet: a store outside a part leaves it, and two parts may be replaced in either order.
 -- Assumes nothing.
-use Prim.Native.Nat.{ℕ, zero, suc, _+_, _-_, _<_, _≤_}
-use mathlib.Core.Path.{_≡_, refl, sym, _∙_, ap}
-use mathlib.Core.List.{List, [], _∷_, _++_}
-use mathlib.Core.Logic.{_⊎_, inl, inr}
+use Prim.Native.Nat.{ℕ, _+_, _-_, _<_, _≤_}
+use mathlib.Core.Path.{_≡_, sym, _∙_, ap}
+use mathlib.Core.List.{List, []}
+use mathlib.Core.Logic.{inl, inr}
 use native.Mathlib.Omega.{arith}
 use native.Mathlib.Decide.{decLt}
-use lib.ListN.{length, getD, take, drop, set, length-append, length-drop, List·getD-append}
-use lib.Seq.{length-take-le, getD-take, getD-drop, getD-append-add, drop-set-lt, drop-set-add, take-set-le, ext-getD}
+use lib.ListN.{length, getD, take, drop, set}
+use lib.Seq.{drop-set-lt, drop-set-add, take-set-le, ext-getD}
 use Rattle.numbers.specs.Loops.{part, spliced}
 use Rattle.numbers.proofs.Loops.{Outside, length-spliced, spliced-out, spliced-in}
 

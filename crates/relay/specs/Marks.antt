@@ -1,13 +1,12 @@
 -- What the code of tests 23 and 24 writes down on the way: for private contracts, and no part of what a reader must believe. Definitions only.
 -- Assumes nothing.
-use Prim.Native.Nat.{ℕ, max, _<_, _≤_}
-use mathlib.Core.Path.{_≡_}
+use Prim.Native.Nat.{ℕ, max}
 use mathlib.Core.Bool.{Bool, cond}
 use mathlib.Core.List.{List, foldl}
 use lib.Dec.{ltb}
-use lib.ListN.{getD, set, take}
+use lib.ListN.{getD, set}
 use Rattle.graph.specs.Lists.{has}
-use Rattle.relay.specs.Order.{count, anyOf}
+use Rattle.relay.specs.Order.{anyOf}
 
 -- the highest check of those named that has the mechanism v; 0 if none has it
 unfoldable pub highest : (ℕ → List ℕ) → List ℕ → ℕ → ℕ

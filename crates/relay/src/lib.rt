@@ -1,6 +1,7 @@
 // Relay-BP over a Tanner graph: its settings and its answers. What they mean stands in specs/.
 mod check;
 mod config;
+mod leg;
 mod order;
 mod step;
 mod variable;

@@ -1,8 +1,6 @@
 -- `min_sum::check::scanned` meets its contract: each of the three arms is one case of the two comparisons. Assumes nothing.
-use mathlib.Core.Path.{refl}
 use borrow.Author.Needs.{needs}
 use Rattle.min_sum.specs.MinSum.{scanned}
-use borrow.Author.Needs.{needs}
 use Rattle.min_sum.proofs.check.scanned.Statement.{statement}
 use Rattle.min_sum.proofs.check.scanned.Tie as tie
 

@@ -1,9 +1,7 @@
 -- `min_sum::check::sent` meets its contract: each arm is one case of the position. Assumes nothing.
-use mathlib.Core.Path.{refl}
 use borrow.Author.Needs.{needs}
 use borrow.Author.Tests.{eq-eqb, ne-eqb}
 use Rattle.min_sum.specs.MinSum.{sent}
-use borrow.Author.Needs.{needs}
 use Rattle.min_sum.proofs.check.sent.Statement.{statement}
 use Rattle.min_sum.proofs.check.sent.Tie as tie
 

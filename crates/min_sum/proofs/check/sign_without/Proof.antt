@@ -1,9 +1,7 @@
 -- `min_sum::check::sign_without` meets its contract: each arm is one case of the product's sign. Assumes nothing.
-use mathlib.Core.Path.{refl}
 use lib.Ieee.{ofBits, neg}
 use borrow.Author.Needs.{needs}
 use Rattle.min_sum.specs.MinSum.{signWithout}
-use borrow.Author.Needs.{needs}
 use Rattle.min_sum.proofs.check.sign_without.Statement.{statement}
 use Rattle.min_sum.proofs.check.sign_without.Tie as tie
 

@@ -5,7 +5,6 @@ use lib.ListN.{length}
 use borrow.Author.Needs.{needs}
 use Rattle.messages_core.proofs.Parts.{bounds}
 use Rattle.min_sum.proofs.Checks.{parallel-skips, parallel-sends}
-use borrow.Author.Needs.{needs}
 use Rattle.min_sum.proofs.pass.parallel_check.Statement.{statement}
 use Rattle.min_sum.proofs.pass.parallel_check.Tie as tie
 

@@ -6,7 +6,6 @@ use lib.ListN.{length}
 use borrow.Author.Needs.{needs}
 use Rattle.messages_core.proofs.Parts.{bounds, part-names, walks-along}
 use Rattle.min_sum.proofs.Checks.{serial-skips, serial-sends}
-use borrow.Author.Needs.{needs}
 use Rattle.min_sum.proofs.pass.serial_check.Statement.{statement}
 use Rattle.min_sum.proofs.pass.serial_check.Tie as tie
 

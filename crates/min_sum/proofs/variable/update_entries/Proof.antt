@@ -1,6 +1,4 @@
 -- `min_sum::variable::update_entries` meets its contract: what the two calls ensure, one after the other. Assumes nothing.
-use mathlib.Core.Path.{refl}
-use borrow.Author.Needs.{needs}
 use borrow.Author.Needs.{needs}
 use Rattle.min_sum.proofs.variable.update_entries.Statement.{statement}
 use Rattle.min_sum.proofs.variable.update_entries.Tie as tie

@@ -1,7 +1,5 @@
 -- `relay::order::exchange_fault` meets its contract. Each arm answers what the definition says of its schedule.
 -- Assumes nothing.
-use mathlib.Core.Path.{sym, ap, _∙_}
-use mathlib.Core.List.{List}
 use Rattle.relay.specs.Order.{exchangeFault}
 use borrow.Author.Needs.{needs}
 use Rattle.relay.proofs.order.exchange_fault.Statement.{statement}

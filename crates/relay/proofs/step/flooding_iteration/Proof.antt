@@ -1,7 +1,6 @@
 -- `relay::step::flooding_iteration` meets its contract. The three passes, one after the other, are the definition's.
 -- Assumes nothing.
-use mathlib.Core.Path.{_≡_, sym, _∙_, refl}
-use lib.ListN.{length}
+use mathlib.Core.Path.{sym, _∙_, refl}
 use Rattle.messages_core.proofs.Parts.{walks-both}
 use Rattle.relay.proofs.Passes.{flooding-is}
 use borrow.Author.Needs.{needs}

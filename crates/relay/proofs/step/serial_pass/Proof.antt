@@ -34,7 +34,7 @@ serial-check-requires c κs =
     (omega (arith, c .before .before .before .at .ensures, s .pre .1 .1 .0 .names (l .i) (c .before .before .before .before .loop-test .taken)), (s .pre .0, (s .pre .1 .0, (l .inv .3 ∙ s .pre .1 .1 .1 .0, (l .inv .1 ∙ s .pre .1 .1 .1 .1 .0, l .inv .2 ∙ s .pre .1 .1 .1 .1 .1)))))
 
 add-i : tie.Need-add-i Inv-loop μ-loop
-add-i c = omega arith
+add-i c = omega (arith, c .before .before .before .before .before .before .before .before .before .before .before .loop-test .taken, c .before .before .before .before .before .before .before .before .before .before .before .before .before .before .before .before .before .before .before .before .before .before .before .good)
 
 loop-less : tie.Need-loop-less Inv-loop μ-loop
 loop-less c = omega arith

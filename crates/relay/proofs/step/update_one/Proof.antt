@@ -1,7 +1,6 @@
 -- `relay::step::update_one` meets its contract. The check's part lies within the entries, and what it sends is the definition's.
 -- Assumes nothing.
 use Prim.Native.Nat.{_≤_}
-use native.Mathlib.Omega.{arith}
 use lib.ListN.{length}
 use Rattle.messages_core.proofs.Parts.{bounds}
 use Rattle.relay.proofs.Passes.{check-is}

@@ -1,6 +1,5 @@
 -- `relay::variable::update_entries` meets its contract. What the two calls ensure, one after the other.
 -- Assumes nothing.
-use mathlib.Core.Path.{refl}
 use borrow.Author.Needs.{needs}
 use Rattle.relay.proofs.variable.update_entries.Statement.{statement}
 use Rattle.relay.proofs.variable.update_entries.Tie as tie

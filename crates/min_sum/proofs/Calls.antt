@@ -1,0 +1,148 @@
+-- The public call: what its tests tell where none refuses, that a run reads four of the six graph lists, and what the call leaves. Assumes nothing.
+use mathlib.Core.Path.{_≡_, refl, sym, ap, _∙_}
+use mathlib.Core.Bool.{Bool, true, false, not, true≢false}
+use mathlib.Core.List.{List}
+use Prim.Native.Nat.{ℕ}
+use lib.Ieee.{Float}
+use lib.ListN.{length, replicate}
+use borrow.Author.Tests.{not-true, not-false, eqb-true}
+use Rattle.numbers.proofs.Cases.{and-both}
+use Rattle.numbers.specs.Floats.{zero⁺}
+use Rattle.refusals.proofs.Tests.{done-is, or-first, or-second, or-done, unless-done}
+use Rattle.refusals.specs.declared.Answer.{Answer}
+use Rattle.refusals.specs.declared.Answer.the-variants.{Done, Refused}
+use Rattle.refusals.specs.Tests.{isDone, orElse, firstOf, unlessRefused}
+use Rattle.graph.specs.Graph.{Graph, graph}
+use Rattle.graph.specs.Messages.{cleared, fromVariables, valueFault, posteriorFault}
+use Rattle.graph.proofs.GraphTests.{graph-told}
+use Rattle.messages_core.specs.Needs.{Walks, walked}
+use Rattle.messages_core.proofs.Walks.{graph-walks}
+use Rattle.min_sum.specs.MinSum.{skipped, updateCheck, rawPosterior, updateVariable, parallelCheck, checksTo, variablesTo, parallelIteration, serialCheck, serialTo, serialIteration, averagedTo, averaged, startRound, turned, turn, roundTo, round, rounds, chosenTo, minSumBp}
+use Rattle.min_sum.specs.Beliefs.{Lists, lists, Outcome, outcome, listsFit, beliefsFault, ran, afterTests, beliefs}
+
+-- ---- one test after another
+
+-- `if !is_done(a) { return a; }`, taken
+pub or-refused : (a g x : Answer) (b : Bool) → a ≡ g → b ≡ isDone a → not b ≡ true → a ≡ orElse g x
+or-refused a g x b e d t = e ∙ sym (or-first g x (ap isDone (sym e) ∙ sym d ∙ not-true b t))
+
+-- and not taken
+pub or-passed : (a g x r : Answer) (b : Bool) → a ≡ g → b ≡ isDone a → not b ≡ false → r ≡ x → r ≡ orElse g x
+or-passed a g x r b e d t q = q ∙ sym (or-second g x (sym e ∙ done-is a (sym d ∙ not-false b t)))
+
+-- ---- what a run leaves
+
+module _ (edges : ℕ) (g : Graph) (m out w c v : List Float) (a : Answer) (b : Bool) (run : out ≡ m) (first : a ≡ firstOf (length out) (valueFault out))
+    (many : length out ≡ g .mechanisms) (ws : w ≡ replicate (g .mechanisms) zero⁺) (cs : c ≡ replicate edges zero⁺) (vs : v ≡ replicate edges zero⁺)
+    (told : b ≡ isDone a) where
+  -- a posterior that is as the definition has it
+  left : (p : List Float) → p ≡ unlessRefused a out (replicate (g .mechanisms) zero⁺) → outcome a (lists p w c v) ≡ ran edges g m
+  unfolding ran posteriorFault
+  left p e =
+      let q : a ≡ firstOf (g .mechanisms) (valueFault out) = first ∙ ap (λ n. firstOf n (valueFault out)) many in
+      rw (e, ws, cs, vs, q, run)
+
+  -- nothing is refused: the posterior stays
+  pub ran-passed : not b ≡ false → outcome a (lists out w c v) ≡ ran edges g m
+  unfolding unlessRefused
+  ran-passed h = left out (rw (sym told ∙ not-false b h))
+
+  -- 30: it is zeroed
+  pub ran-refused : (p : List Float) → not b ≡ true → p ≡ replicate (length out) zero⁺ → outcome a (lists p w c v) ≡ ran edges g m
+  unfolding unlessRefused
+  ran-refused p h e = left p (rw (sym told ∙ not-true b h) (e ∙ ap (λ n. replicate n zero⁺) many))
+
+-- ---- a run reads four of the six lists
+
+module _ (checks mechanisms : ℕ) (cv cm co vc vm vo : List ℕ) (scale : Float) (syndrome : List ℕ) (prior : List Float) (n : ℕ) where
+  -- the beliefs of the whole graph are those of the four
+  same-run : (serial : Bool)
+      → minSumBp (walked checks mechanisms cv co vm vo) serial scale syndrome prior n ≡ minSumBp (graph checks mechanisms cv cm co vc vm vo) serial scale syndrome prior n
+  unfolding minSumBp chosenTo rounds round roundTo startRound cleared fromVariables turn turned averaged averagedTo rawPosterior updateVariable updateCheck skipped parallelCheck checksTo variablesTo parallelIteration serialCheck serialTo serialIteration
+  same-run true = refl
+  same-run false = refl
+
+  -- and so is all that a run leaves
+  same-ran : (edges : ℕ) (serial : Bool)
+      → ran edges (walked checks mechanisms cv co vm vo) (minSumBp (walked checks mechanisms cv co vm vo) serial scale syndrome prior n)
+      ≡ ran edges (graph checks mechanisms cv cm co vc vm vo) (minSumBp (graph checks mechanisms cv cm co vc vm vo) serial scale syndrome prior n)
+  unfolding ran posteriorFault
+  same-ran edges serial = rw (same-run serial)
+
+-- ---- the call
+
+-- a call that its tests refuse leaves the lists
+leaves : (a : Answer) (o : Outcome) (l : Lists) → isDone a ≡ false → outcome a l ≡ afterTests a o l
+leaves Done o l h = absurd (true≢false h)
+leaves (Refused r) o l h = refl
+
+-- as many rows and names, however they are counted
+walks-counted : (rows rows′ n n′ : ℕ) (xs off : List ℕ) → rows ≡ rows′ → n ≡ n′ → Walks rows′ n′ xs off → Walks rows n xs off
+walks-counted rows rows′ n n′ xs off p q w = rw (p, q) w
+
+-- the same of what a run leaves
+ran-counted : (edges edges′ checks checks′ mechanisms mechanisms′ : ℕ) (cv co vm vo : List ℕ) (scale : Float) (syndrome : List ℕ) (prior : List Float) (n : ℕ) (serial : Bool)
+    → edges ≡ edges′ → checks ≡ checks′ → mechanisms ≡ mechanisms′
+    → ran edges (walked checks mechanisms cv co vm vo) (minSumBp (walked checks mechanisms cv co vm vo) serial scale syndrome prior n)
+    ≡ ran edges′ (walked checks′ mechanisms′ cv co vm vo) (minSumBp (walked checks′ mechanisms′ cv co vm vo) serial scale syndrome prior n)
+ran-counted edges edges′ checks checks′ mechanisms mechanisms′ cv co vm vo scale syndrome prior n serial p q r = rw (p, q, r)
+
+-- what the tests tell where none refuses
+pub record Told (edges checks mechanisms : ℕ) (cv co vm vo : List ℕ) (prior : List Float) (syndrome : List ℕ) (l : Lists) : Type 0 where
+  pub edges-many : length cv ≡ edges
+  pub checks-many : length syndrome ≡ checks
+  pub mechanisms-many : length prior ≡ mechanisms
+  pub check-walks : Walks (length syndrome) (length prior) cv co
+  pub var-walks : Walks (length prior) (length cv) vm vo
+  pub posterior-many : length (l .posterior) ≡ length prior
+  pub ewa-many : length (l .ewaPosterior) ≡ length prior
+  pub c-many : length (l .cToV) ≡ length cv
+  pub v-many : length (l .vToC) ≡ length cv
+
+module _ (edges checks mechanisms : ℕ) (cv cm co vc vm vo : List ℕ) (prior : List Float) (syndrome : List ℕ) (iterations : ℕ) (l : Lists) where
+  -- where none refuses, they tell all that the run asks
+  pub told : (a : Answer) (b : Bool) → a ≡ beliefsFault edges prior (graph checks mechanisms cv cm co vc vm vo) syndrome iterations l → b ≡ isDone a
+      → not b ≡ false → Told edges checks mechanisms cv co vm vo prior syndrome l
+  unfolding beliefsFault listsFit
+  told a b e d h =
+      let t1 = or-done _ _ (sym e ∙ done-is a (sym d ∙ not-false b h)) in
+      let t2 = or-done _ _ (t1 .1) in
+      let t3 = or-done _ _ (t2 .1) in
+      let g = graph-told edges prior (graph checks mechanisms cv cm co vc vm vo) (t1 .0) in
+      let many = eqb-true (length syndrome) checks (unless-done _ _ (t3 .0)) in
+      let f1 = and-both _ _ (unless-done _ _ (t3 .1)) in
+      let f2 = and-both _ _ (f1 .1) in
+      let f3 = and-both _ _ (f2 .1) in
+      let w = graph-walks (graph checks mechanisms cv cm co vc vm vo) (g .is-graph) in
+      record {
+        edges-many = g .long .check-var;
+        checks-many = many;
+        mechanisms-many = g .priors-many;
+        check-walks = walks-counted _ _ _ _ _ _ many (g .priors-many) (w .0);
+        var-walks = walks-counted _ _ _ _ _ _ (g .priors-many) refl (w .1);
+        posterior-many = eqb-true _ _ (f1 .0) ∙ sym (g .priors-many);
+        ewa-many = eqb-true _ _ (f2 .0) ∙ sym (g .priors-many);
+        c-many = eqb-true _ _ (f3 .0) ∙ sym (g .long .check-var);
+        v-many = eqb-true _ _ (f3 .1) ∙ sym (g .long .check-var);
+      }
+
+  module _ (scale : Float) (serial : Bool) where
+    -- a call that is refused
+    pub beliefs-refused : (a : Answer) (b : Bool) → a ≡ beliefsFault edges prior (graph checks mechanisms cv cm co vc vm vo) syndrome iterations l → b ≡ isDone a
+        → not b ≡ true → outcome a l ≡ beliefs edges prior (graph checks mechanisms cv cm co vc vm vo) syndrome iterations scale serial l
+    unfolding beliefs
+    beliefs-refused a b e d h = rw (← e) (leaves a _ l (sym d ∙ not-true b h))
+
+    -- one that is not
+    pub beliefs-ran : (a : Answer) (b : Bool) (o : Outcome) → a ≡ beliefsFault edges prior (graph checks mechanisms cv cm co vc vm vo) syndrome iterations l
+        → b ≡ isDone a → not b ≡ false
+        → o ≡ ran (length cv) (walked (length syndrome) (length prior) cv co vm vo) (minSumBp (walked (length syndrome) (length prior) cv co vm vo) serial scale syndrome prior iterations)
+        → o ≡ beliefs edges prior (graph checks mechanisms cv cm co vc vm vo) syndrome iterations scale serial l
+    unfolding beliefs
+    beliefs-ran a b o e d h q =
+        let t = told a b e d h in
+        let done : beliefsFault edges prior (graph checks mechanisms cv cm co vc vm vo) syndrome iterations l ≡ Done = sym e ∙ done-is a (sym d ∙ not-false b h) in
+        rw done
+        (q
+        ∙ ran-counted _ _ _ _ _ _ cv co vm vo scale syndrome prior iterations serial (t .edges-many) (t .checks-many) (t .mechanisms-many)
+        ∙ same-ran checks mechanisms cv cm co vc vm vo scale syndrome prior iterations edges serial)

@@ -1,0 +1,61 @@
+-- `min_sum::run::rounds` meets its contract: one round or two, from the priors; a round reads nothing of the messages before it. Assumes nothing.
+use mathlib.Core.Path.{_∙_}
+use borrow.Author.Needs.{needs}
+use Rattle.min_sum.proofs.Rounds.{one-round, two-rounds}
+use Rattle.min_sum.proofs.run.rounds.Statement.{statement}
+use Rattle.min_sum.proofs.run.rounds.Tie as tie
+
+copy-requires : tie.Need-copy-requires
+copy-requires c κs = search needs
+
+round-requires : tie.Need-round-requires
+round-requires c κs = let p = c .before .before .before .before .before .before .before .before .before .before .before .before .before .before .before .before .before .pre in (p .0, (p .1 .0, (p .1 .1 .0, p .1 .1 .1, c .before .before .before .before .before .before .copy .kept .1 .0 ∙ p .1 .1 .2)))
+
+same-length : tie.Need-same-length
+same-length c = search needs
+
+same-length-2 : tie.Need-same-length-2
+same-length-2 c = search needs
+
+same-length-3 : tie.Need-same-length-3
+same-length-3 c = search needs
+
+returns : tie.Need-returns
+returns c = one-round _ _ _ _ _ _ _ _ _ (c .before .before .before .before .before .before .before .before .before .before .if1 .taken) (c .before .before .before .before .before .before .before .before .before .before .before .before .before .copy .ensures) (c .before .before .before .before .before .before .round .ensures)
+
+halves-requires : tie.Need-halves-requires
+halves-requires c κs = search needs
+
+two-rounds-requires : tie.Need-two-rounds-requires
+two-rounds-requires c κs = let p = c .before .before .before .before .before .before .before .before .before .before .before .before .before .before .before .before .before .before .pre in (p .0, (p .1 .0, (p .1 .1 .0, p .1 .1 .1, c .before .before .before .before .before .before .before .copy .kept .1 .0 ∙ p .1 .1 .2)))
+
+same-length-4 : tie.Need-same-length-4
+same-length-4 c = search needs
+
+same-length-5 : tie.Need-same-length-5
+same-length-5 c = search needs
+
+same-length-6 : tie.Need-same-length-6
+same-length-6 c = search needs
+
+returns-2 : tie.Need-returns-2
+returns-2 c =
+    let h = c .before .before .before .before .before .before .before .before .before .before .halves .ensures in
+    two-rounds _ _ _ _ _ _ _ _ _ _ _ (c .before .before .before .before .before .before .before .before .before .before .before .if1 .left) (c .before .before .before .before .before .before .before .before .before .before .before .before .before .before .copy .ensures) (h .0) (h .1) (c .before .before .before .before .before .before .two-rounds .ensures)
+
+pub rounds-spec : {M : Type 1} → statement M
+rounds-spec =
+    tie.close
+    (tie.spec
+    copy-requires
+    round-requires
+    same-length
+    same-length-2
+    same-length-3
+    returns
+    halves-requires
+    two-rounds-requires
+    same-length-4
+    same-length-5
+    same-length-6
+    returns-2)

@@ -1,0 +1,438 @@
+// The run: an iteration with its weight, outer rounds, and the end rule.
+use refusals::Answer;
+ghost use mathlib.Core.Path.{_≡_};
+ghost use mathlib.Core.Bool.{true, false};
+ghost use mathlib.Core.List.{[]};
+ghost use Prim.Native.Nat.{_/_};
+ghost use lib.ListN.{length};
+ghost use Rattle.messages_core.specs.Needs.{Walks, walked, ofVariables};
+ghost use Rattle.min_sum.specs.MinSum.{messages, belief, weightOf, turned, round as roundOf, rounds as roundsOf, chosen as chosenOf, chosenTo, minSumBp};
+ghost use Rattle.min_sum.specs.Beliefs.{lists, outcome, ran as ranOf};
+
+// The weight of an iteration: 1 in the very first, else 0.3.
+fn weight(outer: usize, i: usize) -> f64
+    ensures { λ r. ⌜ r ≡ weightOf outer i ⌝ }
+{
+    if numbers::both(numbers::same_number(i, 0), numbers::same_number(outer, 0)) {
+        return 1.0;
+    }
+    0.3
+}
+
+// An iteration that is not serial: all checks, then all variables.
+fn parallel_turn(
+    weight: f64,
+    scale: f64,
+    syndrome: &[u8],
+    priors: &[f64],
+    check_var: &[u32],
+    check_offset: &[u32],
+    var_message: &[u32],
+    var_offset: &[u32],
+    c_to_v: &mut [f64],
+    v_to_c: &mut [f64],
+    ewa_posterior: &mut [f64],
+)
+    requires { ⌜ Walks (length (now syndrome)) (length (now priors)) (now «check_var») (now «check_offset») ⌝ }
+    requires { ⌜ Walks (length (now priors)) (length (now «check_var»)) (now «var_message») (now «var_offset») ⌝ }
+    requires { ⌜ (length (now «c_to_v») ≡ length (now «check_var»)) × (length (now «v_to_c») ≡ length (now «check_var»)) × (length (now «ewa_posterior») ≡ length (now priors)) ⌝ }
+    ensures { λ _. ⌜ belief (messages (now («c_to_v» .exit)) (now («v_to_c» .exit))) (now («ewa_posterior» .exit)) ≡ turned (walked (length (now (syndrome .entry))) (length (now (priors .entry))) (now («check_var» .entry)) (now («check_offset» .entry)) (now («var_message» .entry)) (now («var_offset» .entry))) false scale (now (syndrome .entry)) (now (priors .entry)) weight (belief (messages (now («c_to_v» .entry)) (now («v_to_c» .entry))) (now («ewa_posterior» .entry))) ⌝ }
+{
+    crate::pass::parallel_checks(scale, syndrome, check_var, check_offset, v_to_c, c_to_v);
+    crate::pass::update_and_average(
+        weight,
+        priors,
+        var_message,
+        var_offset,
+        c_to_v,
+        v_to_c,
+        ewa_posterior,
+    );
+}
+
+// A serial iteration: each check, and then its variables.
+fn serial_turn(
+    weight: f64,
+    scale: f64,
+    syndrome: &[u8],
+    priors: &[f64],
+    check_var: &[u32],
+    check_offset: &[u32],
+    var_message: &[u32],
+    var_offset: &[u32],
+    c_to_v: &mut [f64],
+    v_to_c: &mut [f64],
+    ewa_posterior: &mut [f64],
+)
+    requires { ⌜ Walks (length (now syndrome)) (length (now priors)) (now «check_var») (now «check_offset») ⌝ }
+    requires { ⌜ Walks (length (now priors)) (length (now «check_var»)) (now «var_message») (now «var_offset») ⌝ }
+    requires { ⌜ (length (now «c_to_v») ≡ length (now «check_var»)) × (length (now «v_to_c») ≡ length (now «check_var»)) × (length (now «ewa_posterior») ≡ length (now priors)) ⌝ }
+    ensures { λ _. ⌜ belief (messages (now («c_to_v» .exit)) (now («v_to_c» .exit))) (now («ewa_posterior» .exit)) ≡ turned (walked (length (now (syndrome .entry))) (length (now (priors .entry))) (now («check_var» .entry)) (now («check_offset» .entry)) (now («var_message» .entry)) (now («var_offset» .entry))) true scale (now (syndrome .entry)) (now (priors .entry)) weight (belief (messages (now («c_to_v» .entry)) (now («v_to_c» .entry))) (now («ewa_posterior» .entry))) ⌝ }
+{
+    crate::pass::serial_checks(
+        scale,
+        syndrome,
+        priors,
+        check_var,
+        check_offset,
+        var_message,
+        var_offset,
+        c_to_v,
+        v_to_c,
+    );
+    crate::pass::average(
+        weight,
+        priors,
+        var_message,
+        var_offset,
+        c_to_v,
+        ewa_posterior,
+    );
+}
+
+// An iteration, serial or not.
+fn turn(
+    serial: bool,
+    weight: f64,
+    scale: f64,
+    syndrome: &[u8],
+    priors: &[f64],
+    check_var: &[u32],
+    check_offset: &[u32],
+    var_message: &[u32],
+    var_offset: &[u32],
+    c_to_v: &mut [f64],
+    v_to_c: &mut [f64],
+    ewa_posterior: &mut [f64],
+)
+    requires { ⌜ Walks (length (now syndrome)) (length (now priors)) (now «check_var») (now «check_offset») ⌝ }
+    requires { ⌜ Walks (length (now priors)) (length (now «check_var»)) (now «var_message») (now «var_offset») ⌝ }
+    requires { ⌜ (length (now «c_to_v») ≡ length (now «check_var»)) × (length (now «v_to_c») ≡ length (now «check_var»)) × (length (now «ewa_posterior») ≡ length (now priors)) ⌝ }
+    ensures { λ _. ⌜ belief (messages (now («c_to_v» .exit)) (now («v_to_c» .exit))) (now («ewa_posterior» .exit)) ≡ turned (walked (length (now (syndrome .entry))) (length (now (priors .entry))) (now («check_var» .entry)) (now («check_offset» .entry)) (now («var_message» .entry)) (now («var_offset» .entry))) serial scale (now (syndrome .entry)) (now (priors .entry)) weight (belief (messages (now («c_to_v» .entry)) (now («v_to_c» .entry))) (now («ewa_posterior» .entry))) ⌝ }
+{
+    if serial {
+        serial_turn(
+            weight,
+            scale,
+            syndrome,
+            priors,
+            check_var,
+            check_offset,
+            var_message,
+            var_offset,
+            c_to_v,
+            v_to_c,
+            ewa_posterior,
+        );
+        return;
+    }
+    parallel_turn(
+        weight,
+        scale,
+        syndrome,
+        priors,
+        check_var,
+        check_offset,
+        var_message,
+        var_offset,
+        c_to_v,
+        v_to_c,
+        ewa_posterior,
+    );
+}
+
+// An outer round: messages start from the running posterior.
+fn round(
+    inner: usize,
+    outer: usize,
+    serial: bool,
+    scale: f64,
+    syndrome: &[u8],
+    priors: &[f64],
+    check_var: &[u32],
+    check_offset: &[u32],
+    var_message: &[u32],
+    var_offset: &[u32],
+    c_to_v: &mut [f64],
+    v_to_c: &mut [f64],
+    ewa_posterior: &mut [f64],
+)
+    requires { ⌜ Walks (length (now syndrome)) (length (now priors)) (now «check_var») (now «check_offset») ⌝ }
+    requires { ⌜ Walks (length (now priors)) (length (now «check_var»)) (now «var_message») (now «var_offset») ⌝ }
+    requires { ⌜ (length (now «c_to_v») ≡ length (now «check_var»)) × (length (now «v_to_c») ≡ length (now «check_var»)) × (length (now «ewa_posterior») ≡ length (now priors)) ⌝ }
+    ensures { λ _. ⌜ belief (messages (now («c_to_v» .exit)) (now («v_to_c» .exit))) (now («ewa_posterior» .exit)) ≡ roundOf (walked (length (now (syndrome .entry))) (length (now (priors .entry))) (now («check_var» .entry)) (now («check_offset» .entry)) (now («var_message» .entry)) (now («var_offset» .entry))) serial scale (now (syndrome .entry)) (now (priors .entry)) inner outer (belief (messages (now («c_to_v» .entry)) (now («v_to_c» .entry))) (now («ewa_posterior» .entry))) ⌝ }
+{
+    messages_core::clear(c_to_v);
+    messages_core::from_variables(check_var, ewa_posterior, v_to_c);
+    let mut i = 0;
+    while i < inner {
+        turn(
+            serial,
+            weight(outer, i),
+            scale,
+            syndrome,
+            priors,
+            check_var,
+            check_offset,
+            var_message,
+            var_offset,
+            c_to_v,
+            v_to_c,
+            ewa_posterior,
+        );
+        i += 1;
+    }
+}
+
+// How many iterations each of two outer rounds has.
+struct Inner {
+    first: usize,
+    second: usize,
+}
+
+// The whole part of n / 2 in both: 7 are 3 and 3.
+fn halves(n: usize) -> Inner
+    ensures { λ r. ⌜ (r .first ≡ n / 2) × (r .second ≡ n / 2) ⌝ }
+{
+    Inner {
+        first: n / 2,
+        second: n / 2,
+    }
+}
+
+// Two outer rounds.
+fn two_rounds(
+    first: usize,
+    second: usize,
+    serial: bool,
+    scale: f64,
+    syndrome: &[u8],
+    priors: &[f64],
+    check_var: &[u32],
+    check_offset: &[u32],
+    var_message: &[u32],
+    var_offset: &[u32],
+    c_to_v: &mut [f64],
+    v_to_c: &mut [f64],
+    ewa_posterior: &mut [f64],
+)
+    requires { ⌜ Walks (length (now syndrome)) (length (now priors)) (now «check_var») (now «check_offset») ⌝ }
+    requires { ⌜ Walks (length (now priors)) (length (now «check_var»)) (now «var_message») (now «var_offset») ⌝ }
+    requires { ⌜ (length (now «c_to_v») ≡ length (now «check_var»)) × (length (now «v_to_c») ≡ length (now «check_var»)) × (length (now «ewa_posterior») ≡ length (now priors)) ⌝ }
+    ensures { λ _. ⌜ belief (messages (now («c_to_v» .exit)) (now («v_to_c» .exit))) (now («ewa_posterior» .exit)) ≡ roundOf (walked (length (now (syndrome .entry))) (length (now (priors .entry))) (now («check_var» .entry)) (now («check_offset» .entry)) (now («var_message» .entry)) (now («var_offset» .entry))) serial scale (now (syndrome .entry)) (now (priors .entry)) second 1 (roundOf (walked (length (now (syndrome .entry))) (length (now (priors .entry))) (now («check_var» .entry)) (now («check_offset» .entry)) (now («var_message» .entry)) (now («var_offset» .entry))) serial scale (now (syndrome .entry)) (now (priors .entry)) first 0 (belief (messages (now («c_to_v» .entry)) (now («v_to_c» .entry))) (now («ewa_posterior» .entry)))) ⌝ }
+{
+    round(
+        first,
+        0,
+        serial,
+        scale,
+        syndrome,
+        priors,
+        check_var,
+        check_offset,
+        var_message,
+        var_offset,
+        c_to_v,
+        v_to_c,
+        ewa_posterior,
+    );
+    round(
+        second,
+        1,
+        serial,
+        scale,
+        syndrome,
+        priors,
+        check_var,
+        check_offset,
+        var_message,
+        var_offset,
+        c_to_v,
+        v_to_c,
+        ewa_posterior,
+    );
+}
+
+// Two outer rounds of n / 2 from 6 on, else one of n.
+fn rounds(
+    n: usize,
+    serial: bool,
+    scale: f64,
+    syndrome: &[u8],
+    priors: &[f64],
+    check_var: &[u32],
+    check_offset: &[u32],
+    var_message: &[u32],
+    var_offset: &[u32],
+    c_to_v: &mut [f64],
+    v_to_c: &mut [f64],
+    ewa_posterior: &mut [f64],
+)
+    requires { ⌜ Walks (length (now syndrome)) (length (now priors)) (now «check_var») (now «check_offset») ⌝ }
+    requires { ⌜ Walks (length (now priors)) (length (now «check_var»)) (now «var_message») (now «var_offset») ⌝ }
+    requires { ⌜ (length (now «c_to_v») ≡ length (now «check_var»)) × (length (now «v_to_c») ≡ length (now «check_var»)) × (length (now «ewa_posterior») ≡ length (now priors)) ⌝ }
+    ensures { λ _. ⌜ belief (messages (now («c_to_v» .exit)) (now («v_to_c» .exit))) (now («ewa_posterior» .exit)) ≡ roundsOf (walked (length (now (syndrome .entry))) (length (now (priors .entry))) (now («check_var» .entry)) (now («check_offset» .entry)) (now («var_message» .entry)) (now («var_offset» .entry))) serial scale (now (syndrome .entry)) (now (priors .entry)) n ⌝ }
+{
+    messages_core::copy(priors, ewa_posterior);
+    if n < 6 {
+        round(
+            n,
+            0,
+            serial,
+            scale,
+            syndrome,
+            priors,
+            check_var,
+            check_offset,
+            var_message,
+            var_offset,
+            c_to_v,
+            v_to_c,
+            ewa_posterior,
+        );
+        return;
+    }
+    let h = halves(n);
+    two_rounds(
+        h.first,
+        h.second,
+        serial,
+        scale,
+        syndrome,
+        priors,
+        check_var,
+        check_offset,
+        var_message,
+        var_offset,
+        c_to_v,
+        v_to_c,
+        ewa_posterior,
+    );
+}
+
+// The raw posterior in place of the belief, where both are above zero or both not, and its magnitude is larger.
+fn chosen(belief: f64, raw: f64) -> f64
+    ensures { λ r. ⌜ r ≡ chosenOf belief raw ⌝ }
+{
+    if (0.0 < belief) != (0.0 < raw) {
+        return belief;
+    }
+    if numbers::magnitude(belief) < numbers::magnitude(raw) {
+        return raw;
+    }
+    belief
+}
+
+// The end rule, for all variables.
+fn choose(
+    priors: &[f64],
+    var_message: &[u32],
+    var_offset: &[u32],
+    c_to_v: &[f64],
+    ewa_posterior: &[f64],
+    posterior: &mut [f64],
+)
+    requires { ⌜ Walks (length (now priors)) (length (now «c_to_v»)) (now «var_message») (now «var_offset») ⌝ }
+    requires { ⌜ (length (now «ewa_posterior») ≡ length (now priors)) × (length (now posterior) ≡ length (now priors)) ⌝ }
+    ensures { λ _. ⌜ now (posterior .exit) ≡ chosenTo (ofVariables (length (now (priors .entry))) (now («var_message» .entry)) (now («var_offset» .entry))) (now (priors .entry)) (belief (messages (now («c_to_v» .entry)) []) (now («ewa_posterior» .entry))) (length (now (priors .entry))) ⌝ }
+{
+    let mut v = 0;
+    while v < priors.len() {
+        let raw = crate::variable::raw_posterior(v, priors, var_message, var_offset, c_to_v);
+        posterior[v] = chosen(ewa_posterior[v], raw);
+        v += 1;
+    }
+}
+
+// The beliefs after n iterations.
+pub(crate) fn min_sum_bp(
+    n: usize,
+    serial: bool,
+    scale: f64,
+    syndrome: &[u8],
+    priors: &[f64],
+    check_var: &[u32],
+    check_offset: &[u32],
+    var_message: &[u32],
+    var_offset: &[u32],
+    c_to_v: &mut [f64],
+    v_to_c: &mut [f64],
+    ewa_posterior: &mut [f64],
+    posterior: &mut [f64],
+)
+    requires { ⌜ Walks (length (now syndrome)) (length (now priors)) (now «check_var») (now «check_offset») ⌝ }
+    requires { ⌜ Walks (length (now priors)) (length (now «check_var»)) (now «var_message») (now «var_offset») ⌝ }
+    requires { ⌜ (length (now «c_to_v») ≡ length (now «check_var»)) × (length (now «v_to_c») ≡ length (now «check_var»)) × (length (now «ewa_posterior») ≡ length (now priors)) ⌝ }
+    requires { ⌜ length (now posterior) ≡ length (now priors) ⌝ }
+    ensures { λ _. ⌜ now (posterior .exit) ≡ minSumBp (walked (length (now (syndrome .entry))) (length (now (priors .entry))) (now («check_var» .entry)) (now («check_offset» .entry)) (now («var_message» .entry)) (now («var_offset» .entry))) serial scale (now (syndrome .entry)) (now (priors .entry)) n ⌝ }
+{
+    rounds(
+        n,
+        serial,
+        scale,
+        syndrome,
+        priors,
+        check_var,
+        check_offset,
+        var_message,
+        var_offset,
+        c_to_v,
+        v_to_c,
+        ewa_posterior,
+    );
+    choose(
+        priors,
+        var_message,
+        var_offset,
+        c_to_v,
+        ewa_posterior,
+        posterior,
+    );
+}
+
+// Past the tests: the run, 30 with the first mechanism whose belief is not finite, and zeroed work lists.
+pub(crate) fn ran(
+    n: usize,
+    serial: bool,
+    scale: f64,
+    syndrome: &[u8],
+    priors: &[f64],
+    check_var: &[u32],
+    check_offset: &[u32],
+    var_message: &[u32],
+    var_offset: &[u32],
+    c_to_v: &mut [f64],
+    v_to_c: &mut [f64],
+    ewa_posterior: &mut [f64],
+    posterior: &mut [f64],
+) -> Answer
+    requires { ⌜ Walks (length (now syndrome)) (length (now priors)) (now «check_var») (now «check_offset») ⌝ }
+    requires { ⌜ Walks (length (now priors)) (length (now «check_var»)) (now «var_message») (now «var_offset») ⌝ }
+    requires { ⌜ (length (now «c_to_v») ≡ length (now «check_var»)) × (length (now «v_to_c») ≡ length (now «check_var»)) × (length (now «ewa_posterior») ≡ length (now priors)) ⌝ }
+    requires { ⌜ length (now posterior) ≡ length (now priors) ⌝ }
+    ensures { λ r. ⌜ outcome r (lists (now (posterior .exit)) (now («ewa_posterior» .exit)) (now («c_to_v» .exit)) (now («v_to_c» .exit))) ≡ ranOf (length (now («check_var» .entry))) (walked (length (now (syndrome .entry))) (length (now (priors .entry))) (now («check_var» .entry)) (now («check_offset» .entry)) (now («var_message» .entry)) (now («var_offset» .entry))) (minSumBp (walked (length (now (syndrome .entry))) (length (now (priors .entry))) (now («check_var» .entry)) (now («check_offset» .entry)) (now («var_message» .entry)) (now («var_offset» .entry))) serial scale (now (syndrome .entry)) (now (priors .entry)) n) ⌝ }
+{
+    min_sum_bp(
+        n,
+        serial,
+        scale,
+        syndrome,
+        priors,
+        check_var,
+        check_offset,
+        var_message,
+        var_offset,
+        c_to_v,
+        v_to_c,
+        ewa_posterior,
+        posterior,
+    );
+    messages_core::clear(ewa_posterior);
+    messages_core::clear(c_to_v);
+    messages_core::clear(v_to_c);
+    let a = messages_core::first_not_finite(posterior);
+    if !refusals::is_done(a) {
+        messages_core::clear(posterior);
+    }
+    a
+}

@@ -1,0 +1,72 @@
+-- Demand 3 over the whole call: an order that 23 and 24 take gives what the index order gives, answer and every lent list. Assumes nothing.
+use Prim.Native.Nat.{ℕ}
+use mathlib.Core.Path.{_≡_, refl, ap, _∙_}
+use mathlib.Core.List.{List}
+use mathlib.Core.Logic.{_↔_}
+use Rattle.refusals.specs.declared.Answer.{Answer}
+use Rattle.refusals.specs.declared.Answer.the-variants.{Done, Refused}
+use Rattle.refusals.specs.Tests.{unless}
+use Rattle.refusals.proofs.Tests.{or-done, unless-done}
+use Rattle.graph.specs.Graph.{Graph}
+use Rattle.graph.specs.Sound.{Sound}
+use Rattle.graph.proofs.Sound.{passes-sound}
+use Rattle.graph.proofs.GraphTests.{graph-told}
+use Rattle.relay.specs.declared.Schedule.the-variants.{Flooding, CheckSerial}
+use Rattle.relay.specs.Order.{upto, NamesOnce, KeepsOrder, namesFault, exchangeFault}
+use Rattle.relay.specs.Decode.{Shot, Ended, decoded, refused, decodeLegs}
+use Rattle.relay.specs.Calls.{Lists, listsFit, decodeFault, leftBy, zeroed, afterLegs, afterTests, decodeInOrder, decode}
+use Rattle.relay.proofs.Counts.{names-once-is}
+use Rattle.relay.proofs.OrderWords.{upto-names, index-taken, none-exchanged-is}
+use Rattle.relay.proofs.SameOutcome.{inIndexOrder, decode-same}
+
+-- an order that 23 takes names each check once
+names-told : (checks : ℕ) (order : List ℕ) → namesFault checks order ≡ Done → NamesOnce checks order
+unfolding namesFault
+names-told checks order h = names-once-is checks order .0 (unless-done _ _ h)
+
+-- and one that names each check once is taken by 23
+names-taken : (checks : ℕ) (order : List ℕ) → NamesOnce checks order → namesFault checks order ≡ Done
+unfolding namesFault unless
+names-taken checks order h = rw (names-once-is checks order .1 h)
+
+module _ (edges : ℕ) (x : Shot) (l : Lists) (names : namesFault (x .graph .checks) (x .order) ≡ Done) (free : exchangeFault (x .settings .schedule) (x .graph) (x .order) ≡ Done) where
+  -- the tests say the same of the index order
+  fault-same : decodeFault edges x l ≡ decodeFault edges (inIndexOrder x) l
+  unfolding decodeFault listsFit
+  fault-same = rw (names, free, names-taken (x .graph .checks) (upto (x .graph .checks)) (upto-names (x .graph .checks)), index-taken (x .settings .schedule) (x .graph))
+
+  -- what a run leaves does not depend on the order
+  after-same : (e : Ended) → afterLegs edges x e l ≡ afterLegs edges (inIndexOrder x) e l
+  unfolding leftBy zeroed
+  after-same (decoded run) = refl
+  after-same (refused r) = refl
+
+  -- a call whose tests are passed is over a graph
+  passed-sound : decodeFault edges x l ≡ Done → Sound (x .graph)
+  unfolding decodeFault
+  passed-sound h = passes-sound (x .graph) (graph-told edges (x .prior) (x .graph) (or-done _ _ h .0) .is-graph)
+
+  -- whatever the tests say
+  whole-same : (a : Answer) → decodeFault edges x l ≡ a → afterTests a (afterLegs edges x (decodeLegs x) l) l ≡ afterTests a (afterLegs edges (inIndexOrder x) (decodeLegs (inIndexOrder x)) l) l
+  whole-same Done h =
+      ap (λ e. afterLegs edges x e l) (decode-same x (passed-sound h) (names-told (x .graph .checks) (x .order) names) free) ∙ after-same (decodeLegs (inIndexOrder x))
+  whole-same (Refused r) h = refl
+
+  -- the call in that order is the call in index order
+  pub order-free : decodeInOrder edges x l ≡ decode edges x l
+  unfolding decodeInOrder decode
+  order-free = whole-same (decodeFault edges x l) refl ∙ ap (λ a. afterTests a (afterLegs edges (inIndexOrder x) (decodeLegs (inIndexOrder x)) l) l) fault-same
+
+-- ---- which orders are taken
+
+-- Flooding takes an order just where it names each check once
+pub flooding-takes : (g : Graph) (order : List ℕ) → ((namesFault (g .checks) order ≡ Done) × (exchangeFault Flooding g order ≡ Done)) ↔ NamesOnce (g .checks) order
+unfolding exchangeFault
+flooding-takes g order = (λ h. names-told (g .checks) order (h .0), λ h. (names-taken (g .checks) order h, refl))
+
+-- CheckSerial just where, besides, any two checks that share a mechanism keep their index order
+pub serial-takes : (g : Graph) (order : List ℕ)
+    → ((namesFault (g .checks) order ≡ Done) × (exchangeFault CheckSerial g order ≡ Done)) ↔ (NamesOnce (g .checks) order × KeepsOrder g order)
+unfolding exchangeFault
+serial-takes g order =
+    (λ h. (names-told (g .checks) order (h .0), none-exchanged-is g order .0 (h .1)), λ h. (names-taken (g .checks) order (h .0), none-exchanged-is g order .1 (h .1)))
