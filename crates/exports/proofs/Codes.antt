@@ -11,7 +11,8 @@ use Rattle.refusals.specs.declared.Place.the-variants.{Nowhere, At}
 use Rattle.refusals.specs.Refusal.{numberOf, placeOf}
 use Rattle.graph.specs.Graph.{Graph}
 use Rattle.graph.specs.Model.{Outcome, outcome}
-use Rattle.exports.specs.Answers.{placeCode, codeOf, sent, sentOf}
+use Rattle.min_sum.specs.Beliefs.{Lists, Outcome as BeliefsOutcome, outcome as beliefsOutcome}
+use Rattle.exports.specs.Answers.{placeCode, codeOf, sent, sentOf, left, leftBy}
 
 -- a refusal's number is far below 65,536
 pub number-small : (r : Refusal) → numberOf r < 65536
@@ -59,3 +60,7 @@ code-as a r p n k is-refused is-number is-place is-code =
 -- a code sent with the lists of an outcome is the outcome sent
 pub sent-as : (code : ℕ) (a : Answer) (g : Graph) (o : Outcome) → code ≡ codeOf a → outcome a g ≡ o → sent code g ≡ sentOf o
 sent-as code a g o is-code is-outcome = ap (λ k. sent k g) is-code ∙ ap sentOf is-outcome
+
+-- the same of `beliefs`
+pub left-as : (code : ℕ) (a : Answer) (l : Lists) (o : BeliefsOutcome) → code ≡ codeOf a → beliefsOutcome a l ≡ o → left code l ≡ leftBy o
+left-as code a l o is-code is-outcome = ap (λ k. left k l) is-code ∙ ap leftBy is-outcome

@@ -8,6 +8,7 @@ use Rattle.refusals.specs.declared.Place.the-variants.{Nowhere, At}
 use Rattle.refusals.specs.Refusal.{numberOf, placeOf}
 use Rattle.graph.specs.Graph.{Graph}
 use Rattle.graph.specs.Model.{Outcome}
+use Rattle.min_sum.specs.Beliefs.{Lists, Outcome as BeliefsOutcome}
 
 -- 1 for true, 0 for false
 abbrev pub bitOf : Bool → ℕ
@@ -38,3 +39,17 @@ sent code g = record { code = code; lists = g }
 -- an outcome, its answer as a code
 abbrev pub sentOf : Outcome → Sent
 sentOf o = sent (codeOf (o .answer)) (o .lists)
+
+-- ---- beliefs
+
+-- the code, and the lent lists as the call leaves them
+pub record Left : Type 0 where
+  pub code : ℕ
+  pub lists : Lists
+
+abbrev pub left : ℕ → Lists → Left
+left code l = record { code = code; lists = l }
+
+-- an outcome of `beliefs`, its answer as a code
+abbrev pub leftBy : BeliefsOutcome → Left
+leftBy o = left (codeOf (o .answer)) (o .left)

@@ -1,6 +1,7 @@
 // The public calls with the C calling convention: numbers and slices only, each thin and with its contract. A slice passes as a
 // pointer and then a length. A bool passes as 1 or 0, an answer as its code. The calls of `numbers` stand here.
 mod answers;
+mod beliefs;
 mod graphs;
 
 ghost use mathlib.Core.Path.{_≡_};
