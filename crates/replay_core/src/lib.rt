@@ -2,6 +2,7 @@
 ghost use Prim.Native.Nat.{_≤_};
 ghost use lib.ListN.{length};
 use numbers::both;
+use numbers::is_negative;
 use refusals::Answer;
 use refusals::Place;
 use refusals::number_of;
@@ -127,6 +128,39 @@ pub fn same_numbers(line: &[u8], before: Same, list: &[u32]) -> Same {
         same: same,
         next: next,
     }
+}
+
+// Whether two floats have the same bits, where neither is a NaN.
+fn same_float(a: f64, b: f64) -> bool {
+    both(a == b, is_negative(a) == is_negative(b))
+}
+
+// Whether the next words are the floats of the list.
+pub fn same_floats(line: &[u8], before: Same, list: &[f64]) -> Same {
+    let mut same = before.same;
+    let mut next = before.next;
+    let mut i = 0;
+    while i < list.len() {
+        let w = word_at(line, next);
+        same = both(same, same_float(float(w.value), list[i]));
+        next = w.next;
+        i += 1;
+    }
+    Same {
+        same: same,
+        next: next,
+    }
+}
+
+// Whether every float of the list is +0.0.
+pub fn is_cleared(list: &[f64]) -> bool {
+    let mut same = true;
+    let mut i = 0;
+    while i < list.len() {
+        same = both(same, same_float(list[i], 0.0));
+        i += 1;
+    }
+    same
 }
 
 // The place of a refusal as the lists have it: 0 where there is none.

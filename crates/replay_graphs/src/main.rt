@@ -1,7 +1,5 @@
 // Replays the oracle's list of graph cases: builds each model and compares answer and lists with the Rust's. It reads the list from
 // standard input, which the file stdin holds.
-ghost use Prim.Native.Nat.{_≤_};
-ghost use lib.ListN.{length};
 use graph::Size;
 use libc::STDOUT_FILENO;
 use numbers::wrapping_mul;

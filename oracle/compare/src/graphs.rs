@@ -51,20 +51,20 @@ fn rust(case: &GraphCase) -> Result<Lists, (u64, u64)> {
 
 /// All that the building calls take. A sparse model has offsets and detectors, a dense one a matrix.
 #[derive(Clone, Debug)]
-struct Given {
-    size: Size,
+pub struct Given {
+    pub size: Size,
     /// For the Rust, beside the priors: one that is no probability stands where a prior is a bad one.
     probabilities: Vec<f64>,
-    priors: Vec<f64>,
+    pub priors: Vec<f64>,
     offsets: Vec<u32>,
     detectors: Vec<u32>,
     matrix: Vec<u8>,
-    lists: Lists,
+    pub lists: Lists,
 }
 
 impl Given {
     /// The case, with lists that fit and hold something else before the call.
-    fn of(case: &GraphCase, random: &mut SplitMix64) -> Self {
+    pub fn of(case: &GraphCase, random: &mut SplitMix64) -> Self {
         let size = Size {
             checks: case.checks,
             mechanisms: case.probabilities.len(),
@@ -91,7 +91,7 @@ impl Given {
         given
     }
 
-    fn build_sparse(&mut self) -> Answer {
+    pub fn build_sparse(&mut self) -> Answer {
         proved::build_sparse(
             self.size,
             &self.priors,
@@ -157,7 +157,7 @@ fn small(count: u64, random: &mut SplitMix64) -> Counts {
 }
 
 /// A model of these sizes: the edges shared out evenly, each mechanism's detectors drawn and in no order.
-fn model_of(size: Size, random: &mut SplitMix64) -> Model {
+pub fn model_of(size: Size, random: &mut SplitMix64) -> Model {
     let Size {
         checks,
         mechanisms,
@@ -323,7 +323,7 @@ fn wanted_dense(given: &Given) -> Answer {
 }
 
 /// 7 unless the lists are those that the Rust builds of the incidences that the check lists tell.
-fn wanted_lists(given: &Given) -> Answer {
+pub fn wanted_lists(given: &Given) -> Answer {
     let size = given.size;
     if size.checks > MOST_COUNT || size.mechanisms > MOST_COUNT || size.edges > MOST_EDGES {
         return Err((1, NOWHERE));
@@ -370,7 +370,7 @@ fn nudge(random: &mut SplitMix64, number: usize) -> usize {
     }
 }
 
-fn nudge_length<T: Clone>(random: &mut SplitMix64, list: &mut Vec<T>, other: T) {
+pub fn nudge_length<T: Clone>(random: &mut SplitMix64, list: &mut Vec<T>, other: T) {
     let length = nudge(random, list.len());
     list.resize(length, other);
 }
@@ -563,7 +563,7 @@ fn too_many_edges() -> Counts {
     counts
 }
 
-fn damage_lists(random: &mut SplitMix64, given: &mut Given) {
+pub fn damage_lists(random: &mut SplitMix64, given: &mut Given) {
     let numbers = given.size.edges.min(MOST_EDGES) + 2;
     let which = random.below(6);
     match random.below(8) {

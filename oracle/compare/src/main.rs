@@ -1,6 +1,7 @@
-//! The proved code against the Rust, in one process, on fresh random inputs: `compare numbers|graphs [COUNT [SEED]]`.
+//! The proved code against the Rust, in one process, on fresh random inputs: `compare numbers|graphs|beliefs [COUNT [SEED]]`.
 //! Every float is compared by its bits, but a NaN with any NaN. The last line says 'N passed, M failed'.
 
+mod beliefs;
 mod counts;
 mod graphs;
 mod numbers;
@@ -8,14 +9,15 @@ mod numbers;
 use counts::Counts;
 use std::process::ExitCode;
 
-const USAGE: &str = "usage: compare numbers|graphs [COUNT [SEED]]";
+const USAGE: &str = "usage: compare numbers|graphs|beliefs [COUNT [SEED]]";
 
 /// What is compared: its name, how often where no count is given, and how.
 type Subject = (&'static str, u64, fn(u64, u64) -> Counts);
 
-const SUBJECTS: [Subject; 2] = [
+const SUBJECTS: [Subject; 3] = [
     ("numbers", 1_000_000, numbers::run),
     ("graphs", 100_000, graphs::run),
+    ("beliefs", 200_000, beliefs::run),
 ];
 
 fn main() -> ExitCode {

@@ -76,6 +76,39 @@ mod raw {
             var_offset: *const u32,
             var_offset_len: usize,
         ) -> u64;
+
+        pub unsafe fn chowderkite_beliefs(
+            checks: usize,
+            mechanisms: usize,
+            edges: usize,
+            priors: *const f64,
+            priors_len: usize,
+            check_var: *const u32,
+            check_var_len: usize,
+            check_message: *const u32,
+            check_message_len: usize,
+            check_offset: *const u32,
+            check_offset_len: usize,
+            var_check: *const u32,
+            var_check_len: usize,
+            var_message: *const u32,
+            var_message_len: usize,
+            var_offset: *const u32,
+            var_offset_len: usize,
+            syndrome: *const u8,
+            syndrome_len: usize,
+            iterations: usize,
+            scale: f64,
+            serial: u8,
+            posterior: *mut f64,
+            posterior_len: usize,
+            ewa_posterior: *mut f64,
+            ewa_posterior_len: usize,
+            c_to_v: *mut f64,
+            c_to_v_len: usize,
+            v_to_c: *mut f64,
+            v_to_c_len: usize,
+        ) -> u64;
     }
 }
 
@@ -240,6 +273,89 @@ pub fn check_graph(size: Size, priors: &[f64], lists: &Lists) -> Answer {
             lists.var_message.len(),
             lists.var_offset.as_ptr(),
             lists.var_offset.len(),
+        )
+    })
+}
+
+/// The lists that `beliefs` writes: the posterior is the result, the others are for work.
+#[derive(Clone, Debug, Default)]
+pub struct Beliefs {
+    pub posterior: Vec<f64>,
+    pub ewa_posterior: Vec<f64>,
+    pub c_to_v: Vec<f64>,
+    pub v_to_c: Vec<f64>,
+}
+
+impl Beliefs {
+    /// Lists that fit, filled with one number.
+    pub fn filled(size: Size, with: f64) -> Self {
+        Self {
+            posterior: vec![with; size.mechanisms],
+            ewa_posterior: vec![with; size.mechanisms],
+            c_to_v: vec![with; size.edges],
+            v_to_c: vec![with; size.edges],
+        }
+    }
+
+    /// All four, in the order of the call.
+    pub fn each(&mut self) -> [&mut Vec<f64>; 4] {
+        [
+            &mut self.posterior,
+            &mut self.ewa_posterior,
+            &mut self.c_to_v,
+            &mut self.v_to_c,
+        ]
+    }
+}
+
+/// A run of min-sum: what is asked for beside the graph.
+#[derive(Clone, Copy, Debug)]
+pub struct Run<'a> {
+    pub syndrome: &'a [u8],
+    pub iterations: usize,
+    pub scale: f64,
+    pub serial: bool,
+}
+
+pub fn beliefs(
+    size: Size,
+    priors: &[f64],
+    lists: &Lists,
+    run: Run,
+    beliefs: &mut Beliefs,
+) -> Answer {
+    answer(unsafe {
+        raw::chowderkite_beliefs(
+            size.checks,
+            size.mechanisms,
+            size.edges,
+            priors.as_ptr(),
+            priors.len(),
+            lists.check_var.as_ptr(),
+            lists.check_var.len(),
+            lists.check_message.as_ptr(),
+            lists.check_message.len(),
+            lists.check_offset.as_ptr(),
+            lists.check_offset.len(),
+            lists.var_check.as_ptr(),
+            lists.var_check.len(),
+            lists.var_message.as_ptr(),
+            lists.var_message.len(),
+            lists.var_offset.as_ptr(),
+            lists.var_offset.len(),
+            run.syndrome.as_ptr(),
+            run.syndrome.len(),
+            run.iterations,
+            run.scale,
+            u8::from(run.serial),
+            beliefs.posterior.as_mut_ptr(),
+            beliefs.posterior.len(),
+            beliefs.ewa_posterior.as_mut_ptr(),
+            beliefs.ewa_posterior.len(),
+            beliefs.c_to_v.as_mut_ptr(),
+            beliefs.c_to_v.len(),
+            beliefs.v_to_c.as_mut_ptr(),
+            beliefs.v_to_c.len(),
         )
     })
 }
