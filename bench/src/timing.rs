@@ -23,5 +23,5 @@ pub fn row(what: &str, size: usize, rust: &mut dyn FnMut(), proved: &mut dyn FnM
     }
     let (rust, proved) = (least_rust.as_nanos(), least_proved.as_nanos());
     let ratio = proved as f64 / rust as f64;
-    println!("{what:24} {size:>9} {rust:>12} {proved:>12} {ratio:>7.2}");
+    println!("{what:26} {size:>9} {rust:>12} {proved:>12} {ratio:>7.2}");
 }

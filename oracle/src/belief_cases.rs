@@ -10,7 +10,7 @@ const USUAL: usize = 230;
 const MOST_ITERATIONS: usize = 20;
 
 /// Scales of every kind; min-sum tests none of them.
-const SCALES: [f64; 22] = [
+pub const SCALES: [f64; 22] = [
     1.0,
     0.5,
     0.9,
@@ -100,7 +100,7 @@ pub fn candidates() -> Vec<BeliefCase> {
     cases
 }
 
-fn random_syndrome(random: &mut SplitMix64, checks: usize) -> Vec<u8> {
+pub fn random_syndrome(random: &mut SplitMix64, checks: usize) -> Vec<u8> {
     (0..checks)
         .map(|_| random.pick(&[0, 0, 0, 0, 1, 1, 2, 128, 255]))
         .collect()
@@ -154,7 +154,7 @@ fn nothing() -> Model {
 /// checks 1, 3 and 5, or become NaN, whose sign doesn't. So those checks either cancel or pile up
 /// with 2, 4 and 6 at mechanism 0, which stays finite or not: place 1 or 0. Two mechanisms of their
 /// own keep the messages of each of these six checks finite.
-fn nan_sign_decides() -> BeliefCase {
+pub fn nan_sign_decides() -> BeliefCase {
     let one = probability_of(1.0);
     let mut probabilities = vec![one, one, 0.0];
     let mut detectors = vec![(1..7).collect(), vec![0, 1, 3, 5], vec![0]];

@@ -6,7 +6,7 @@ use crate::counted::bp::{BpScratch, RelayBp, RelayConfig, SITES, min_sum_bp_into
 use crate::counted::drive;
 use crate::decode_cases::{self, Settings};
 use crate::graph_cases;
-use crate::lists::{beliefs, folder};
+use crate::lists::{beliefs, path};
 use crate::model::Model;
 use crate::tally::Tally;
 use pecos_decoder_core::dem::SparseDem;
@@ -66,9 +66,9 @@ pub fn run(tally: &mut Tally) {
     let beliefs = beliefs().kept;
     let decodes = decode_cases::cases();
     count::reset();
-    replay(tally, "graphs.txt", graphs.iter().map(drive::graph_line));
-    replay(tally, "beliefs.txt", beliefs.iter().map(drive::belief_line));
-    replay(tally, "decodes.txt", decodes.iter().map(drive::decode_line));
+    replay(tally, "graphs", graphs.iter().map(drive::graph_line));
+    replay(tally, "beliefs", beliefs.iter().map(drive::belief_line));
+    replay(tally, "decodes", decodes.iter().map(drive::decode_line));
     let by_lists = count::counts();
     count::reset();
     extra_refusals(tally);
@@ -77,7 +77,7 @@ pub fn run(tally: &mut Tally) {
 
 /// Every line of the list must be what the counted copy answers.
 fn replay(tally: &mut Tally, name: &str, lines: impl Iterator<Item = String>) {
-    let text = std::fs::read_to_string(folder().join(name)).unwrap_or_default();
+    let text = std::fs::read_to_string(path(name)).unwrap_or_default();
     let mut listed = text.lines().skip(1);
     let (mut equal, mut all) = (0, 0);
     for line in lines {

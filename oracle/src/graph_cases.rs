@@ -25,7 +25,7 @@ pub struct GraphCase {
 }
 
 impl GraphCase {
-    fn sparse(model: Model) -> Self {
+    pub fn sparse(model: Model) -> Self {
         Self {
             checks: model.checks,
             probabilities: model.probabilities,
@@ -34,7 +34,7 @@ impl GraphCase {
     }
 
     /// The same incidences as a matrix, with nonzero bytes of several values.
-    fn dense(model: &Model, random: &mut SplitMix64) -> Self {
+    pub fn dense(model: &Model, random: &mut SplitMix64) -> Self {
         let mechanisms = model.mechanisms();
         let mut matrix = vec![0; model.checks * mechanisms];
         for (mechanism, detectors) in model.detectors.iter().enumerate() {

@@ -14,9 +14,13 @@ use std::path::PathBuf;
 /// The lists are committed, so all three together stay below this many bytes.
 const MOST_BYTES: usize = 1_500_000;
 
-/// The folder of the lists.
-pub fn folder() -> PathBuf {
-    PathBuf::from(env!("CARGO_MANIFEST_DIR")).join("cases")
+/// Where a list stands: it is the standard input of the program that replays it. Decodes have none yet.
+pub fn path(name: &str) -> PathBuf {
+    let oracle = PathBuf::from(env!("CARGO_MANIFEST_DIR"));
+    match name {
+        "decodes" => oracle.join("cases/decodes.txt"),
+        _ => oracle.join(format!("../crates/replay_{name}/stdin")),
+    }
 }
 
 /// The listed belief cases, and what was left out of them.
@@ -95,13 +99,13 @@ pub fn run(tally: &mut Tally) {
     let decodes = decode_cases::cases();
     order_of_tests(tally);
     features(tally, &beliefs.kept, &decodes);
-    let size = write(tally, "graphs.txt", graphs.iter().map(drive::graph_line))
+    let size = write(tally, "graphs", graphs.iter().map(drive::graph_line))
         + write(
             tally,
-            "beliefs.txt",
+            "beliefs",
             beliefs.kept.iter().map(drive::belief_line),
         )
-        + write(tally, "decodes.txt", decodes.iter().map(drive::decode_line));
+        + write(tally, "decodes", decodes.iter().map(drive::decode_line));
     tally.check(
         "size of the lists",
         size < MOST_BYTES,
@@ -153,7 +157,7 @@ fn order_of_tests(tally: &mut Tally) {
 fn write(tally: &mut Tally, name: &str, lines: impl Iterator<Item = String>) -> usize {
     let lines: Vec<String> = lines.collect();
     let text = format!("{:x}\n{}\n", lines.len(), lines.join("\n"));
-    let path = folder().join(name);
+    let path = path(name);
     let before = std::fs::read_to_string(&path).ok();
     let (holds, seen) = match before {
         None => (true, "new"),

@@ -1,22 +1,15 @@
 // The public calls with the C calling convention: numbers and slices only, each thin and with its contract. A slice passes as a
-// pointer and then a length. A bool passes as 1 or 0.
+// pointer and then a length. A bool passes as 1 or 0, an answer as its code. The calls of `numbers` stand here.
+mod answers;
+mod beliefs;
+mod graphs;
+
 ghost use mathlib.Core.Path.{_≡_};
 ghost use Rattle.numbers.specs.Floats.{abs, isFinite, isNegative, messageSign};
 ghost use Rattle.numbers.specs.Draw.{product, advanced, mixed, gamma as gammaOf};
-ghost use Rattle.exports.specs.Bits.{bitOf};
+ghost use Rattle.exports.specs.Answers.{bitOf};
+use answers::bit;
 use numbers::SplitMix64;
-
-// 1 for true, 0 for false.
-fn bit(b: bool) -> u8
-    ensures { λ r. ⌜ r ≡ bitOf b ⌝ }
-{
-    if b {
-        return 1;
-    }
-    0
-}
-
-// ---- numbers
 
 // `numbers::magnitude`.
 #[no_mangle]

@@ -1,11 +1,24 @@
-//! The proved code against the Rust, in one process, on fresh random inputs: `compare numbers [COUNT [SEED]]`.
+//! The proved code against the Rust, in one process, on fresh random inputs: `compare numbers|graphs|beliefs [COUNT [SEED]]`.
 //! Every float is compared by its bits, but a NaN with any NaN. The last line says 'N passed, M failed'.
 
+mod beliefs;
+mod counts;
+mod graphs;
 mod numbers;
 
+use counts::Counts;
 use std::process::ExitCode;
 
-const USAGE: &str = "usage: compare numbers [COUNT [SEED]]";
+const USAGE: &str = "usage: compare numbers|graphs|beliefs [COUNT [SEED]]";
+
+/// What is compared: its name, how often where no count is given, and how.
+type Subject = (&'static str, u64, fn(u64, u64) -> Counts);
+
+const SUBJECTS: [Subject; 3] = [
+    ("numbers", 1_000_000, numbers::run),
+    ("graphs", 100_000, graphs::run),
+    ("beliefs", 200_000, beliefs::run),
+];
 
 fn main() -> ExitCode {
     let words: Vec<String> = std::env::args().skip(1).collect();
@@ -13,17 +26,18 @@ fn main() -> ExitCode {
         Some(word) => word.parse().ok(),
         None => Some(default),
     };
-    let (Some("numbers"), Some(count), Some(seed)) = (
-        words.first().map(String::as_str),
-        number(1, 1_000_000),
-        number(2, 1),
-    ) else {
+    let named = |(name, _, _): &&Subject| words.first().is_some_and(|word| word == name);
+    let Some(&(name, usual, run)) = SUBJECTS.iter().find(named) else {
         eprintln!("{USAGE}");
         return ExitCode::from(2);
     };
-    println!("numbers: {count} rounds from seed {seed}");
-    let failed = numbers::run(count, seed);
-    println!("{} passed, {failed} failed", count - failed);
+    let (Some(count), Some(seed)) = (number(1, usual), number(2, 1)) else {
+        eprintln!("{USAGE}");
+        return ExitCode::from(2);
+    };
+    println!("{name}: {count} rounds from seed {seed}");
+    let Counts { passed, failed, .. } = run(count, seed);
+    println!("{passed} passed, {failed} failed");
     if failed == 0 {
         ExitCode::SUCCESS
     } else {

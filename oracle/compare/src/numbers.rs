@@ -1,5 +1,6 @@
 //! The calls of the crate `numbers` against Rust's own operations.
 
+use crate::counts::Counts;
 use oracle::splitmix::SplitMix64;
 
 /// Floats at which a sign or a test turns.
@@ -34,10 +35,10 @@ fn same(a: f64, b: f64) -> bool {
     a.to_bits() == b.to_bits() || a.is_nan() && b.is_nan()
 }
 
-/// How many of `count` rounds differ. A NaN's sign is positive in the port, so `copysign`'s is compared off a NaN.
-pub fn run(count: u64, seed: u64) -> u64 {
+/// `count` rounds. A NaN's sign is positive in the port, so `copysign`'s is compared off a NaN.
+pub fn run(count: u64, seed: u64) -> Counts {
     let mut g = SplitMix64::new(seed);
-    let mut failed = 0;
+    let mut counts = Counts::default();
     for round in 0..count {
         let x = any_float(&mut g);
         let (low, high) = (any_float(&mut g), any_float(&mut g));
@@ -55,12 +56,9 @@ pub fn run(count: u64, seed: u64) -> u64 {
             && proved::draw(a) == draw
             && proved::next_state(a) == other.state()
             && same(proved::gamma(low, high, draw), low + (high - low) * unit);
-        if !good {
-            failed += 1;
-            println!(
-                "round {round}: x {x:e}, interval {low:e} to {high:e}, numbers {a:x} and {b:x}"
-            );
-        }
+        counts.check(good, || {
+            format!("round {round}: x {x:e}, interval {low:e} to {high:e}, numbers {a:x} and {b:x}")
+        });
     }
-    failed
+    counts
 }

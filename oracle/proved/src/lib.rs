@@ -2,6 +2,7 @@
 //! stand in this one file, in its order.
 
 mod raw {
+    // A slice is a pointer and then a length.
     unsafe extern "C" {
         pub safe fn chowderkite_magnitude(x: f64) -> f64;
         pub safe fn chowderkite_is_finite(x: f64) -> u8;
@@ -11,6 +12,103 @@ mod raw {
         pub safe fn chowderkite_next_state(state: u64) -> u64;
         pub safe fn chowderkite_draw(state: u64) -> u64;
         pub safe fn chowderkite_gamma(low: f64, high: f64, draw: u64) -> f64;
+
+        pub unsafe fn chowderkite_build_sparse(
+            checks: usize,
+            mechanisms: usize,
+            edges: usize,
+            priors: *const f64,
+            priors_len: usize,
+            detector_offsets: *const u32,
+            detector_offsets_len: usize,
+            detectors: *const u32,
+            detectors_len: usize,
+            check_var: *mut u32,
+            check_var_len: usize,
+            check_message: *mut u32,
+            check_message_len: usize,
+            check_offset: *mut u32,
+            check_offset_len: usize,
+            var_check: *mut u32,
+            var_check_len: usize,
+            var_message: *mut u32,
+            var_message_len: usize,
+            var_offset: *mut u32,
+            var_offset_len: usize,
+        ) -> u64;
+        pub unsafe fn chowderkite_count_edges(matrix: *const u8, matrix_len: usize) -> usize;
+        pub unsafe fn chowderkite_build_dense(
+            checks: usize,
+            mechanisms: usize,
+            priors: *const f64,
+            priors_len: usize,
+            matrix: *const u8,
+            matrix_len: usize,
+            check_var: *mut u32,
+            check_var_len: usize,
+            check_message: *mut u32,
+            check_message_len: usize,
+            check_offset: *mut u32,
+            check_offset_len: usize,
+            var_check: *mut u32,
+            var_check_len: usize,
+            var_message: *mut u32,
+            var_message_len: usize,
+            var_offset: *mut u32,
+            var_offset_len: usize,
+        ) -> u64;
+        pub unsafe fn chowderkite_check_graph(
+            checks: usize,
+            mechanisms: usize,
+            edges: usize,
+            priors: *const f64,
+            priors_len: usize,
+            check_var: *const u32,
+            check_var_len: usize,
+            check_message: *const u32,
+            check_message_len: usize,
+            check_offset: *const u32,
+            check_offset_len: usize,
+            var_check: *const u32,
+            var_check_len: usize,
+            var_message: *const u32,
+            var_message_len: usize,
+            var_offset: *const u32,
+            var_offset_len: usize,
+        ) -> u64;
+
+        pub unsafe fn chowderkite_beliefs(
+            checks: usize,
+            mechanisms: usize,
+            edges: usize,
+            priors: *const f64,
+            priors_len: usize,
+            check_var: *const u32,
+            check_var_len: usize,
+            check_message: *const u32,
+            check_message_len: usize,
+            check_offset: *const u32,
+            check_offset_len: usize,
+            var_check: *const u32,
+            var_check_len: usize,
+            var_message: *const u32,
+            var_message_len: usize,
+            var_offset: *const u32,
+            var_offset_len: usize,
+            syndrome: *const u8,
+            syndrome_len: usize,
+            iterations: usize,
+            scale: f64,
+            serial: u8,
+            posterior: *mut f64,
+            posterior_len: usize,
+            ewa_posterior: *mut f64,
+            ewa_posterior_len: usize,
+            c_to_v: *mut f64,
+            c_to_v_len: usize,
+            v_to_c: *mut f64,
+            v_to_c_len: usize,
+        ) -> u64;
     }
 }
 
@@ -26,4 +124,238 @@ pub fn is_finite(x: f64) -> bool {
 
 pub fn is_negative(x: f64) -> bool {
     raw::chowderkite_is_negative(x) == 1
+}
+
+/// What a call answers: nothing, or a refusal's number and place in document 01's table. The place is 0 where it has none.
+pub type Answer = Result<(), (u64, u64)>;
+
+fn answer(code: u64) -> Answer {
+    if code == 0 {
+        Ok(())
+    } else {
+        Err((code % 65_536, code / 65_536))
+    }
+}
+
+/// How many checks, mechanisms and edges the caller says that there are.
+#[derive(Clone, Copy, Debug, PartialEq, Eq)]
+pub struct Size {
+    pub checks: usize,
+    pub mechanisms: usize,
+    pub edges: usize,
+}
+
+/// The six lists of a graph.
+#[derive(Clone, Debug, Default, PartialEq, Eq)]
+pub struct Lists {
+    pub check_var: Vec<u32>,
+    pub check_message: Vec<u32>,
+    pub check_offset: Vec<u32>,
+    pub var_check: Vec<u32>,
+    pub var_message: Vec<u32>,
+    pub var_offset: Vec<u32>,
+}
+
+impl Lists {
+    /// Lists that fit, filled with one number.
+    pub fn filled(size: Size, with: u32) -> Self {
+        let list = |length: usize| vec![with; length];
+        Self {
+            check_var: list(size.edges),
+            check_message: list(size.edges),
+            check_offset: list(size.checks + 1),
+            var_check: list(size.edges),
+            var_message: list(size.edges),
+            var_offset: list(size.mechanisms + 1),
+        }
+    }
+
+    /// All six, in the order of the calls.
+    pub fn each(&mut self) -> [&mut Vec<u32>; 6] {
+        [
+            &mut self.check_var,
+            &mut self.check_message,
+            &mut self.check_offset,
+            &mut self.var_check,
+            &mut self.var_message,
+            &mut self.var_offset,
+        ]
+    }
+}
+
+pub fn build_sparse(
+    size: Size,
+    priors: &[f64],
+    detector_offsets: &[u32],
+    detectors: &[u32],
+    lists: &mut Lists,
+) -> Answer {
+    // Each pointer comes with its own list's length, and the six written lists are lists apart.
+    answer(unsafe {
+        raw::chowderkite_build_sparse(
+            size.checks,
+            size.mechanisms,
+            size.edges,
+            priors.as_ptr(),
+            priors.len(),
+            detector_offsets.as_ptr(),
+            detector_offsets.len(),
+            detectors.as_ptr(),
+            detectors.len(),
+            lists.check_var.as_mut_ptr(),
+            lists.check_var.len(),
+            lists.check_message.as_mut_ptr(),
+            lists.check_message.len(),
+            lists.check_offset.as_mut_ptr(),
+            lists.check_offset.len(),
+            lists.var_check.as_mut_ptr(),
+            lists.var_check.len(),
+            lists.var_message.as_mut_ptr(),
+            lists.var_message.len(),
+            lists.var_offset.as_mut_ptr(),
+            lists.var_offset.len(),
+        )
+    })
+}
+
+pub fn count_edges(matrix: &[u8]) -> usize {
+    unsafe { raw::chowderkite_count_edges(matrix.as_ptr(), matrix.len()) }
+}
+
+pub fn build_dense(
+    checks: usize,
+    mechanisms: usize,
+    priors: &[f64],
+    matrix: &[u8],
+    lists: &mut Lists,
+) -> Answer {
+    answer(unsafe {
+        raw::chowderkite_build_dense(
+            checks,
+            mechanisms,
+            priors.as_ptr(),
+            priors.len(),
+            matrix.as_ptr(),
+            matrix.len(),
+            lists.check_var.as_mut_ptr(),
+            lists.check_var.len(),
+            lists.check_message.as_mut_ptr(),
+            lists.check_message.len(),
+            lists.check_offset.as_mut_ptr(),
+            lists.check_offset.len(),
+            lists.var_check.as_mut_ptr(),
+            lists.var_check.len(),
+            lists.var_message.as_mut_ptr(),
+            lists.var_message.len(),
+            lists.var_offset.as_mut_ptr(),
+            lists.var_offset.len(),
+        )
+    })
+}
+
+pub fn check_graph(size: Size, priors: &[f64], lists: &Lists) -> Answer {
+    answer(unsafe {
+        raw::chowderkite_check_graph(
+            size.checks,
+            size.mechanisms,
+            size.edges,
+            priors.as_ptr(),
+            priors.len(),
+            lists.check_var.as_ptr(),
+            lists.check_var.len(),
+            lists.check_message.as_ptr(),
+            lists.check_message.len(),
+            lists.check_offset.as_ptr(),
+            lists.check_offset.len(),
+            lists.var_check.as_ptr(),
+            lists.var_check.len(),
+            lists.var_message.as_ptr(),
+            lists.var_message.len(),
+            lists.var_offset.as_ptr(),
+            lists.var_offset.len(),
+        )
+    })
+}
+
+/// The lists that `beliefs` writes: the posterior is the result, the others are for work.
+#[derive(Clone, Debug, Default)]
+pub struct Beliefs {
+    pub posterior: Vec<f64>,
+    pub ewa_posterior: Vec<f64>,
+    pub c_to_v: Vec<f64>,
+    pub v_to_c: Vec<f64>,
+}
+
+impl Beliefs {
+    /// Lists that fit, filled with one number.
+    pub fn filled(size: Size, with: f64) -> Self {
+        Self {
+            posterior: vec![with; size.mechanisms],
+            ewa_posterior: vec![with; size.mechanisms],
+            c_to_v: vec![with; size.edges],
+            v_to_c: vec![with; size.edges],
+        }
+    }
+
+    /// All four, in the order of the call.
+    pub fn each(&mut self) -> [&mut Vec<f64>; 4] {
+        [
+            &mut self.posterior,
+            &mut self.ewa_posterior,
+            &mut self.c_to_v,
+            &mut self.v_to_c,
+        ]
+    }
+}
+
+/// A run of min-sum: what is asked for beside the graph.
+#[derive(Clone, Copy, Debug)]
+pub struct Run<'a> {
+    pub syndrome: &'a [u8],
+    pub iterations: usize,
+    pub scale: f64,
+    pub serial: bool,
+}
+
+pub fn beliefs(
+    size: Size,
+    priors: &[f64],
+    lists: &Lists,
+    run: Run,
+    beliefs: &mut Beliefs,
+) -> Answer {
+    answer(unsafe {
+        raw::chowderkite_beliefs(
+            size.checks,
+            size.mechanisms,
+            size.edges,
+            priors.as_ptr(),
+            priors.len(),
+            lists.check_var.as_ptr(),
+            lists.check_var.len(),
+            lists.check_message.as_ptr(),
+            lists.check_message.len(),
+            lists.check_offset.as_ptr(),
+            lists.check_offset.len(),
+            lists.var_check.as_ptr(),
+            lists.var_check.len(),
+            lists.var_message.as_ptr(),
+            lists.var_message.len(),
+            lists.var_offset.as_ptr(),
+            lists.var_offset.len(),
+            run.syndrome.as_ptr(),
+            run.syndrome.len(),
+            run.iterations,
+            run.scale,
+            u8::from(run.serial),
+            beliefs.posterior.as_mut_ptr(),
+            beliefs.posterior.len(),
+            beliefs.ewa_posterior.as_mut_ptr(),
+            beliefs.ewa_posterior.len(),
+            beliefs.c_to_v.as_mut_ptr(),
+            beliefs.c_to_v.len(),
+            beliefs.v_to_c.as_mut_ptr(),
+            beliefs.v_to_c.len(),
+        )
+    })
 }

@@ -1,9 +1,9 @@
--- `exports::bit` meets its contract: each arm answers what the definition computes there.
+-- `exports::answers::bit` meets its contract: each arm answers what the definition computes there.
 -- Assumes nothing.
 use mathlib.Core.Path.{sym, ap}
-use Rattle.exports.specs.Bits.{bitOf}
-use Rattle.exports.proofs.bit.Statement.{statement}
-use Rattle.exports.proofs.bit.Tie as tie
+use Rattle.exports.specs.Answers.{bitOf}
+use Rattle.exports.proofs.answers.bit.Statement.{statement}
+use Rattle.exports.proofs.answers.bit.Tie as tie
 
 returns : tie.Need-returns
 returns c = sym (ap bitOf (c .if1 .taken))

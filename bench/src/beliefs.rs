@@ -1,0 +1,75 @@
+//! Runs of min-sum, 20 iterations. The port tests the lent graph first and clears its work lists after, in the time that is
+//! taken; the Rust's graph was tested as it was built.
+
+use crate::models::{EDGES, sized};
+use crate::timing::row;
+use oracle::exact::bp::{BpScratch, min_sum_bp_into};
+use oracle::exact::drive;
+use oracle::splitmix::SplitMix64;
+use proved::{Beliefs, Run};
+use std::hint::black_box;
+
+const ITERATIONS: usize = 20;
+const SCALE: f64 = 0.75;
+
+pub fn run() {
+    for edges in EDGES {
+        for serial in [false, true] {
+            beliefs(edges, serial);
+        }
+    }
+}
+
+fn beliefs(edges: usize, serial: bool) {
+    let sized = sized(edges);
+    // Some hundredth of the mechanisms happened.
+    let mut random = SplitMix64::new(3);
+    let happened: Vec<bool> = (0..sized.size.mechanisms)
+        .map(|_| random.once_in(100))
+        .collect();
+    let syndrome = sized.model.syndrome_of(&happened);
+    let graph = drive::sparse_graph(&sized.model).expect("the model builds");
+    let mut scratch = BpScratch::new(&graph);
+    let mut posterior = vec![0.0; sized.size.mechanisms];
+    let lists = sized.lists();
+    let mut ours = Beliefs::filled(sized.size, 0.0);
+    let name = if serial {
+        "beliefs, serial"
+    } else {
+        "beliefs, not serial"
+    };
+    row(
+        name,
+        edges,
+        &mut || {
+            min_sum_bp_into(
+                black_box(&graph),
+                &syndrome,
+                ITERATIONS,
+                SCALE,
+                serial,
+                &mut scratch,
+                black_box(&mut posterior),
+            )
+            .expect("the beliefs are finite");
+        },
+        &mut || {
+            let run = Run {
+                syndrome: &syndrome,
+                iterations: ITERATIONS,
+                scale: SCALE,
+                serial,
+            };
+            let answer = proved::beliefs(
+                sized.size,
+                black_box(&sized.priors),
+                &lists,
+                run,
+                black_box(&mut ours),
+            );
+            assert_eq!(answer, Ok(()));
+        },
+    );
+    let bits = |list: &[f64]| list.iter().map(|x| x.to_bits()).collect::<Vec<_>>();
+    assert_eq!(bits(&posterior), bits(&ours.posterior));
+}

@@ -1,0 +1,55 @@
+-- How answers pass through the C calling convention. Definitions only. Assumes nothing.
+use Prim.Native.Nat.{ℕ, _+_, _*_, _%_}
+use mathlib.Core.Bool.{Bool, true, false}
+use Rattle.refusals.specs.declared.Answer.{Answer}
+use Rattle.refusals.specs.declared.Answer.the-variants.{Done, Refused}
+use Rattle.refusals.specs.declared.Place.{Place}
+use Rattle.refusals.specs.declared.Place.the-variants.{Nowhere, At}
+use Rattle.refusals.specs.Refusal.{numberOf, placeOf}
+use Rattle.graph.specs.Graph.{Graph}
+use Rattle.graph.specs.Model.{Outcome}
+use Rattle.min_sum.specs.Beliefs.{Lists, Outcome as BeliefsOutcome}
+
+-- 1 for true, 0 for false
+abbrev pub bitOf : Bool → ℕ
+bitOf true = 1
+bitOf false = 0
+
+-- 65,536 times the place, 0 where there is none. The remainder keeps the code within 64 bits for every number; no place of document 01 reaches 2^32, for
+-- the largest is an index of at most 65,535 times 65,536 gammas.
+abbrev pub placeCode : Place → ℕ
+placeCode Nowhere = 0
+placeCode (At place) = 65536 * (place % 4294967296)
+
+-- an answer as one number: the refusal's number plus 65,536 times its place, 0 for none
+abbrev pub codeOf : Answer → ℕ
+codeOf Done = 0
+codeOf (Refused r) = numberOf r + placeCode (placeOf r)
+
+-- ---- a call that fills graph lists
+
+-- the code, and the graph lists as the call leaves them
+pub record Sent : Type 0 where
+  pub code : ℕ
+  pub lists : Graph
+
+abbrev pub sent : ℕ → Graph → Sent
+sent code g = record { code = code; lists = g }
+
+-- an outcome, its answer as a code
+abbrev pub sentOf : Outcome → Sent
+sentOf o = sent (codeOf (o .answer)) (o .lists)
+
+-- ---- beliefs
+
+-- the code, and the lent lists as the call leaves them
+pub record Left : Type 0 where
+  pub code : ℕ
+  pub lists : Lists
+
+abbrev pub left : ℕ → Lists → Left
+left code l = record { code = code; lists = l }
+
+-- an outcome of `beliefs`, its answer as a code
+abbrev pub leftBy : BeliefsOutcome → Left
+leftBy o = left (codeOf (o .answer)) (o .left)

@@ -1,0 +1,2 @@
+-- The laws that stand by themselves, for the replay programs.
+pub mod Room

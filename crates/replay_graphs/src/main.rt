@@ -1,0 +1,342 @@
+// Replays the oracle's list of graph cases: builds each model and compares answer and lists with the Rust's. It reads the list from
+// standard input, which the file stdin holds.
+use graph::Size;
+use libc::STDOUT_FILENO;
+use numbers::wrapping_mul;
+use refusals::Answer;
+use refusals::is_done;
+use replay_core::Same;
+use replay_core::is_answer;
+use replay_core::line_end;
+use replay_core::read_bytes;
+use replay_core::read_floats;
+use replay_core::read_numbers;
+use replay_core::same_numbers;
+use replay_core::word_at;
+
+// Whether the line goes on with this answer and, where nothing is refused, with these lists, and then ends.
+fn answered(
+    line: &[u8],
+    at: usize,
+    a: Answer,
+    check_var: &[u32],
+    check_message: &[u32],
+    check_offset: &[u32],
+    var_check: &[u32],
+    var_message: &[u32],
+    var_offset: &[u32],
+) -> bool {
+    let number = word_at(line, at);
+    let place = word_at(line, number.next);
+    if !is_answer(a, number.value, place.value) {
+        return false;
+    }
+    if !is_done(a) {
+        return place.next == line.len();
+    }
+    let start = Same {
+        same: true,
+        next: place.next,
+    };
+    let cv = same_numbers(line, start, check_var);
+    let cm = same_numbers(line, cv, check_message);
+    let co = same_numbers(line, cm, check_offset);
+    let vc = same_numbers(line, co, var_check);
+    let vm = same_numbers(line, vc, var_message);
+    let vo = same_numbers(line, vm, var_offset);
+    if !vo.same {
+        return false;
+    }
+    vo.next == line.len()
+}
+
+// ---- a sparse model: 63 checks and mechanisms and 128 edges at most
+
+// Built into lists that fit, and compared.
+fn sparse_built(
+    line: &[u8],
+    at: usize,
+    size: Size,
+    priors: &[f64],
+    offsets: &[u32],
+    detectors: &[u32],
+    check_var: &mut [u32],
+    check_message: &mut [u32],
+    check_offset: &mut [u32],
+    var_check: &mut [u32],
+    var_message: &mut [u32],
+    var_offset: &mut [u32],
+) -> bool {
+    let a = graph::build_sparse(
+        size,
+        priors,
+        offsets,
+        detectors,
+        check_var,
+        check_message,
+        check_offset,
+        var_check,
+        var_message,
+        var_offset,
+    );
+    answered(
+        line,
+        at,
+        a,
+        check_var,
+        check_message,
+        check_offset,
+        var_check,
+        var_message,
+        var_offset,
+    )
+}
+
+// With room for the graph.
+fn sparse_graph(
+    line: &[u8],
+    at: usize,
+    size: Size,
+    priors: &[f64],
+    offsets: &[u32],
+    detectors: &[u32],
+) -> bool {
+    let checks = size.checks;
+    let mechanisms = size.mechanisms;
+    let edges = size.edges;
+    if checks > 63 {
+        return false;
+    }
+    if mechanisms > 63 {
+        return false;
+    }
+    if edges > 128 {
+        return false;
+    }
+    let mut check_var = [0u32; 128];
+    let mut check_message = [0u32; 128];
+    let mut check_offset = [0u32; 64];
+    let mut var_check = [0u32; 128];
+    let mut var_message = [0u32; 128];
+    let mut var_offset = [0u32; 64];
+    sparse_built(
+        line,
+        at,
+        size,
+        priors,
+        offsets,
+        detectors,
+        &mut check_var[..edges],
+        &mut check_message[..edges],
+        &mut check_offset[..checks + 1],
+        &mut var_check[..edges],
+        &mut var_message[..edges],
+        &mut var_offset[..mechanisms + 1],
+    )
+}
+
+// Read into lists of its sizes.
+fn sparse_read(
+    line: &[u8],
+    at: usize,
+    size: Size,
+    priors: &mut [f64],
+    offsets: &mut [u32],
+    detectors: &mut [u32],
+) -> bool {
+    let after_priors = read_floats(line, at, priors);
+    let after_offsets = read_numbers(line, after_priors, offsets);
+    let after_detectors = read_numbers(line, after_offsets, detectors);
+    sparse_graph(line, after_detectors, size, priors, offsets, detectors)
+}
+
+// With room for the model.
+fn sparse(line: &[u8], at: usize, size: Size) -> bool {
+    let mechanisms = size.mechanisms;
+    let edges = size.edges;
+    if mechanisms > 63 {
+        return false;
+    }
+    if edges > 128 {
+        return false;
+    }
+    let mut priors = [0.0; 64];
+    let mut offsets = [0u32; 64];
+    let mut detectors = [0u32; 128];
+    sparse_read(
+        line,
+        at,
+        size,
+        &mut priors[..mechanisms],
+        &mut offsets[..mechanisms + 1],
+        &mut detectors[..edges],
+    )
+}
+
+// ---- a dense model: the same, and 2,560 bytes
+
+// Built into lists that fit, and compared.
+fn dense_built(
+    line: &[u8],
+    at: usize,
+    size: Size,
+    priors: &[f64],
+    matrix: &[u8],
+    check_var: &mut [u32],
+    check_message: &mut [u32],
+    check_offset: &mut [u32],
+    var_check: &mut [u32],
+    var_message: &mut [u32],
+    var_offset: &mut [u32],
+) -> bool {
+    let a = graph::build_dense(
+        size.checks,
+        size.mechanisms,
+        priors,
+        matrix,
+        check_var,
+        check_message,
+        check_offset,
+        var_check,
+        var_message,
+        var_offset,
+    );
+    answered(
+        line,
+        at,
+        a,
+        check_var,
+        check_message,
+        check_offset,
+        var_check,
+        var_message,
+        var_offset,
+    )
+}
+
+// With room for the graph.
+fn dense_graph(line: &[u8], at: usize, size: Size, priors: &[f64], matrix: &[u8]) -> bool {
+    let checks = size.checks;
+    let mechanisms = size.mechanisms;
+    let edges = size.edges;
+    if checks > 63 {
+        return false;
+    }
+    if mechanisms > 63 {
+        return false;
+    }
+    if edges > 128 {
+        return false;
+    }
+    let mut check_var = [0u32; 128];
+    let mut check_message = [0u32; 128];
+    let mut check_offset = [0u32; 64];
+    let mut var_check = [0u32; 128];
+    let mut var_message = [0u32; 128];
+    let mut var_offset = [0u32; 64];
+    dense_built(
+        line,
+        at,
+        size,
+        priors,
+        matrix,
+        &mut check_var[..edges],
+        &mut check_message[..edges],
+        &mut check_offset[..checks + 1],
+        &mut var_check[..edges],
+        &mut var_message[..edges],
+        &mut var_offset[..mechanisms + 1],
+    )
+}
+
+// Read into lists of its sizes.
+fn dense_read(line: &[u8], at: usize, size: Size, priors: &mut [f64], matrix: &mut [u8]) -> bool {
+    let after_priors = read_floats(line, at, priors);
+    let after_matrix = read_bytes(line, after_priors, matrix);
+    dense_graph(line, after_matrix, size, priors, matrix)
+}
+
+// With room for the model.
+fn dense(line: &[u8], at: usize, size: Size) -> bool {
+    let mechanisms = size.mechanisms;
+    let bytes = wrapping_mul(size.checks as u64, size.mechanisms as u64) as usize;
+    if mechanisms > 63 {
+        return false;
+    }
+    if bytes > 2560 {
+        return false;
+    }
+    let mut priors = [0.0; 64];
+    let mut matrix = [0u8; 2560];
+    dense_read(
+        line,
+        at,
+        size,
+        &mut priors[..mechanisms],
+        &mut matrix[..bytes],
+    )
+}
+
+// ---- the list
+
+// A case: whether the code answers as the line says.
+fn case(line: &[u8]) -> bool {
+    let kind = word_at(line, 0);
+    let checks = word_at(line, kind.next);
+    let mechanisms = word_at(line, checks.next);
+    let edges = word_at(line, mechanisms.next);
+    let size = Size {
+        checks: checks.value as usize,
+        mechanisms: mechanisms.value as usize,
+        edges: edges.value as usize,
+    };
+    if kind.value == 1 {
+        return dense(line, edges.next, size);
+    }
+    sparse(line, edges.next, size)
+}
+
+// How many cases came out the same, and how many not.
+struct Counts {
+    same: u64,
+    other: u64,
+}
+
+// Every case, from the second line on: the first has their number.
+fn replay(text: &[u8]) -> Counts {
+    let mut same: u64 = 0;
+    let mut other: u64 = 0;
+    let mut at = line_end(text, 0);
+    while at < text.len() {
+        // `at` is at the end of the line before.
+        let start = at + 1;
+        let end = line_end(text, start);
+        if start < end {
+            if case(&text[start..end]) {
+                same += 1;
+            } else {
+                other += 1;
+            }
+        }
+        at = end;
+    }
+    Counts {
+        same: same,
+        other: other,
+    }
+}
+
+fn room() -> [u8; 262144] {
+    [0u8; 262144]
+}
+
+fn main() {
+    let mut text = room();
+    let n = io::read_full(0, &mut text);
+    let counts = replay(&text[..n]);
+    io::write_all(STDOUT_FILENO, b"graphs ");
+    io::print_decimal(STDOUT_FILENO, counts.same);
+    io::write_all(STDOUT_FILENO, b" same, ");
+    io::print_decimal(STDOUT_FILENO, counts.other);
+    io::write_all(STDOUT_FILENO, b" other\n");
+}

@@ -1,0 +1,212 @@
+//! `beliefs` against the Rust, every posterior bit. A NaN's sign is open in the Rust and positive in the port, so what is
+//! wanted is the answer of the oracle's copy that reads it as positive; where the published files answer something else on
+//! this processor, the run is counted apart.
+
+use crate::counts::Counts;
+use crate::graphs::{Given, damage_lists, model_of, nudge_length, wanted_lists};
+use oracle::answers::Refusal;
+use oracle::belief_cases::{BeliefCase, SCALES, nan_sign_decides, random_syndrome};
+use oracle::counted;
+use oracle::counted::bp::count::{NanSign, read_nan_sign};
+use oracle::exact;
+use oracle::graph_cases::GraphCase;
+use oracle::model::random_model;
+use oracle::splitmix::SplitMix64;
+use proved::{Answer, Beliefs, Run, Size};
+
+const MOST_ITERATIONS: usize = 65_535;
+
+pub fn run(count: u64, seed: u64) -> Counts {
+    read_nan_sign(NanSign::Positive);
+    let mut random = SplitMix64::new(seed);
+    let mut all = Counts::default();
+    let mut apart = 0;
+    all.add("small runs", small(count, &mut random, &mut apart));
+    all.add("large runs", large(&mut random, &mut apart));
+    println!(
+        "a NaN's sign decided {apart} of these runs: there the Rust answers otherwise on this processor"
+    );
+    let mut made = Counts::default();
+    apart = 0;
+    compare(&nan_sign_decides(), &mut random, &mut made, &mut apart);
+    made.check(apart == 1, || {
+        "the Rust reads a NaN's sign as positive here".into()
+    });
+    all.add("the case made for a NaN's sign", made);
+    all.add("damaged", damaged(count / 4, &mut random));
+    all
+}
+
+fn bits(list: &[f64]) -> Vec<u64> {
+    list.iter().map(|value| value.to_bits()).collect()
+}
+
+fn is_zero(list: &[f64]) -> bool {
+    list.iter().all(|value| value.to_bits() == 0)
+}
+
+/// An answer with the posterior's bits.
+type Told = Result<Vec<u64>, (u64, u64)>;
+
+fn told(answer: Result<Vec<f64>, Refusal>) -> Told {
+    match answer {
+        Ok(posterior) => Ok(bits(&posterior)),
+        Err(Refusal { code, place }) => Err((code as u64, place as u64)),
+    }
+}
+
+/// One run, both ways.
+fn compare(case: &BeliefCase, random: &mut SplitMix64, counts: &mut Counts, apart: &mut u64) {
+    let mut given = Given::of(&GraphCase::sparse(case.model.clone()), random);
+    let built = given.build_sparse();
+    let mut lists = Beliefs::filled(given.size, random.pick(&[1.5, -0.0, f64::NAN]));
+    let run = Run {
+        syndrome: &case.syndrome,
+        iterations: case.iterations,
+        scale: case.scale,
+        serial: case.serial,
+    };
+    let answer = proved::beliefs(given.size, &given.priors, &given.lists, run, &mut lists);
+    let wanted = told(counted::drive::beliefs(case));
+    if told(exact::drive::beliefs(case)) != wanted {
+        *apart += 1;
+    }
+    let same = match (answer, &wanted) {
+        (Ok(()), Ok(posterior)) => bits(&lists.posterior) == *posterior,
+        (Err(refusal), Err(other)) => refusal == *other && is_zero(&lists.posterior),
+        _ => false,
+    };
+    let cleared = is_zero(&lists.ewa_posterior) && is_zero(&lists.c_to_v) && is_zero(&lists.v_to_c);
+    counts.wanted(wanted.as_ref().map(|_| ()).map_err(|refusal| *refusal));
+    counts.check(built == Ok(()) && same && cleared, || {
+        format!("{answer:?}, {:?} for {wanted:?}: {case:?}", lists.posterior)
+    });
+}
+
+fn any_scale(random: &mut SplitMix64) -> f64 {
+    match random.below(4) {
+        0 => random.pick(&SCALES),
+        1 => f64::from_bits(random.draw()),
+        _ => 0.3 + random.unit(),
+    }
+}
+
+fn small(count: u64, random: &mut SplitMix64, apart: &mut u64) -> Counts {
+    let mut counts = Counts::default();
+    for _ in 0..count {
+        let most = random.pick(&[2, 4, 6, 9, 14, 24]);
+        let model = random_model(random, most, most * 3 / 2);
+        let case = BeliefCase {
+            syndrome: random_syndrome(random, model.checks),
+            model,
+            iterations: if random.once_in(200) {
+                random.between(21, 600)
+            } else {
+                random.below(21)
+            },
+            scale: any_scale(random),
+            serial: random.once_in(2),
+        };
+        compare(&case, random, &mut counts, apart);
+    }
+    counts
+}
+
+fn large(random: &mut SplitMix64, apart: &mut u64) -> Counts {
+    let mut counts = Counts::default();
+    for (checks, mechanisms, edges, iterations) in [
+        (65_536, 65_536, 1_048_576, 3),
+        (1024, 65_536, 1_048_576, 7),
+        (65_536, 16_384, 131_072, 12),
+        (4000, 8000, 24_000, 20),
+        (300, 900, 2700, 400),
+        (2, 65_536, 131_072, 6),
+    ] {
+        for serial in [false, true] {
+            let size = Size {
+                checks,
+                mechanisms,
+                edges,
+            };
+            let model = model_of(size, random);
+            let case = BeliefCase {
+                syndrome: random_syndrome(random, checks),
+                model,
+                iterations,
+                scale: 0.3 + random.unit(),
+                serial,
+            };
+            compare(&case, random, &mut counts, apart);
+        }
+    }
+    counts
+}
+
+/// What document 01's table says before the run: the tests of the graph, then 12, 20 and 22.
+fn wanted_before(given: &Given, run: Run, lists: &Beliefs) -> Answer {
+    wanted_lists(given)?;
+    let Size {
+        checks,
+        mechanisms,
+        edges,
+    } = given.size;
+    if run.iterations > MOST_ITERATIONS {
+        return Err((12, 0));
+    }
+    if run.syndrome.len() != checks {
+        return Err((20, 0));
+    }
+    let by_mechanism = [&lists.posterior, &lists.ewa_posterior];
+    let by_edge = [&lists.c_to_v, &lists.v_to_c];
+    if by_mechanism.iter().any(|list| list.len() != mechanisms)
+        || by_edge.iter().any(|list| list.len() != edges)
+    {
+        return Err((22, 0));
+    }
+    Ok(())
+}
+
+fn damaged(count: u64, random: &mut SplitMix64) -> Counts {
+    let mut counts = Counts::default();
+    for _ in 0..count {
+        let most = random.pick(&[1, 2, 3, 8]);
+        let model = random_model(random, most, most);
+        let mut syndrome = random_syndrome(random, model.checks);
+        let mut given = Given::of(&GraphCase::sparse(model), random);
+        let built = given.build_sparse();
+        let mut lists = Beliefs::filled(given.size, 1.5);
+        let mut iterations = random.below(4);
+        for _ in 0..random.between(1, 2) {
+            match random.below(6) {
+                0 => nudge_length(random, &mut syndrome, 1),
+                1 => iterations = random.pick(&[MOST_ITERATIONS + 1, 1 << 32, usize::MAX]),
+                2 | 3 => {
+                    let which = random.below(4);
+                    nudge_length(random, lists.each()[which], 2.5);
+                }
+                _ => damage_lists(random, &mut given),
+            }
+        }
+        let run = Run {
+            syndrome: &syndrome,
+            iterations,
+            scale: 0.5,
+            serial: random.once_in(2),
+        };
+        let mut before = lists.clone();
+        let wanted = wanted_before(&given, run, &lists);
+        let answer = proved::beliefs(given.size, &given.priors, &given.lists, run, &mut lists);
+        let kept = lists
+            .each()
+            .iter()
+            .zip(before.each())
+            .all(|(now, before)| bits(now) == bits(before));
+        counts.wanted(wanted);
+        // Past the tests these runs stay finite: that they are right is what the others show.
+        let good = answer == wanted && (kept || wanted == Ok(()));
+        counts.check(good && built == Ok(()), || {
+            format!("{answer:?} for {wanted:?}: {given:?}, {run:?}, {lists:?}")
+        });
+    }
+    counts
+}
