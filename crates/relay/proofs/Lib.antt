@@ -10,3 +10,5 @@ pub mod OrderWords
 pub mod Variables
 pub mod Passes
 pub mod Legs
+pub mod Calls
+pub mod Theorems
