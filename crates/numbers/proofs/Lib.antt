@@ -2,5 +2,6 @@
 pub mod Tests
 pub mod Cases
 pub mod Floats
+pub mod Bits
 pub mod Loops
 pub mod Product

@@ -10,15 +10,12 @@ ghost use Rattle.numbers.specs.Draw.{product, advanced, mixed, unit as u
 
 // ---- floats
 
-// `x.abs()`.
+// `x.abs()`: the bits without the sign's. A comparison rules out a NaN, whose bits are nobody's, and no branch waits on the sign.
 pub fn magnitude(x: f64) -> f64
     ensures { λ r. ⌜ r ≡ abs x ⌝ }
 {
-    if x < 0.0 {
-        return -x;
-    }
-    if x == 0.0 {
-        return 0.0;
+    if x == x {
+        return f64::from_bits(f64::to_bits(x) % 9223372036854775808);
     }
     x
 }
@@ -38,15 +35,12 @@ pub fn is_finite(x: f64) -> bool
     x < top && -top < x
 }
 
-// The sign that `copysign` reads off x. A comparison tells it but at a zero, whose sign is in its bits: positive zero has none set.
+// The sign that `copysign` reads off x, a zero's too: the top bit. A comparison rules out a NaN, which counts as positive.
 pub fn is_negative(x: f64) -> bool
     ensures { λ r. ⌜ r ≡ isNegative x ⌝ }
 {
-    if x < 0.0 {
-        return true;
-    }
-    if x == 0.0 {
-        return f64::to_bits(x) != 0;
+    if x == x {
+        return 9223372036854775808 <= f64::to_bits(x);
     }
     false
 }

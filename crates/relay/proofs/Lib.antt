@@ -11,3 +11,5 @@ pub mod Variables
 pub mod Passes
 pub mod Legs
 pub mod AnyOrder
+pub mod Calls
+pub mod Theorems

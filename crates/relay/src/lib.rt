@@ -1,12 +1,21 @@
-// Relay-BP over a Tanner graph: its settings and its answers. What they mean stands in specs/.
+// Relay-BP over a Tanner graph: its settings and its answers, one iteration in any order, and the reading of a leg's record. What they mean stands in specs/.
 mod check;
 mod config;
+mod iterate;
 mod leg;
 mod order;
 mod step;
+mod tests;
 mod variable;
 
+use messages_core::at;
+use refusals::Answer;
 use refusals::Refusal;
+ghost use mathlib.Core.Path.{_≡_};
+ghost use Rattle.graph.specs.Graph.{graph};
+ghost use Rattle.relay.specs.Step.{state};
+ghost use Rattle.relay.specs.Settings.{published};
+ghost use Rattle.relay.specs.Calls.{stepLists, stepOutcome, iterationCall, recordOf, legRecord};
 
 // The order in which messages are passed within an iteration.
 pub enum Schedule {
@@ -38,6 +47,26 @@ pub struct Settings {
     pub gamma_source: GammaSource,
 }
 
+impl Settings {
+    // `RelayConfig::default`: the published operating point.
+    pub fn published() -> Self
+        ensures { λ r. ⌜ r ≡ published ⌝ }
+    {
+        Self {
+            schedule: Schedule::Flooding,
+            alpha: 1.0,
+            gamma0: 0.1,
+            pre_iterations: 80,
+            num_legs: 40,
+            leg_iterations: 60,
+            gamma_low: -0.24,
+            gamma_high: 0.66,
+            stop_after_converged: 1,
+            gamma_source: GammaSource::Seeded,
+        }
+    }
+}
+
 // What a decode answers. The corrections, the posterior and the legs' records are in the lent lists.
 pub enum Decoded {
     Converged {
@@ -57,4 +86,105 @@ pub enum LegRecord {
     Converged { weight: f64, iterations: usize },
     RanOut { iterations: usize },
     NotExecuted,
+}
+
+// What a leg's state, iterations and weight say.
+fn record_of(state: u8, iterations: usize, weight: f64) -> LegRecord
+    ensures { λ x. ⌜ x ≡ recordOf state iterations weight ⌝ }
+{
+    if state == 1 {
+        return LegRecord::RanOut {
+            iterations: iterations,
+        };
+    }
+    if state == 2 {
+        return LegRecord::Converged {
+            weight: weight,
+            iterations: iterations,
+        };
+    }
+    LegRecord::NotExecuted
+}
+
+// The record of the leg r, out of the leg lists of a decode; outside one of them it was not executed.
+pub fn leg_record(
+    leg_state: &[u8],
+    leg_iterations: &[u32],
+    leg_weight: &[f64],
+    r: usize,
+) -> LegRecord
+    ensures { λ x. ⌜ x ≡ legRecord (now («leg_state» .entry)) (now («leg_iterations» .entry)) (now («leg_weight» .entry)) r ⌝ }
+{
+    if r >= leg_state.len() {
+        return LegRecord::NotExecuted;
+    }
+    if r >= leg_iterations.len() {
+        return LegRecord::NotExecuted;
+    }
+    if r >= leg_weight.len() {
+        return LegRecord::NotExecuted;
+    }
+    record_of(leg_state[r], at(leg_iterations, r), leg_weight[r])
+}
+
+// One iteration of the schedule in the order given. The messages and the posterior go in and come back; the bias is for work, and is zero after any call past
+// its tests. A call that its tests refuse writes nothing; refusal 30 zeroes the messages and the posterior.
+pub fn iteration(
+    size: graph::Size,
+    priors: &[f64],
+    check_var: &[u32],
+    check_message: &[u32],
+    check_offset: &[u32],
+    var_check: &[u32],
+    var_message: &[u32],
+    var_offset: &[u32],
+    schedule: Schedule,
+    alpha: f64,
+    gamma: &[f64],
+    syndrome: &[u8],
+    order: &[u32],
+    c_to_v: &mut [f64],
+    v_to_c: &mut [f64],
+    posterior: &mut [f64],
+    bias: &mut [f64],
+) -> Answer
+    ensures { λ r. ⌜ stepOutcome r (stepLists (state (now («c_to_v» .exit)) (now («v_to_c» .exit)) (now (posterior .exit))) (now (bias .exit))) ≡ iterationCall (size .edges) (now (priors .entry)) (graph (size .checks) (size .mechanisms) (now («check_var» .entry)) (now («check_message» .entry)) (now («check_offset» .entry)) (now («var_check» .entry)) (now («var_message» .entry)) (now («var_offset» .entry))) schedule alpha (now (gamma .entry)) (now (syndrome .entry)) (now (order .entry)) (stepLists (state (now («c_to_v» .entry)) (now («v_to_c» .entry)) (now (posterior .entry))) (now (bias .entry))) ⌝ }
+{
+    let a = tests::fault(
+        size,
+        priors,
+        check_var,
+        check_message,
+        check_offset,
+        var_check,
+        var_message,
+        var_offset,
+        alpha,
+        gamma,
+        syndrome,
+        order,
+        c_to_v,
+        v_to_c,
+        posterior,
+        bias,
+    );
+    if !refusals::is_done(a) {
+        return a;
+    }
+    iterate::stepped(
+        schedule,
+        alpha,
+        syndrome,
+        priors,
+        gamma,
+        check_var,
+        check_offset,
+        var_message,
+        var_offset,
+        order,
+        bias,
+        c_to_v,
+        v_to_c,
+        posterior,
+    )
 }

@@ -1,21 +1,23 @@
--- `numbers::magnitude` meets its contract: below zero a float is negative, a zero's magnitude is positive zero, and another float is its own. Assumes nothing.
-use mathlib.Core.Path.{sym}
-use lib.Ieee.{ofBits}
-use Rattle.numbers.proofs.Floats.{negative-below, negative-above, abs-negative, abs-zero, abs-positive}
+-- `numbers::magnitude` meets its contract. Where x equals itself it is no NaN, and its bits without the top one are its magnitude's; else it is a NaN.
+-- Assumes nothing.
+use mathlib.Core.Path.{sym, _∙_, ap}
+use Rattle.numbers.specs.Floats.{abs}
+use Rattle.numbers.proofs.Bits.{self-number, self-nan, abs-bits, abs-no-nan}
 use Rattle.numbers.proofs.magnitude.Statement.{statement}
 use Rattle.numbers.proofs.magnitude.Tie as tie
 
+float-to-bits-result : tie.Need-float-to-bits-result
+float-to-bits-result c = self-number (c .before .args .x) (c .if1 .taken)
+
+float-from-bits-result : tie.Need-float-from-bits-result
+float-from-bits-result c = abs-no-nan (c .before .args .x) (c .before .good .0 .1) (self-number (c .before .args .x) (c .if1 .taken))
+
 returns : tie.Need-returns
-unfolding ofBits
-returns c = sym (abs-negative _ (negative-below (c .before .args .x) (c .if1 .taken)))
+returns c = abs-bits (c .before .args .x) (c .before .good .0 .1)
 
 returns-2 : tie.Need-returns-2
-unfolding ofBits
-returns-2 c = sym (abs-zero (c .before .before .args .x) (c .if2 .taken) (c .before .before .good .0 .1))
-
-returns-3 : tie.Need-returns-3
-unfolding ofBits
-returns-3 c = sym (abs-positive _ (negative-above (c .before .before .args .x) (c .before .if1 .left) (c .if2 .left)))
+unfolding abs
+returns-2 c = let e = self-nan (c .before .args .x) (c .if1 .left) in e ∙ sym (ap abs e)
 
 pub magnitude-spec : {M : Type 1} → statement M
-magnitude-spec = tie.close (tie.spec returns returns-2 returns-3)
+magnitude-spec = tie.close (tie.spec float-to-bits-result float-from-bits-result returns returns-2)

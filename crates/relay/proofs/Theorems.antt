@@ -1,0 +1,53 @@
+-- What a reader may rely on: the contracts of `iteration` and of `leg_record` leave no choice, and an order of checks that is taken changes nothing.
+-- Assumes nothing.
+use mathlib.Core.Path.{_≡_, sym, ap, _∙_}
+use mathlib.Core.List.{List, []}
+use mathlib.Core.Logic.{_↔_}
+use Prim.Native.Nat.{ℕ}
+use lib.Ieee.{Float}
+use Rattle.refusals.specs.declared.Refusal.the-variants.{OrderExchanged}
+use Rattle.refusals.specs.declared.Answer.{Answer}
+use Rattle.refusals.specs.declared.Answer.the-variants.{Done, Refused}
+use Rattle.graph.specs.Graph.{Graph, checkEntries}
+use Rattle.relay.specs.declared.Schedule.{Schedule}
+use Rattle.relay.specs.declared.Schedule.the-variants.{Flooding, CheckSerial}
+use Rattle.relay.specs.declared.LegRecord.{LegRecord}
+use Rattle.relay.specs.Order.{NamesOnce, KeepsOrder, FirstLate, namesFault, exchangeFault, exchanged}
+use Rattle.relay.specs.Decode.{Shot}
+use Rattle.relay.specs.Calls.{StepLists, StepOutcome, stepOutcome, iterationCall, legRecord, Lists, decodeInOrder, decode}
+use Rattle.relay.proofs.OrderWords.{exchanged-is}
+use Rattle.relay.proofs.AnyOrder.{order-free, flooding-takes, serial-takes}
+
+-- two results that the contract of `iteration` allows for one input coincide: the answer, and each lent list
+pub one-step : (edges : ℕ) (prior : List Float) (g : Graph) (schedule : Schedule) (alpha : Float) (gamma : List Float) (syndrome order : List ℕ) (l : StepLists)
+    (a b : Answer) (p q : StepLists) → stepOutcome a p ≡ iterationCall edges prior g schedule alpha gamma syndrome order l
+    → stepOutcome b q ≡ iterationCall edges prior g schedule alpha gamma syndrome order l
+    → (a ≡ b) × (p .now .cToV ≡ q .now .cToV) × (p .now .vToC ≡ q .now .vToC) × (p .now .posterior ≡ q .now .posterior) × (p .bias ≡ q .bias)
+one-step edges prior g schedule alpha gamma syndrome order l a b p q h k =
+    let e = h ∙ sym k in
+    (ap (λ (o : StepOutcome). o .answer) e, ap (λ (o : StepOutcome). o .left .now .cToV) e, ap (λ (o : StepOutcome). o .left .now .vToC) e, ap (λ (o : StepOutcome). o .left .now .posterior) e, ap (λ (o : StepOutcome). o .left .bias) e)
+
+-- and so do two records that the contract of `leg_record` allows
+pub one-record : (legState legIterations : List ℕ) (legWeight : List Float) (r : ℕ) (x y : LegRecord) → x ≡ legRecord legState legIterations legWeight r
+    → y ≡ legRecord legState legIterations legWeight r → x ≡ y
+one-record legState legIterations legWeight r x y h k = h ∙ sym k
+
+-- ---- "Every order it takes gives the index order's outcome, bit for bit"
+
+-- a decode in an order that 23 and 24 take is the decode in index order: the answer, and each lent list
+pub any-order : (edges : ℕ) (x : Shot) (l : Lists) → namesFault (x .graph .checks) (x .order) ≡ Done → exchangeFault (x .settings .schedule) (x .graph) (x .order) ≡ Done
+    → decodeInOrder edges x l ≡ decode edges x l
+any-order edges x l names free = order-free edges x l names free
+
+-- "Flooding takes any that names each check once"
+pub flooding-orders : (g : Graph) (order : List ℕ) → ((namesFault (g .checks) order ≡ Done) × (exchangeFault Flooding g order ≡ Done)) ↔ NamesOnce (g .checks) order
+flooding-orders g order = flooding-takes g order
+
+-- "CheckSerial any that, besides, keeps index order between checks that share a mechanism"
+pub serial-orders : (g : Graph) (order : List ℕ)
+    → ((namesFault (g .checks) order ≡ Done) × (exchangeFault CheckSerial g order ≡ Done)) ↔ (NamesOnce (g .checks) order × KeepsOrder g order)
+serial-orders g order = serial-takes g order
+
+-- 24's place: "first check in the order that shares a mechanism with a higher check named before it"
+pub exchange-place : (g : Graph) (order : List ℕ) (c : ℕ) → (exchanged (checkEntries g) [] order ≡ Refused (OrderExchanged c)) ↔ FirstLate g order c
+exchange-place g order c = exchanged-is g order c
