@@ -3,7 +3,9 @@
 //! this processor, the run is counted apart.
 
 use crate::counts::Counts;
-use crate::graphs::{Given, damage_lists, model_of, nudge_length, wanted_lists};
+use crate::damage::{damage_lists, nudge_length};
+use crate::given::{Given, model_of};
+use crate::table::wanted_lists;
 use oracle::answers::Refusal;
 use oracle::belief_cases::{BeliefCase, SCALES, nan_sign_decides, random_syndrome};
 use oracle::counted;

@@ -3,8 +3,11 @@
 
 mod beliefs;
 mod counts;
+mod damage;
+mod given;
 mod graphs;
 mod numbers;
+mod table;
 
 use counts::Counts;
 use std::process::ExitCode;
