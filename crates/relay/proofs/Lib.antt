@@ -11,4 +11,5 @@ pub mod Variables
 pub mod Passes
 pub mod Legs
 pub mod Calls
+pub mod Draws
 pub mod Theorems
