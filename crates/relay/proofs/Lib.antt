@@ -12,4 +12,5 @@ pub mod Passes
 pub mod Legs
 pub mod AnyOrder
 pub mod Calls
+pub mod Draws
 pub mod Theorems

@@ -1,6 +1,7 @@
 // Relay-BP over a Tanner graph: its settings and its answers, one iteration in any order, and the reading of a leg's record. What they mean stands in specs/.
 mod check;
 mod config;
+mod gammas;
 mod iterate;
 mod leg;
 mod order;

@@ -1,0 +1,62 @@
+-- `relay::gammas::copy_set` meets its contract. The set lies within the flat list, and it is copied.
+-- Assumes nothing.
+use Prim.Native.Nat.{_+_, _-_, _*_, _%_, _≤_}
+use native.Mathlib.Omega.{arith}
+use lib.ListN.{length}
+use Rattle.relay.proofs.Draws.{set-within}
+use borrow.Author.Needs.{needs}
+use Rattle.relay.proofs.gammas.copy_set.Statement.{statement}
+use Rattle.relay.proofs.gammas.copy_set.Tie as tie
+
+-- the set lies within the flat list
+within : (c : tie.After-slice-known) → let a = c .before .before .args in (a .leg - 1) % a .sets * length (a .gamma .now) + length (a .gamma .now) ≤ length (a .flat .now)
+within c = let p = c .before .before .pre in set-within _ _ _ _ (p .1) (p .2)
+
+sub-start : tie.Need-sub-start
+sub-start c = search needs
+
+rem-start : tie.Need-rem-start
+rem-start c = search needs
+
+mul-start : tie.Need-mul-start
+mul-start c = omega (arith, within c)
+
+add-end : tie.Need-add-end
+add-end c = omega (arith, within c)
+
+mul-copy : tie.Need-mul-copy
+mul-copy c = omega (arith, within c)
+
+sub-copy : tie.Need-sub-copy
+sub-copy c = search needs
+
+part-copy-start : tie.Need-part-copy-start
+part-copy-start c = search needs
+
+part-copy-end : tie.Need-part-copy-end
+part-copy-end c = within c
+
+copy-requires : tie.Need-copy-requires
+copy-requires c κs = search needs
+
+same-length : tie.Need-same-length
+same-length c = search needs
+
+returns : tie.Need-returns
+returns c = search needs
+
+pub copy-set-spec : {M : Type 1} → statement M
+copy-set-spec =
+    tie.close
+    (tie.spec
+    sub-start
+    rem-start
+    mul-start
+    add-end
+    mul-copy
+    sub-copy
+    part-copy-start
+    part-copy-end
+    copy-requires
+    same-length
+    returns)
