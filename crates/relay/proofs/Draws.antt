@@ -9,14 +9,19 @@ use lib.Bits.{bitXor}
 use lib.Ieee.{Float}
 use lib.ListN.{length, take, set, replicate}
 use lib.Seq.{take-suc-set, take-all}
+use Rattle.numbers.specs.Loops.{part}
 use Rattle.numbers.specs.Draw.{advanced, mixed, gamma}
 use Rattle.relay.specs.declared.Settings.{Settings}
 use Rattle.relay.specs.declared.GammaSource.the-variants.{Seeded}
 use Rattle.relay.specs.Gammas.{drawnOn, drawn, legSeed, relayGamma, gammaOf}
 
 -- a set lies within the flat list
-pub set-within : (r sets m n : ℕ) → 0 < sets → n ≡ sets * m → r % sets * m + m ≤ n
-set-within r sets m n h e = omega (arith, e, mul-le-mul-right m (mod-lt r h), suc-mul (r % sets) m)
+pub set-within : (k r sets m n : ℕ) → k ≡ r % sets → 0 < sets → n ≡ sets * m → k * m + m ≤ n
+set-within k r sets m n q h e = rw q (omega (arith, e, mul-le-mul-right m (mod-lt r h), suc-mul (r % sets) m))
+
+-- and is the definition's
+pub set-is : (k r sets m : ℕ) (flat out : List Float) → k ≡ r % sets → out ≡ part (k * m) (k * m + m) flat → out ≡ part (r % sets * m) (r % sets * m + m) flat
+set-is k r sets m flat out q p = rw q at p
 
 module _ (low high : Float) (seed v s : ℕ) (at : s ≡ drawn low high seed v .state) where
   -- the generator, one draw further

@@ -35,12 +35,20 @@ fn draw_gammas(low: f64, high: f64, seed: u64, gamma: &mut [f64])
     }
 }
 
-// The set of the relayed leg, out of the flat list.
+// Which set a relayed leg takes.
+fn set_of(leg: usize, sets: usize) -> usize
+    requires { ⌜ (0 < leg) × (0 < sets) ⌝ }
+    ensures { λ r. ⌜ r ≡ (leg - 1) % sets ⌝ }
+{
+    (leg - 1) % sets
+}
+
+// That set, out of the flat list.
 fn copy_set(sets: usize, leg: usize, flat: &[f64], gamma: &mut [f64])
     requires { ⌜ (0 < leg) × (0 < sets) × (length (now flat) ≡ sets * length (now gamma)) ⌝ }
     ensures { λ _. ⌜ now (gamma .exit) ≡ part ((leg - 1) % sets * length (now (gamma .entry))) ((leg - 1) % sets * length (now (gamma .entry)) + length (now (gamma .entry))) (now (flat .entry)) ⌝ }
 {
-    let start = (leg - 1) % sets * gamma.len();
+    let start = set_of(leg, sets) * gamma.len();
     let end = start + gamma.len();
     copy(&flat[start..end], gamma);
 }

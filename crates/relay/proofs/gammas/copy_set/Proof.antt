@@ -1,22 +1,19 @@
 -- `relay::gammas::copy_set` meets its contract. The set lies within the flat list, and it is copied.
 -- Assumes nothing.
-use Prim.Native.Nat.{_+_, _-_, _*_, _%_, _≤_}
+use Prim.Native.Nat.{_+_, _*_, _≤_}
 use native.Mathlib.Omega.{arith}
 use lib.ListN.{length}
-use Rattle.relay.proofs.Draws.{set-within}
+use Rattle.relay.proofs.Draws.{set-within, set-is}
 use borrow.Author.Needs.{needs}
 use Rattle.relay.proofs.gammas.copy_set.Statement.{statement}
 use Rattle.relay.proofs.gammas.copy_set.Tie as tie
 
 -- the set lies within the flat list
-within : (c : tie.After-slice-known) → let a = c .before .before .args in (a .leg - 1) % a .sets * length (a .gamma .now) + length (a .gamma .now) ≤ length (a .flat .now)
-within c = let p = c .before .before .pre in set-within _ _ _ _ (p .1) (p .2)
+within : (c : tie.After-set-of) → let a = c .before .before .before .args in c .set-of .result * length (a .gamma .now) + length (a .gamma .now) ≤ length (a .flat .now)
+within c = let p = c .before .before .before .pre in set-within _ _ (c .before .before .before .args .sets) _ _ (c .set-of .ensures) (p .1) (p .2)
 
-sub-start : tie.Need-sub-start
-sub-start c = search needs
-
-rem-start : tie.Need-rem-start
-rem-start c = search needs
+set-of-requires : tie.Need-set-of-requires
+set-of-requires c κs = search needs
 
 mul-start : tie.Need-mul-start
 mul-start c = omega (arith, within c)
@@ -43,14 +40,13 @@ same-length : tie.Need-same-length
 same-length c = search needs
 
 returns : tie.Need-returns
-returns c = search needs
+returns c = set-is _ _ (c .before .before .before .before .before .before .before .before .args .sets) (length (c .before .before .before .before .before .before .before .before .args .gamma .now)) _ _ (c .before .before .before .before .before .set-of .ensures) (c .before .before .copy .ensures)
 
 pub copy-set-spec : {M : Type 1} → statement M
 copy-set-spec =
     tie.close
     (tie.spec
-    sub-start
-    rem-start
+    set-of-requires
     mul-start
     add-end
     mul-copy
