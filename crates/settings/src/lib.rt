@@ -9,7 +9,7 @@ use refusals::or_else;
 use refusals::unless;
 ghost use mathlib.Core.Path.{_≡_};
 ghost use mathlib.Core.Bool.{_||_};
-ghost use Prim.Native.Nat.{_*_, _≤_};
+ghost use Prim.Native.Nat.{_*_};
 ghost use lib.Dec.{leb, eqb};
 ghost use lib.Ieee.{lt, le};
 ghost use lib.ListN.{length};
@@ -125,15 +125,24 @@ fn interval_good(low: f64, high: f64) -> bool
     )
 }
 
-// 18.
-fn sets_good(sets: usize, mechanisms: usize, gammas: usize) -> bool
-    requires { ⌜ mechanisms ≤ 65536 ⌝ }
-    ensures { λ r. ⌜ r ≡ setsGood sets mechanisms gammas ⌝ }
+// n is the product of a and b, which may itself be too large a number.
+fn is_product(n: usize, a: usize, b: usize) -> bool
+    ensures { λ r. ⌜ r ≡ eqb n (a * b) ⌝ }
 {
-    if 65535 < sets {
+    if a == 0 {
+        return n == 0;
+    }
+    if n % a != 0 {
         return false;
     }
-    gammas == sets * mechanisms
+    n / a == b
+}
+
+// 18.
+fn sets_good(sets: usize, mechanisms: usize, gammas: usize) -> bool
+    ensures { λ r. ⌜ r ≡ setsGood sets mechanisms gammas ⌝ }
+{
+    both(at_most(sets, 65535), is_product(gammas, sets, mechanisms))
 }
 
 // 19: the first gamma that is not finite.
@@ -152,7 +161,6 @@ fn gammas_fault(gammas: &[f64]) -> Answer
 
 // 17, 18 and 19: an explicit source alone is looked at.
 fn source_fault(source: GammaSource, legs: usize, mechanisms: usize, gammas: &[f64]) -> Answer
-    requires { ⌜ mechanisms ≤ 65536 ⌝ }
     ensures { λ r. ⌜ r ≡ sourceFault source legs mechanisms (now (gammas .entry)) ⌝ }
 {
     match source {
@@ -172,7 +180,6 @@ fn source_fault(source: GammaSource, legs: usize, mechanisms: usize, gammas: &[f
 
 // `validate_config`: 10 to 19.
 pub fn check_settings(t: Settings, mechanisms: usize, gammas: &[f64]) -> Answer
-    requires { ⌜ mechanisms ≤ 65536 ⌝ }
     ensures { λ r. ⌜ r ≡ settingsFault t mechanisms (now (gammas .entry)) ⌝ }
 {
     let source = t.gamma_source;

@@ -1,22 +1,22 @@
--- `settings::sets_good` meets its contract. The product is formed only once the number of sets is within its limit, so that it fits.
+-- `settings::sets_good` meets its contract. It answers by the two tests of the definition.
 -- Assumes nothing.
-use native.Mathlib.Omega.{arith}
-use native.Mathlib.Nat.{mul-le-mul-left, mul-le-mul-right}
-use borrow.Author.Tests.{le-leb, lt-leb}
 use Rattle.settings.specs.Settings.{setsGood}
+use borrow.Author.Needs.{needs}
 use Rattle.settings.proofs.sets_good.Statement.{statement}
 use Rattle.settings.proofs.sets_good.Tie as tie
 
+at-most-requires : tie.Need-at-most-requires
+at-most-requires c κs = search needs
+
+is-product-requires : tie.Need-is-product-requires
+is-product-requires c κs = search needs
+
+both-requires : tie.Need-both-requires
+both-requires c κs = search needs
+
 returns : tie.Need-returns
 unfolding setsGood
-returns c = simp (lt-leb _ _ (c .if1 .taken))
-
-mul-result : tie.Need-mul-result
-mul-result c = record { fits = omega (arith, c .before .pre, c .if1 .left, mul-le-mul-left (c .before .args .sets) (c .before .pre), mul-le-mul-right 65536 (c .if1 .left)) }
-
-returns-2 : tie.Need-returns-2
-unfolding setsGood
-returns-2 c = simp (le-leb _ _ (c .if1 .left))
+returns c = cc
 
 pub sets-good-spec : {M : Type 1} → statement M
-sets-good-spec = tie.close (tie.spec returns mul-result returns-2)
+sets-good-spec = tie.close (tie.spec at-most-requires is-product-requires both-requires returns)
