@@ -5,7 +5,6 @@ use crate::models::{EDGES, sized};
 use crate::timing::row;
 use oracle::exact::bp::{BpScratch, min_sum_bp_into};
 use oracle::exact::drive;
-use oracle::splitmix::SplitMix64;
 use proved::{Beliefs, Run};
 use std::hint::black_box;
 
@@ -22,12 +21,7 @@ pub fn run() {
 
 fn beliefs(edges: usize, serial: bool) {
     let sized = sized(edges);
-    // Some hundredth of the mechanisms happened.
-    let mut random = SplitMix64::new(3);
-    let happened: Vec<bool> = (0..sized.size.mechanisms)
-        .map(|_| random.once_in(100))
-        .collect();
-    let syndrome = sized.model.syndrome_of(&happened);
+    let syndromes = sized.syndromes();
     let graph = drive::sparse_graph(&sized.model).expect("the model builds");
     let mut scratch = BpScratch::new(&graph);
     let mut posterior = vec![0.0; sized.size.mechanisms];
@@ -41,33 +35,38 @@ fn beliefs(edges: usize, serial: bool) {
     row(
         name,
         edges,
+        syndromes.len(),
         &mut || {
-            min_sum_bp_into(
-                black_box(&graph),
-                &syndrome,
-                ITERATIONS,
-                SCALE,
-                serial,
-                &mut scratch,
-                black_box(&mut posterior),
-            )
-            .expect("the beliefs are finite");
+            for syndrome in &syndromes {
+                min_sum_bp_into(
+                    black_box(&graph),
+                    syndrome,
+                    ITERATIONS,
+                    SCALE,
+                    serial,
+                    &mut scratch,
+                    black_box(&mut posterior),
+                )
+                .expect("the beliefs are finite");
+            }
         },
         &mut || {
-            let run = Run {
-                syndrome: &syndrome,
-                iterations: ITERATIONS,
-                scale: SCALE,
-                serial,
-            };
-            let answer = proved::beliefs(
-                sized.size,
-                black_box(&sized.priors),
-                &lists,
-                run,
-                black_box(&mut ours),
-            );
-            assert_eq!(answer, Ok(()));
+            for syndrome in &syndromes {
+                let run = Run {
+                    syndrome,
+                    iterations: ITERATIONS,
+                    scale: SCALE,
+                    serial,
+                };
+                let answer = proved::beliefs(
+                    sized.size,
+                    black_box(&sized.priors),
+                    &lists,
+                    run,
+                    black_box(&mut ours),
+                );
+                assert_eq!(answer, Ok(()));
+            }
         },
     );
     let bits = |list: &[f64]| list.iter().map(|x| x.to_bits()).collect::<Vec<_>>();

@@ -40,13 +40,13 @@ fn sparse(edges: usize) {
         );
         assert_eq!(answer, Ok(()));
     };
-    row("build_sparse", edges, &mut rust, &mut proved);
+    row("build_sparse", edges, 1, &mut rust, &mut proved);
     let built = sized.lists();
     let mut test = || {
         let answer = proved::check_graph(sized.size, black_box(&sized.priors), black_box(&built));
         assert_eq!(answer, Ok(()));
     };
-    row("check_graph / Rust builds", edges, &mut rust, &mut test);
+    row("check_graph / Rust builds", edges, 1, &mut rust, &mut test);
 }
 
 fn dense() {
@@ -71,6 +71,7 @@ fn dense() {
     row(
         "build_dense, 2 MB",
         edges,
+        1,
         &mut || {
             black_box(BpGraph::from_dcm(black_box(&dcm)));
         },

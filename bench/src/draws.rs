@@ -9,6 +9,7 @@ pub fn run() {
         row(
             "draws",
             size,
+            1,
             &mut || {
                 let mut generator = SplitMix64::new(black_box(7));
                 for _ in 0..size {

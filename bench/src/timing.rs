@@ -11,8 +11,8 @@ fn once(work: &mut dyn FnMut()) -> Duration {
     start.elapsed()
 }
 
-/// Prints the least time of each, and the proved one's as a part of the Rust's.
-pub fn row(what: &str, size: usize, rust: &mut dyn FnMut(), proved: &mut dyn FnMut()) {
+/// Prints the least time of each for one of the `runs` of a turn, and the proved one's as a part of the Rust's.
+pub fn row(what: &str, size: usize, runs: usize, rust: &mut dyn FnMut(), proved: &mut dyn FnMut()) {
     let (mut least_rust, mut least_proved) = (Duration::MAX, Duration::MAX);
     let start = Instant::now();
     let mut turns = 0;
@@ -21,7 +21,8 @@ pub fn row(what: &str, size: usize, rust: &mut dyn FnMut(), proved: &mut dyn FnM
         least_proved = least_proved.min(once(proved));
         turns += 1;
     }
-    let (rust, proved) = (least_rust.as_nanos(), least_proved.as_nanos());
+    let one = |turn: Duration| turn.as_nanos() / runs as u128;
+    let (rust, proved) = (one(least_rust), one(least_proved));
     let ratio = proved as f64 / rust as f64;
     println!("{what:26} {size:>9} {rust:>12} {proved:>12} {ratio:>7.2}");
 }

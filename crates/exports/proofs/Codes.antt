@@ -1,7 +1,13 @@
 -- Laws of codes: a code fits 64 bits, and an outcome's code is that of its answer. Assumes nothing.
 use Prim.Native.Nat.{ℕ, _<_, _+_}
-use mathlib.Core.Path.{_≡_, _∙_, ap, sym}
+use mathlib.Core.Path.{_≡_, refl, _∙_, ap, sym}
+use mathlib.Core.List.{List, [], _∷_}
 use native.Mathlib.Omega.{arith}
+use mathlib.Core.Bool.{true, false}
+use lib.Dec.{eqb}
+use lib.Ieee.{Float}
+use borrow.Author.Tests.{eq-eqb, ne-eqb}
+use lib.ListN.{length, set}
 use Rattle.refusals.specs.declared.Refusal.{Refusal}
 use Rattle.refusals.specs.declared.Refusal.the-variants.{SizeAboveLimit, ModelListLength, BadDetectorOffsets, BadPrior, DetectorOutOfRange, DetectorRepeated, NoSuchGraph, BadAlpha, BadGamma0, BadIterations, TooManyLegs, BadLegIterations, BadGammaInterval, BadStop, NoGammaSets, GammaSetsLength, GammaNotFinite, SyndromeLength, SyndromeNotBinary, LentListLength, OrderNotEachOnce, OrderExchanged, StateNotFinite, NonFinite, CutRecord, UnknownKind, PayloadLength, ShotTooEarly, BeyondRoom, BadSchedule}
 use Rattle.refusals.specs.declared.Answer.{Answer}
@@ -69,3 +75,24 @@ left-as code a l o is-code is-outcome = ap (λ k. left k l) is-code ∙ ap leftB
 -- and of `iteration`
 pub step-left-as : (code : ℕ) (a : Answer) (l : StepLists) (o : StepOutcome) → code ≡ codeOf a → stepOutcome a l ≡ o → stepLeft code l ≡ stepLeftBy o
 step-left-as code a l o is-code is-outcome = ap (λ k. stepLeft k l) is-code ∙ ap stepLeftBy is-outcome
+
+-- ---- lists of fixed length, written whole
+
+pub three-set : (xs : List ℕ) (a b c : ℕ) → length xs ≡ 3 → set (set (set xs 0 a) 1 b) 2 c ≡ a ∷ (b ∷ (c ∷ []))
+three-set [] a b c h = absurd (omega (arith, h))
+three-set (x ∷ []) a b c h = absurd (omega (arith, h))
+three-set (x ∷ (y ∷ [])) a b c h = absurd (omega (arith, h))
+three-set (x ∷ (y ∷ (z ∷ []))) a b c h = refl
+three-set (x ∷ (y ∷ (z ∷ (w ∷ ws)))) a b c h = absurd (omega (arith, h))
+
+pub one-set : (xs : List Float) (a : Float) → length xs ≡ 1 → set xs 0 a ≡ a ∷ []
+one-set [] a h = absurd (omega (arith, h))
+one-set (x ∷ []) a h = refl
+one-set (x ∷ (y ∷ ys)) a h = absurd (omega (arith, h))
+
+-- whether a refusal's number is 30, as the code finds it
+pub thirty : (n m : ℕ) → n ≡ m → n ≡ 30 → eqb m 30 ≡ true
+thirty n m e h = eq-eqb m 30 (sym e ∙ h)
+
+pub not-thirty : (n m : ℕ) → n ≡ m → (n ≡ 30 → ⊥) → eqb m 30 ≡ false
+not-thirty n m e h = ne-eqb m 30 (λ q. h (e ∙ q))

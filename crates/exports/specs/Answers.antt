@@ -1,6 +1,10 @@
 -- How answers pass through the C calling convention. Definitions only. Assumes nothing.
 use Prim.Native.Nat.{ℕ, zero, suc, _+_, _*_, _%_}
-use mathlib.Core.Bool.{Bool, true, false}
+use mathlib.Core.Bool.{Bool, true, false, cond}
+use mathlib.Core.List.{List, [], _∷_}
+use lib.Dec.{eqb}
+use lib.Ieee.{Float}
+use Rattle.numbers.specs.Floats.{zero⁺}
 use Rattle.refusals.specs.declared.Answer.{Answer}
 use Rattle.refusals.specs.declared.Answer.the-variants.{Done, Refused}
 use Rattle.refusals.specs.declared.Place.{Place}
@@ -12,7 +16,10 @@ use Rattle.settings.specs.declared.Schedule.{Schedule}
 use Rattle.settings.specs.declared.Schedule.the-variants.{Flooding, CheckSerial}
 use Rattle.settings.specs.declared.GammaSource.{GammaSource}
 use Rattle.settings.specs.declared.GammaSource.the-variants.{Explicit, Seeded}
-use Rattle.relay.specs.Calls.{StepLists, StepOutcome}
+use Rattle.settings.specs.declared.Settings.{Settings}
+use Rattle.relay.specs.declared.Decoded.{Decoded}
+use Rattle.relay.specs.declared.Decoded.the-variants as Decoded
+use Rattle.relay.specs.Calls.{StepLists, StepOutcome, Lists as DecodeLists, Outcome as DecodeOutcome}
 use Rattle.min_sum.specs.Beliefs.{Lists, Outcome as BeliefsOutcome}
 
 -- 1 for true, 0 for false
@@ -82,3 +89,67 @@ stepLeft code l = record { code = code; lists = l }
 -- an outcome of `iteration`, its answer as a code
 abbrev pub stepLeftBy : StepOutcome → StepLeft
 stepLeftBy o = stepLeft (codeOf (o .answer)) (o .left)
+
+-- a decode's lent lists by themselves, in the order of the call
+abbrev pub listsOf : List ℕ → List ℕ → List Float → List ℕ → List ℕ → List Float → List Float → List Float → List Float → List Float → DecodeLists
+listsOf state iterations weight rows correction posterior gamma bias cToV vToC =
+    record {
+      legState = state;
+      legIterations = iterations;
+      legWeight = weight;
+      rows = rows;
+      correction = correction;
+      posterior = posterior;
+      gamma = gamma;
+      bias = bias;
+      cToV = cToV;
+      vToC = vToC;
+    }
+
+-- the settings of a call, in its order
+abbrev pub settingsOf : ℕ → Float → Float → ℕ → ℕ → ℕ → Float → Float → ℕ → ℕ → ℕ → Settings
+settingsOf schedule alpha gamma0 pre legs iterations low high stop explicit sets =
+    record {
+      schedule = scheduleOf schedule;
+      alpha = alpha;
+      gamma0 = gamma0;
+      «pre_iterations» = pre;
+      «num_legs» = legs;
+      «leg_iterations» = iterations;
+      «gamma_low» = low;
+      «gamma_high» = high;
+      «stop_after_converged» = stop;
+      «gamma_source» = sourceOf explicit sets;
+    }
+
+-- a decode's answer as a code
+abbrev pub decodedCode : Decoded → ℕ
+decodedCode (Decoded.Converged n t w) = 0
+decodedCode (Decoded.NotConverged n t) = 0
+decodedCode (Decoded.Refused r) = codeOf (Refused r)
+
+-- beside it three counts: converged (1 or 0), executed legs, total iterations. Refusal 30 zeroes them, as it does all results, and any other writes nothing
+abbrev pub countsOf : Decoded → List ℕ → List ℕ
+countsOf (Decoded.Converged n t w) old = 1 ∷ (n ∷ (t ∷ []))
+countsOf (Decoded.NotConverged n t) old = 0 ∷ (n ∷ (t ∷ []))
+countsOf (Decoded.Refused r) old = cond (eqb (numberOf r) 30) (0 ∷ (0 ∷ (0 ∷ []))) old
+
+-- and the weight, positive zero where there is none
+abbrev pub weightOf : Decoded → List Float → List Float
+weightOf (Decoded.Converged n t w) old = w ∷ []
+weightOf (Decoded.NotConverged n t) old = zero⁺ ∷ []
+weightOf (Decoded.Refused r) old = cond (eqb (numberOf r) 30) (zero⁺ ∷ []) old
+
+-- the code of a decode, its counts, its weight, and its lent lists as the call leaves them
+pub record DecodeLeft : Type 0 where
+  pub code : ℕ
+  pub counts : List ℕ
+  pub weight : List Float
+  pub lists : DecodeLists
+
+abbrev pub decodeLeft : ℕ → List ℕ → List Float → DecodeLists → DecodeLeft
+decodeLeft code counts weight l = record { code = code; counts = counts; weight = weight; lists = l }
+
+-- an outcome of `decode`, over the counts and the weight as they were
+abbrev pub decodeLeftBy : DecodeOutcome → List ℕ → List Float → DecodeLeft
+decodeLeftBy o counts weight = decodeLeft (decodedCode (o .answer)) (countsOf (o .answer) counts) (weightOf (o .answer) weight) (o .left)

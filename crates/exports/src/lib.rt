@@ -2,6 +2,7 @@
 // pointer and then a length. A bool passes as 1 or 0, an answer as its code. The calls of `numbers` stand here.
 mod answers;
 mod beliefs;
+mod decodes;
 mod graphs;
 mod steps;
 
