@@ -1,0 +1,5 @@
+-- The laws that stand by themselves, for the proofs of this crate and of those above it.
+pub mod Bytes
+pub mod Steps
+pub mod Degrees
+pub mod Holding
