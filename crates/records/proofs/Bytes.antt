@@ -2,14 +2,14 @@
 use mathlib.Core.Path.{_≡_, refl, sym, ap, _∙_}
 use mathlib.Core.List.{List, [], _∷_, _++_}
 use mathlib.Core.Logic.{⊎-elim}
-use Prim.Native.Nat.{ℕ, zero, suc, _+_, _*_, _-_, _/_, _%_, _^_, _<_, _≤_}
-use native.Mathlib.Nat.{pow-zero, pow-suc, mul-assoc, add-mul, mul-add, mod-add-div, mul-comm, one-le-pow, mul-le-mul-left}
+use Prim.Native.Nat.{ℕ, zero, suc, _+_, _*_, _-_, _^_, _<_, _≤_}
+use native.Mathlib.Nat.{pow-zero, pow-suc, pow-succ', mul-assoc, mul-add, mul-comm}
 use native.Mathlib.Numerals.{add-one}
 use native.Mathlib.Omega.{arith}
 use lib.ListN.{length, getD, take, drop, length-append, length-drop, drop-of-length-le, List·getD-eq-default}
-use lib.Seq.{drop-cons, drop-nil, take-nil, take-all, drop-append-le, take-append-le}
+use lib.Seq.{drop-cons, drop-drop, take-nil, take-all, drop-append-le, take-append-le, getD-drop}
 use Rattle.numbers.proofs.Cases.{less-or-not}
-use Rattle.records.specs.Stream.{number, bytesOf, numberAt}
+use Rattle.records.specs.Stream.{AreBytes, number, numberAt}
 
 -- ---- from the front
 
@@ -71,3 +71,26 @@ number-4 at xs a b c d p q r s =
     let e : at + 1 + 1 ≡ at + 2 = omega arith in
     let f : at + 2 + 1 ≡ at + 3 = omega arith in
     rw (number-first 3 at xs, number-first 2 (at + 1) xs, e, number-first 1 (at + 2) xs, f, number-first 0 (at + 3) xs, number-none (at + 3 + 1) xs, p, q, r, s) (omega arith)
+
+-- ---- bytes, and the bound of their number
+
+-- bytes, and one more
+pub bytes-more : (xs : List ℕ) (b : ℕ) → AreBytes xs → b < 256 → AreBytes (xs ++ (b ∷ []))
+bytes-more [] b f h zero = h
+bytes-more [] b f h (suc i) = omega arith
+bytes-more (x ∷ xs) b f h zero = f zero
+bytes-more (x ∷ xs) b f h (suc i) = bytes-more xs b (λ j. f (suc j)) h i
+
+-- the bytes from a place on
+pub bytes-drop : (n : ℕ) (xs : List ℕ) → AreBytes xs → AreBytes (drop n xs)
+bytes-drop n xs f i = rw (getD-drop n xs i 0) (f (n + i))
+
+-- a number is below 256 for each of its bytes
+pub number-bound : (n at : ℕ) (xs : List ℕ) → AreBytes xs → numberAt n at xs < 256 ^ n
+number-bound zero at xs f = rw (number-none at xs, pow-zero 256) (omega arith)
+number-bound (suc n) at xs f = rw (number-first n at xs, pow-succ' 256 n) (omega (arith, f at, number-bound n (at + 1) xs f))
+
+-- a number further on
+pub number-drop : (n at k : ℕ) (xs : List ℕ) → numberAt n at (drop k xs) ≡ numberAt n (k + at) xs
+unfolding numberAt
+number-drop n at k xs = rw (drop-drop at k xs)

@@ -3,13 +3,13 @@
 use mathlib.Core.Path.{_≡_, refl, sym, ap, _∙_}
 use mathlib.Core.List.{List, [], _∷_, _++_}
 use mathlib.Core.Logic.{_⊎_, inl, inr, ⊎-elim}
-use Prim.Native.Nat.{ℕ, zero, suc, _+_, _*_, _-_, _/_, _%_, _^_, _<_, _≤_}
-use native.Mathlib.Nat.{mul-le-mul-left, mul-le-mul-right, suc-mul, mul-comm}
+use Prim.Native.Nat.{ℕ, zero, suc, _+_, _*_, _-_, _^_, _<_, _≤_}
+use native.Mathlib.Nat.{suc-mul, mul-le-mul-right}
 use native.Mathlib.Omega.{arith}
 use lib.ListN.{length}
-use Rattle.numbers.proofs.Cases.{last-or-before, less-or-not}
-use Rattle.records.specs.Stream.{numberAt, degree, degrees}
-use Rattle.records.proofs.Bytes.{number-before, number-within, number-after}
+use Rattle.numbers.proofs.Cases.{last-or-before}
+use Rattle.records.specs.Stream.{AreBytes, degree, degrees}
+use Rattle.records.proofs.Bytes.{number-past, number-bound, number-before, number-within, number-after}
 
 -- the place is no byte of the mechanism m's degree
 abbrev Apart : ℕ → ℕ → Type 0
@@ -43,3 +43,19 @@ degrees-more (suc n) p b m k h l e =
     let own : degree (p ++ (b ∷ [])) n ≡ degree p n = degree-same p b n (inl (omega arith)) in
     omega (arith, own, degrees-more n p b m k s l e))
     (last-or-before m n h)
+
+-- where no degree begins the sum is 0
+pub degrees-none : (n : ℕ) (p : List ℕ) → length p ≤ 20 → degrees n p ≡ 0
+unfolding degrees degree
+degrees-none zero p h = refl
+degrees-none (suc n) p h = rw (degrees-none n p h, number-past 4 (20 + 12 * n) p (omega arith))
+
+-- each degree is below 2 ^ 32
+pub degrees-bound : (n : ℕ) (p : List ℕ) → AreBytes p → degrees n p ≤ n * 4294967295
+unfolding degrees degree
+degrees-bound zero p f = omega arith
+degrees-bound (suc n) p f = omega (arith, suc-mul n 4294967295, degrees-bound n p f, number-bound 4 (20 + 12 * n) p f)
+
+-- so that the sum of fewer than 2 ^ 32 never wraps
+pub degrees-small : (n : ℕ) (p : List ℕ) → AreBytes p → n < 4294967296 → degrees n p < 2 ^ 64
+degrees-small n p f h = let l : n ≤ 4294967295 = omega arith in omega (arith, degrees-bound n p f, mul-le-mul-right 4294967295 l)

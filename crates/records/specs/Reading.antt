@@ -2,7 +2,7 @@
 -- says of the whole record is proved (`Theorems`). Definitions only. Assumes nothing.
 use Prim.Native.Nat.{ℕ, _+_, _*_, _-_, _/_, _%_, _^_}
 use mathlib.Core.Bool.{Bool, _&&_, cond}
-use mathlib.Core.List.{List, [], foldl}
+use mathlib.Core.List.{List, _++_, foldl}
 use lib.Dec.{eqb, leb, ltb}
 use lib.ListN.{length, set, take, drop}
 use Rattle.refusals.specs.declared.Refusal.the-variants.{CutRecord, UnknownKind, PayloadLength, ShotTooEarly, BeyondRoom, BadSchedule}
@@ -63,6 +63,10 @@ opened r = cond (isWhole r) (fresh ((r .offset + r .taken) % 2 ^ 64)) r
 -- the payload's bytes as they are kept: those that find no room are passed over
 unfoldable pub keptWith : ℕ → ℕ → List ℕ → List ℕ
 keptWith at b kept = cond (leb 6 at) (set kept (at - 6) b) kept
+
+-- what is kept of a payload in a list that held `room`: its bytes as far as there is room
+unfoldable pub keptOf : List ℕ → List ℕ → List ℕ
+keptOf p room = take (length room) p ++ drop (length p) room
 
 -- a reader, and what is kept of the payload
 pub record Held : Type 0 where

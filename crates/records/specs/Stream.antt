@@ -1,6 +1,6 @@
 -- The record stream of document 01 as a grammar of bytes: its numbers, a record, the fields of each payload, and refusals 40 to 45 in their order.
 -- It says nothing of how a stream is read. A byte is a number below 256. Definitions only. Assumes nothing.
-use Prim.Native.Nat.{ℕ, zero, suc, _+_, _*_, _/_, _%_}
+use Prim.Native.Nat.{ℕ, zero, suc, _+_, _*_, _/_, _%_, _<_}
 use mathlib.Core.Bool.{Bool, not, _&&_, _||_, cond}
 use mathlib.Core.List.{List, [], _∷_, _++_}
 use lib.Dec.{eqb, leb, ltb}
@@ -8,6 +8,10 @@ use lib.ListN.{length, getD, take, drop}
 use Rattle.refusals.specs.declared.Refusal.the-variants.{CutRecord, UnknownKind, PayloadLength, ShotTooEarly, BeyondRoom, BadSchedule}
 use Rattle.refusals.specs.declared.Answer.{Answer}
 use Rattle.refusals.specs.Tests.{unless, orElse}
+
+-- all are bytes
+abbrev pub AreBytes : List ℕ → Type 0
+AreBytes xs = (i : ℕ) → getD xs i 0 < 256
 
 -- ---- numbers, all little-endian
 
