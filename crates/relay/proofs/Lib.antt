@@ -1,16 +1,7 @@
-pub mod All
 pub mod Rearrange
-pub mod Counts
 pub mod Witness
-pub mod Parts
 pub mod Exchange
 pub mod SameOutcome
-pub mod OrderTests
-pub mod OrderWords
-pub mod Variables
-pub mod Passes
-pub mod Legs
 pub mod AnyOrder
 pub mod Calls
-pub mod Draws
 pub mod Theorems

@@ -9,13 +9,13 @@ use Rattle.refusals.specs.declared.Refusal.the-variants.{OrderExchanged}
 use Rattle.refusals.specs.declared.Answer.{Answer}
 use Rattle.refusals.specs.declared.Answer.the-variants.{Done, Refused}
 use Rattle.graph.specs.Graph.{Graph, checkEntries}
-use Rattle.relay.specs.declared.Schedule.{Schedule}
-use Rattle.relay.specs.declared.Schedule.the-variants.{Flooding, CheckSerial}
+use Rattle.settings.specs.declared.Schedule.{Schedule}
+use Rattle.settings.specs.declared.Schedule.the-variants.{Flooding, CheckSerial}
 use Rattle.relay.specs.declared.LegRecord.{LegRecord}
-use Rattle.relay.specs.Order.{NamesOnce, KeepsOrder, FirstLate, namesFault, exchangeFault, exchanged}
+use Rattle.orders_core.specs.Order.{NamesOnce, KeepsOrder, FirstLate, namesFault, exchangeFault, exchanged}
 use Rattle.relay.specs.Decode.{Shot}
 use Rattle.relay.specs.Calls.{StepLists, StepOutcome, stepOutcome, iterationCall, legRecord, Lists, decodeInOrder, decode}
-use Rattle.relay.proofs.OrderWords.{exchanged-is}
+use Rattle.orders_core.proofs.OrderWords.{exchanged-is}
 use Rattle.relay.proofs.AnyOrder.{order-free, flooding-takes, serial-takes}
 
 -- two results that the contract of `iteration` allows for one input coincide: the answer, and each lent list

@@ -1,0 +1,5 @@
+pub mod Parts
+pub mod Variables
+pub mod Passes
+pub mod Legs
+pub mod Draws
