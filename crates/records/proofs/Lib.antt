@@ -3,3 +3,7 @@ pub mod Bytes
 pub mod Steps
 pub mod Degrees
 pub mod Holding
+pub mod Encoding
+pub mod Whole
+pub mod Judging
+pub mod Theorems

@@ -1,0 +1,1 @@
+-- What a reader of this crate may rely on. Assumes nothing.
