@@ -6,8 +6,8 @@ use Prim.Native.Nat.{ℕ, zero, suc, _+_, _*_, _-_, _^_, _<_, _≤_}
 use native.Mathlib.Nat.{pow-zero, pow-suc, pow-succ', mul-assoc, mul-add, mul-comm}
 use native.Mathlib.Numerals.{add-one}
 use native.Mathlib.Omega.{arith}
-use lib.ListN.{length, getD, take, drop, length-append, length-drop, drop-of-length-le, List·getD-eq-default}
-use lib.Seq.{drop-cons, drop-drop, take-nil, take-all, drop-append-le, take-append-le, getD-drop}
+use lib.ListN.{length, getD, take, drop, length-append, length-drop, length-take, drop-of-length-le, List·getD-eq-default}
+use lib.Seq.{drop-cons, drop-drop, take-nil, take-all, drop-append-le, take-append-le, getD-drop, getD-take}
 use Rattle.numbers.proofs.Cases.{less-or-not}
 use Rattle.records.specs.Stream.{AreBytes, number, numberAt}
 
@@ -94,3 +94,17 @@ number-bound (suc n) at xs f = rw (number-first n at xs, pow-succ' 256 n) (omega
 pub number-drop : (n at k : ℕ) (xs : List ℕ) → numberAt n at (drop k xs) ≡ numberAt n (k + at) xs
 unfolding numberAt
 number-drop n at k xs = rw (drop-drop at k xs)
+
+-- some bytes from the front
+pub bytes-take : (n : ℕ) (xs : List ℕ) → AreBytes xs → AreBytes (take n xs)
+bytes-take n xs f i =
+    ⊎-elim
+    (λ (h : i < n). rw (getD-take n xs i 0 h) (f i))
+    (λ (h : n ≤ i). rw (List·getD-eq-default (take n xs) 0 {n = i} (omega (arith, length-take n xs))) (omega arith))
+    (less-or-not i n)
+
+-- bytes, and more bytes
+pub bytes-append : (xs ys : List ℕ) → AreBytes xs → AreBytes ys → AreBytes (xs ++ ys)
+bytes-append [] ys f g i = g i
+bytes-append (x ∷ xs) ys f g zero = f zero
+bytes-append (x ∷ xs) ys f g (suc i) = bytes-append xs ys (λ j. f (suc j)) g i

@@ -1,12 +1,13 @@
 -- A number and its bytes, a record and its bytes: what is written is read back, and what is read is what was written. Assumes nothing.
 use mathlib.Core.Path.{_≡_, refl, sym, ap, _∙_}
 use mathlib.Core.List.{List, [], _∷_, _++_, append-assoc}
-use Prim.Native.Nat.{ℕ, zero, suc, _+_, _*_, _-_, _/_, _%_, _^_, _<_, _≤_}
-use native.Mathlib.Nat.{pow-zero, pow-succ', mod-lt}
+use Prim.Native.Nat.{ℕ, zero, suc, _+_, _*_, _/_, _%_, _^_, _<_, _≤_}
+use native.Mathlib.Nat.{pow-zero, pow-succ'}
 use native.Mathlib.Omega.{arith}
-use lib.ListN.{length, getD, take, drop, length-append, length-drop, take-append-drop}
-use lib.Seq.{take-at, drop-at, take-all, take-append-le, drop-append-le, drop-drop, length-take-le}
+use lib.ListN.{length, take, drop, length-append, length-drop, take-append-drop}
+use lib.Seq.{take-at, drop-at, drop-drop, length-take-le}
 use Rattle.records.specs.Stream.{AreBytes, number, bytesOf, numberAt, encode, lengthSaid, kindSaid}
+use Rattle.records.proofs.Bytes.{bytes-take, bytes-drop, bytes-append}
 
 -- ---- numbers
 
@@ -75,3 +76,26 @@ length-encode kind p =
     let a = bytesOf 4 (length p) in
     let b = bytesOf 2 kind in
     length-append a (b ++ p) ∙ omega (arith, length-append b p, length-bytesOf 4 (length p), length-bytesOf 2 kind)
+
+-- a record's bytes are bytes
+pub bytes-encode : (kind : ℕ) (p : List ℕ) → AreBytes p → AreBytes (encode kind p)
+unfolding encode
+bytes-encode kind p f =
+    bytes-append (bytesOf 4 (length p)) (bytesOf 2 kind ++ p) (bytes-bytesOf 4 (length p))
+    (bytes-append (bytesOf 2 kind) p (bytes-bytesOf 2 kind) f)
+
+-- bytes that begin with a whole record are that record's, and the rest
+pub complete-is : (xs : List ℕ) → AreBytes xs → 6 + lengthSaid xs ≤ length xs
+    → encode (kindSaid xs) (take (lengthSaid xs) (drop 6 xs)) ++ drop (6 + lengthSaid xs) xs ≡ xs
+unfolding encode kindSaid lengthSaid numberAt
+complete-is xs f h =
+    let n = lengthSaid xs in
+    let p = take n (drop 6 xs) in
+    let l : length p ≡ n = length-take-le n (drop 6 xs) (omega (arith, length-drop 6 xs)) in
+    let a : bytesOf 4 (number (take 4 xs)) ≡ take 4 xs =
+    ap (λ k. bytesOf k (number (take 4 xs))) (sym (length-take-le 4 xs (omega arith))) ∙ bytesOf-number (take 4 xs) (bytes-take 4 xs f) in
+    let b : bytesOf 2 (number (take 2 (drop 4 xs))) ≡ take 2 (drop 4 xs) =
+    ap (λ k. bytesOf k (number (take 2 (drop 4 xs)))) (sym (length-take-le 2 (drop 4 xs) (omega (arith, length-drop 4 xs))))
+    ∙ bytesOf-number (take 2 (drop 4 xs)) (bytes-take 2 (drop 4 xs) (bytes-drop 4 xs f)) in
+    rw (l, a, b, append-assoc (take 4 xs) (take 2 (drop 4 xs) ++ p) (drop (6 + n) xs), append-assoc (take 2 (drop 4 xs)) p (drop (6 + n) xs), ← drop-drop n 6 xs, take-append-drop n (drop 6 xs), ← drop-drop 2 4 xs, take-append-drop 2 (drop 4 xs))
+    (take-append-drop 4 xs)

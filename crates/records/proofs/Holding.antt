@@ -23,13 +23,13 @@ field-grows n at xs b s f h =
     ⊎-elim
     (λ (l : length xs < at). sym (grown-before v at n (length xs) b l) ∙ sym (number-before n at xs b l))
     (λ (l : at ≤ length xs).
-      ⊎-elim
-      (λ (k : length xs < at + n).
-        let e : w ≡ v + b * 256 ^ (length xs - at) = number-within n at xs b l k in
-        let small : w < 2 ^ 64 = omega (arith, number-bound n at (xs ++ (b ∷ [])) (bytes-more xs b f h), pow-le-pow-right {n = 256} (omega arith) {i = n} {j = 4} s) in
-        sym (grown-within v at n (length xs) b (b * 256 ^ (length xs - at)) w l (omega arith) refl (sym (ap (λ x. x % 2 ^ 64) (sym e) ∙ mod-eq-of-lt small))))
-      (λ (k : at + n ≤ length xs). sym (grown-after v at n (length xs) b l (omega arith)) ∙ sym (number-after n at xs b k))
-      (less-or-not (length xs) (at + n)))
+    ⊎-elim
+    (λ (k : length xs < at + n).
+    let e : w ≡ v + b * 256 ^ (length xs - at) = number-within n at xs b l k in
+    let small : w < 2 ^ 64 = omega (arith, number-bound n at (xs ++ (b ∷ [])) (bytes-more xs b f h), pow-le-pow-right {n = 256} (omega arith) {i = n} {j = 4} s) in
+    sym (grown-within v at n (length xs) b (b * 256 ^ (length xs - at)) w l (omega arith) refl (sym (ap (λ x. x % 2 ^ 64) (sym e) ∙ mod-eq-of-lt small))))
+    (λ (k : at + n ≤ length xs). sym (grown-after v at n (length xs) b l (omega arith)) ∙ sym (number-after n at xs b k))
+    (less-or-not (length xs) (at + n)))
     (less-or-not (length xs) at)
 
 -- the payload, one byte further
@@ -47,15 +47,15 @@ sum-payload p at b f h k e =
     let new = degrees n (p ++ (b ∷ [])) in
     ⊎-elim
     (λ (l : q / 12 < n).
-      sym
-      (summed-within old n at b new k l
-      (⊎-elim
-      (λ (r : q % 12 < 8). degrees-same n p b (λ m i. ⊎-elim (λ t. inl t) (λ t. inr (omega arith)) (less-or-not (length p) (20 + 12 * m))) ∙ grown-before old 8 4 (q % 12) b r)
-      (λ (r : 8 ≤ q % 12).
-        let more : new ≡ old + b * 256 ^ (q % 12 - 8) = degrees-more n p b (q / 12) (q % 12 - 8) l (omega arith) (omega arith) in
-        let small : new < 2 ^ 64 = degrees-small n (p ++ (b ∷ [])) (bytes-more p b f h) (number-bound 4 4 p f) in
-        grown-within old 8 4 (q % 12) b (b * 256 ^ (q % 12 - 8)) new r (omega arith) refl (sym (ap (λ x. x % 2 ^ 64) (sym more) ∙ mod-eq-of-lt small)))
-      (less-or-not (q % 12) 8))))
+    sym
+    (summed-within old n at b new k l
+    (⊎-elim
+    (λ (r : q % 12 < 8). degrees-same n p b (λ m i. ⊎-elim (λ t. inl t) (λ t. inr (omega arith)) (less-or-not (length p) (20 + 12 * m))) ∙ grown-before old 8 4 (q % 12) b r)
+    (λ (r : 8 ≤ q % 12).
+    let more : new ≡ old + b * 256 ^ (q % 12 - 8) = degrees-more n p b (q / 12) (q % 12 - 8) l (omega arith) (omega arith) in
+    let small : new < 2 ^ 64 = degrees-small n (p ++ (b ∷ [])) (bytes-more p b f h) (number-bound 4 4 p f) in
+    grown-within old 8 4 (q % 12) b (b * 256 ^ (q % 12 - 8)) new r (omega arith) refl (sym (ap (λ x. x % 2 ^ 64) (sym more) ∙ mod-eq-of-lt small)))
+    (less-or-not (q % 12) 8))))
     (λ (l : n ≤ q / 12). sym (summed-after old n at b k l) ∙ sym (degrees-same n p b (λ m i. inr (omega arith))))
     (less-or-not (q / 12) n)
 
@@ -71,12 +71,12 @@ sum-grows xs b f h =
     let l′ : length p′ ≡ length (xs ++ (b ∷ [])) - 6 = length-drop 6 (xs ++ (b ∷ [])) in
     ⊎-elim
     (λ (k : length xs < 18).
-      sym (summed-before (degrees (mechanisms p) p) (mechanisms p) (length xs) b k)
-      ∙ degrees-none (mechanisms p) p (omega (arith, l))
-      ∙ sym (degrees-none (mechanisms p′) p′ (omega (arith, l′, length-append xs (b ∷ [])))))
+    sym (summed-before (degrees (mechanisms p) p) (mechanisms p) (length xs) b k)
+    ∙ degrees-none (mechanisms p) p (omega (arith, l))
+    ∙ sym (degrees-none (mechanisms p′) p′ (omega (arith, l′, length-append xs (b ∷ [])))))
     (λ (k : 18 ≤ length xs).
-      sum-payload p (length xs) b (bytes-drop 6 xs f) h k (omega (arith, l))
-      ∙ rw (payload-more xs b (omega arith), number-after 4 4 p b (omega (arith, l))))
+    sum-payload p (length xs) b (bytes-drop 6 xs f) h k (omega (arith, l))
+    ∙ rw (payload-more xs b (omega arith), number-after 4 4 p b (omega (arith, l))))
     (less-or-not (length xs) 18)
 
 -- what a reader holds, one byte further
@@ -96,9 +96,9 @@ kept-more p room b =
     let l : length (p ++ (b ∷ [])) ≡ length p + 1 = length-append p (b ∷ []) in
     ⊎-elim
     (λ (h : length p < n).
-      let e : suc (length p) ≡ length (p ++ (b ∷ [])) = omega (arith, l) in
-      rw (take-all n p (omega arith), drop-cons room (length p) 0 h, set-at p (getD room (length p) 0) (drop (suc (length p)) room) b (length p) refl, e, take-all n (p ++ (b ∷ [])) (omega (arith, l)))
-      (sym (append-snoc p b (drop (length (p ++ (b ∷ []))) room))))
+    let e : suc (length p) ≡ length (p ++ (b ∷ [])) = omega (arith, l) in
+    rw (take-all n p (omega arith), drop-cons room (length p) 0 h, set-at p (getD room (length p) 0) (drop (suc (length p)) room) b (length p) refl, e, take-all n (p ++ (b ∷ [])) (omega (arith, l)))
+    (sym (append-snoc p b (drop (length (p ++ (b ∷ []))) room))))
     (λ (h : n ≤ length p).
-      rw (drop-of-length-le room h, append-nil (take n p), set-out (take n p) (length p) b (omega (arith, length-take n p)), take-append-le n p (b ∷ []) h, drop-of-length-le room {i = length (p ++ (b ∷ []))} (omega (arith, l)), append-nil (take n p)))
+    rw (drop-of-length-le room h, append-nil (take n p), set-out (take n p) (length p) b (omega (arith, length-take n p)), take-append-le n p (b ∷ []) h, drop-of-length-le room {i = length (p ++ (b ∷ []))} (omega (arith, l)), append-nil (take n p)))
     (less-or-not (length p) n)

@@ -6,4 +6,5 @@ pub mod Holding
 pub mod Encoding
 pub mod Whole
 pub mod Judging
+pub mod Along
 pub mod Theorems

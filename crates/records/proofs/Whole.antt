@@ -15,7 +15,7 @@ use Rattle.numbers.proofs.Cases.{less-or-not, equal-or-not, either}
 use Rattle.refusals.specs.Tests.{unless, orElse}
 use Rattle.records.specs.Stream.{AreBytes, number, numberAt, lengthSaid, kindSaid, checks, mechanisms, edges, degrees}
 use Rattle.records.specs.Reading.{fresh, holding, isWhole, opened, added, keptWith, keptOf, held, pushed, fed}
-use Rattle.records.proofs.Bytes.{number-bound}
+use Rattle.records.proofs.Bytes.{bytes-take, number-bound}
 use Rattle.records.proofs.Holding.{holding-more, kept-more}
 use Rattle.records.proofs.Steps.{head-only, keep-none, keep-in}
 
@@ -35,30 +35,22 @@ unfolding keptOf
 length-kept p room =
     ⊎-elim
     (λ (h : length p < length room).
-      rw (take-all (length room) p (omega arith)) (length-append p (drop (length p) room) ∙ omega (arith, length-drop (length p) room)))
+    rw (take-all (length room) p (omega arith)) (length-append p (drop (length p) room) ∙ omega (arith, length-drop (length p) room)))
     (λ (h : length room ≤ length p).
-      length-append (take (length room) p) (drop (length p) room) ∙ omega (arith, length-take-le (length room) p h, length-drop (length p) room))
+    length-append (take (length room) p) (drop (length p) room) ∙ omega (arith, length-take-le (length room) p h, length-drop (length p) room))
     (less-or-not (length p) (length room))
-
--- some bytes from the front are bytes
-bytes-take : (n : ℕ) (xs : List ℕ) → AreBytes xs → AreBytes (take n xs)
-bytes-take n xs f i =
-    ⊎-elim
-    (λ (h : i < n). rw (getD-take n xs i 0 h) (f i))
-    (λ (h : n ≤ i). rw (List·getD-eq-default (take n xs) 0 {n = i} (omega (arith, length-take n xs))) (omega arith))
-    (less-or-not i n)
 
 -- what is kept, one byte of the record further
 kept-step : (xs room : List ℕ) (b : ℕ) → keptWith (length xs) b (keptOf (drop 6 xs) room) ≡ keptOf (drop 6 (xs ++ (b ∷ []))) room
 kept-step xs room b =
     ⊎-elim
     (λ (h : length xs < 6).
-      rw (drop-of-length-le (xs ++ (b ∷ [])) {i = 6} (omega (arith, length-append xs (b ∷ []))), drop-of-length-le xs {i = 6} (omega arith)) (sym (keep-none (length xs) b (keptOf [] room) h)))
+    rw (drop-of-length-le (xs ++ (b ∷ [])) {i = 6} (omega (arith, length-append xs (b ∷ []))), drop-of-length-le xs {i = 6} (omega arith)) (sym (keep-none (length xs) b (keptOf [] room) h)))
     (λ (h : 6 ≤ length xs).
-      sym (keep-in (length xs) b (keptOf (drop 6 xs) room) h)
-      ∙ ap (λ i. set (keptOf (drop 6 xs) room) i b) (sym (length-drop 6 xs))
-      ∙ kept-more (drop 6 xs) room b
-      ∙ ap (λ p. keptOf p room) (sym (drop-append-le 6 xs (b ∷ []) h)))
+    sym (keep-in (length xs) b (keptOf (drop 6 xs) room) h)
+    ∙ ap (λ i. set (keptOf (drop 6 xs) room) i b) (sym (length-drop 6 xs))
+    ∙ kept-more (drop 6 xs) room b
+    ∙ ap (λ p. keptOf p room) (sym (drop-append-le 6 xs (b ∷ []) h)))
     (less-or-not (length xs) 6)
 
 -- one byte of a record that is not whole yet
@@ -68,15 +60,15 @@ unfolding pushed opened
 push-within offset xs room b w f h s = rw (w, holding-more offset xs b f h s, kept-step xs room b)
 
 -- bytes within one record: a proper part from the front is no whole record
-not-whole : (offset : ℕ) (xs : List ℕ) (j : ℕ) → length xs ≤ 6 + lengthSaid xs → j < length xs → isWhole (holding offset (take j xs)) ≡ false
+pub not-whole : (offset : ℕ) (xs : List ℕ) (j : ℕ) → length xs ≤ 6 + lengthSaid xs → j < length xs → isWhole (holding offset (take j xs)) ≡ false
 unfolding isWhole lengthSaid numberAt
 not-whole offset xs j h k =
     let l : length (take j xs) ≡ j = length-take-le j xs (omega arith) in
     ⊎-elim
     (λ (s : j < 6). sym (head-only (length (take j xs)) (lengthSaid (take j xs)) (omega (arith, l))))
     (λ (s : 6 ≤ j).
-      let e : lengthSaid (take j xs) ≡ lengthSaid xs = ap number (take-take 4 j xs (omega arith)) in
-      ne-eqb (length (take j xs)) (6 + lengthSaid (take j xs)) (λ q. omega (arith, q, e, l, h)))
+    let e : lengthSaid (take j xs) ≡ lengthSaid xs = ap number (take-take 4 j xs (omega arith)) in
+    ne-eqb (length (take j xs)) (6 + lengthSaid (take j xs)) (λ q. omega (arith, q, e, l, h)))
     (less-or-not j 6)
 
 module _ (offset : ℕ) (xs room : List ℕ) (f : AreBytes xs) (h : length xs ≤ 6 + lengthSaid xs) where
@@ -86,7 +78,7 @@ module _ (offset : ℕ) (xs room : List ℕ) (f : AreBytes xs) (h : length xs �
   short = omega (arith, number-bound 4 0 xs f)
 
   -- the first i bytes of a record
-  read-first : (i : ℕ) → i ≤ length xs
+  pub read-first : (i : ℕ) → i ≤ length xs
       → fed (take i xs) (held (fresh offset) room) ≡ held (holding offset (take i xs)) (keptOf (drop 6 (take i xs)) room)
   unfolding fed
   read-first zero l = rw (holding-none offset, kept-none room)

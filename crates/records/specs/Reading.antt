@@ -2,14 +2,14 @@
 -- says of the whole record is proved (`Theorems`). Definitions only. Assumes nothing.
 use Prim.Native.Nat.{ℕ, _+_, _*_, _-_, _/_, _%_, _^_}
 use mathlib.Core.Bool.{Bool, _&&_, cond}
-use mathlib.Core.List.{List, _++_, foldl}
+use mathlib.Core.List.{List, [], _∷_, _++_, foldl}
 use lib.Dec.{eqb, leb, ltb}
 use lib.ListN.{length, set, take, drop}
 use Rattle.refusals.specs.declared.Refusal.the-variants.{CutRecord, UnknownKind, PayloadLength, ShotTooEarly, BeyondRoom, BadSchedule}
 use Rattle.refusals.specs.declared.Answer.{Answer}
 use Rattle.refusals.specs.Tests.{unless, orElse}
 use Rattle.records.specs.declared.Reader.{Reader}
-use Rattle.records.specs.Stream.{numberAt, lengthSaid, kindSaid, checks, mechanisms, edges, degrees, legs, scheduleByte, kindGood, lengthGood, timeGood, roomGood, scheduleGood}
+use Rattle.records.specs.Stream.{Rec, encode, lengthSaid, kindSaid, checks, mechanisms, edges, degrees, legs, scheduleByte, kindGood, lengthGood, timeGood, roomGood, scheduleGood}
 
 -- a reader before the first byte of the record at an offset
 abbrev pub fresh : ℕ → Reader
@@ -83,6 +83,18 @@ pushed h b = let r = opened (h .reader) in held (added r b) (keptWith (r .taken)
 -- the bytes of a piece of the stream, one after the other
 unfoldable pub fed : List ℕ → Held → Held
 fed xs h = foldl pushed h xs
+
+-- the whole records that a reader meets in a piece: what it holds and has kept at the end of each
+unfoldable pub met : List ℕ → Held → List Held
+met [] h = []
+met (b ∷ bs) h = let now = pushed h b in cond (isWhole (now .reader)) (now ∷ met bs now) (met bs now)
+
+-- what it has to meet: each record at its offset, one after the other
+unfoldable pub toMeet : List Rec → ℕ → List ℕ → List Held
+toMeet [] offset room = []
+toMeet (r ∷ rs) offset room =
+    let kept = keptOf (r .payload) room in
+    held (holding offset (encode (r .kind) (r .payload))) kept ∷ toMeet rs ((offset + (6 + length (r .payload))) % 2 ^ 64) kept
 
 -- 41 to 45 of a record that has been read to its end
 unfoldable pub verdict : Bool → Bool → Reader → List ℕ → Answer

@@ -3,7 +3,7 @@
 use Prim.Native.Nat.{ℕ, zero, suc, _+_, _*_, _/_, _%_, _<_}
 use mathlib.Core.Bool.{Bool, not, _&&_, _||_, cond}
 use mathlib.Core.List.{List, [], _∷_, _++_}
-use lib.Dec.{eqb, leb, ltb}
+use lib.Dec.{eqb, leb}
 use lib.ListN.{length, getD, take, drop}
 use Rattle.refusals.specs.declared.Refusal.the-variants.{CutRecord, UnknownKind, PayloadLength, ShotTooEarly, BeyondRoom, BadSchedule}
 use Rattle.refusals.specs.declared.Answer.{Answer}
@@ -34,6 +34,30 @@ numberAt n at xs = number (take n (drop at xs))
 -- the bytes of a record
 unfoldable pub encode : ℕ → List ℕ → List ℕ
 encode kind payload = bytesOf 4 (length payload) ++ (bytesOf 2 kind ++ payload)
+
+-- a record
+pub record Rec : Type 0 where
+  pub kind : ℕ
+  pub payload : List ℕ
+
+abbrev pub rec : ℕ → List ℕ → Rec
+rec kind payload = record { kind = kind; payload = payload }
+
+-- a head can say its kind and its length
+pub record Sayable (r : Rec) : Type 0 where
+  pub kind : r .kind < 65536
+  pub size : length (r .payload) < 4294967296
+  pub bytes : AreBytes (r .payload)
+
+-- each of some records
+pub data AllSayable : List Rec → Type 0 where
+  none : AllSayable []
+  more : {r : Rec} {rs : List Rec} → Sayable r → AllSayable rs → AllSayable (r ∷ rs)
+
+-- the bytes of records, one after the other
+unfoldable pub stream : List Rec → List ℕ
+stream [] = []
+stream (r ∷ rs) = encode (r .kind) (r .payload) ++ stream rs
 
 -- the payload length that the head says
 unfoldable pub lengthSaid : List ℕ → ℕ
