@@ -108,3 +108,12 @@ pub bytes-append : (xs ys : List ℕ) → AreBytes xs → AreBytes ys → AreByt
 bytes-append [] ys f g i = g i
 bytes-append (x ∷ xs) ys f g zero = f zero
 bytes-append (x ∷ xs) ys f g (suc i) = bytes-append xs ys (λ j. f (suc j)) g i
+
+-- eight bytes are four and four
+pub number-8 : (at : ℕ) (xs : List ℕ) (a b : ℕ) → a ≡ numberAt 4 at xs → b ≡ numberAt 4 (at + 4) xs → a + 4294967296 * b ≡ numberAt 8 at xs
+number-8 at xs a b p q =
+    let e : at + 1 + 1 ≡ at + 2 = omega arith in
+    let f : at + 2 + 1 ≡ at + 3 = omega arith in
+    let g : at + 3 + 1 ≡ at + 4 = omega arith in
+    rw (p, q, number-first 7 at xs, number-first 6 (at + 1) xs, e, number-first 5 (at + 2) xs, f, number-first 4 (at + 3) xs, g)
+    (omega (arith, number-4 at xs (getD xs at 0) (getD xs (at + 1) 0) (getD xs (at + 2) 0) (getD xs (at + 3) 0) refl refl refl refl))

@@ -95,9 +95,9 @@ unfoldable pub degrees : ℕ → List ℕ → ℕ
 degrees zero p = 0
 degrees (suc n) p = degrees n p + degree p n
 
--- the i-th of all the detectors
-unfoldable pub detector : List ℕ → ℕ → ℕ
-detector p i = numberAt 4 (12 + 12 * mechanisms p + 4 * i) p
+-- the i-th of all the detectors, behind n mechanisms
+unfoldable pub detector : ℕ → List ℕ → ℕ → ℕ
+detector n p i = numberAt 4 (12 + 12 * n + 4 * i) p
 
 -- ---- the payload of settings: u8 schedule, f64 alpha, gamma0, u32 pre, legs, leg iterations, f64 low, high, u32 stop
 

@@ -6,10 +6,16 @@ mod step;
 
 ghost use mathlib.Core.Path.{_≡_};
 ghost use Rattle.records.specs.Reading.{fresh, isWhole, held, pushed, verdict as verdictOf, atEnd};
+ghost use Rattle.records.specs.Stream.{seed};
+ghost use Rattle.records.specs.Fields.{modelLists, modelRead, settingsOf};
+use numbers::at_most;
+use numbers::both;
 use refusals::Answer;
 use refusals::Refusal;
 use refusals::or_else;
 use refusals::unless;
+use settings::GammaSource;
+use settings::Settings;
 
 // What the bytes of a record have said so far: the record's offset in the stream, how many of its bytes were taken, its payload length and kind, and of a
 // model its counts and the sum of its degrees.
@@ -97,4 +103,55 @@ pub fn at_end(r: Reader) -> Answer
 {
     let open = step::opened(r);
     unless(open.taken == 0, Refusal::CutRecord)
+}
+
+// The lists of a model's payload, as `graph::build_sparse` takes them: the caller's lists have the lengths that the counts say. Lists beyond the room are
+// left as they were.
+pub fn read_model(
+    payload: &[u8],
+    priors: &mut [f64],
+    detector_offsets: &mut [u32],
+    detectors: &mut [u32],
+)
+    ensures { λ _. ⌜ modelLists (now (priors .exit)) (now («detector_offsets» .exit)) (now (detectors .exit)) ≡ modelRead (now (payload .entry)) (modelLists (now (priors .entry)) (now («detector_offsets» .entry)) (now (detectors .entry))) ⌝ }
+{
+    let mechanisms = priors.len();
+    let fit = both(
+        at_most(mechanisms, 256),
+        both(
+            at_most(detector_offsets.len(), 257),
+            at_most(detectors.len(), 512),
+        ),
+    );
+    if !fit {
+        return;
+    }
+    fields::priors_in(payload, priors);
+    fields::offsets_in(payload, detector_offsets);
+    fields::detectors_in(payload, mechanisms, detectors);
+}
+
+// Relay's settings out of their payload, with a seeded source.
+pub fn read_settings(payload: &[u8]) -> Settings
+    ensures { λ x. ⌜ x ≡ settingsOf (now (payload .entry)) ⌝ }
+{
+    Settings {
+        schedule: fields::schedule_of(fields::schedule_byte(payload)),
+        alpha: fields::float_at(payload, 1),
+        gamma0: fields::float_at(payload, 9),
+        pre_iterations: fields::number4(payload, 17),
+        num_legs: fields::legs(payload),
+        leg_iterations: fields::number4(payload, 25),
+        gamma_low: fields::float_at(payload, 29),
+        gamma_high: fields::float_at(payload, 37),
+        stop_after_converged: fields::number4(payload, 45),
+        gamma_source: GammaSource::Seeded,
+    }
+}
+
+// The seed of a shot.
+pub fn read_seed(payload: &[u8]) -> u64
+    ensures { λ x. ⌜ x ≡ seed (now (payload .entry)) ⌝ }
+{
+    fields::number8(payload, 0)
 }

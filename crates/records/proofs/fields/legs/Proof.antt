@@ -10,7 +10,7 @@ number4-requires c κs = search needs
 
 returns : tie.Need-returns
 unfolding legs
-returns c = c .number4 .ensures
+returns c = c .number4 .ensures .0
 
 pub legs-spec : {M : Type 1} → statement M
 legs-spec = tie.close (tie.spec number4-requires returns)

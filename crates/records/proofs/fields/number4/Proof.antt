@@ -1,10 +1,7 @@
 -- `records::fields::number4` meets its contract. Four bytes, the first worth least.
 -- Assumes nothing.
-use Rattle.records.proofs.Bytes.{number-4}
-use mathlib.Core.Path.{_∙_, sym}
-use native.Mathlib.Nat.{add-assoc}
 use native.Mathlib.Omega.{arith}
-use Rattle.records.proofs.Bytes.{number-first, number-none}
+use Rattle.records.proofs.Bytes.{number-4}
 use borrow.Author.Needs.{needs}
 use Rattle.records.proofs.fields.number4.Statement.{statement}
 use Rattle.records.proofs.fields.number4.Tie as tie
@@ -49,7 +46,7 @@ add-result-3 : tie.Need-add-result-3
 add-result-3 c = search needs
 
 returns : tie.Need-returns
-returns c = number-4 (c .before .before .before .before .before .args .at) (c .before .before .before .before .before .args .bytes .now) _ _ _ _ (c .before .before .before .byte-at .ensures .0) (c .before .before .byte-at2 .ensures .0) (c .before .byte-at3 .ensures .0) (c .byte-at4 .ensures .0)
+returns c = (number-4 (c .before .before .before .before .before .args .at) (c .before .before .before .before .before .args .bytes .now) _ _ _ _ (c .before .before .before .byte-at .ensures .0) (c .before .before .byte-at2 .ensures .0) (c .before .byte-at3 .ensures .0) (c .byte-at4 .ensures .0), omega arith)
 
 pub number4-spec : {M : Type 1} → statement M
 number4-spec =
