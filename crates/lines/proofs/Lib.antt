@@ -1,0 +1,2 @@
+-- The laws that stand by themselves.
+pub mod Puts
