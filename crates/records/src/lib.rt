@@ -71,30 +71,19 @@ pub fn push(r: Reader, byte: u8, payload: &mut [u8]) -> Reader
 pub fn verdict(r: Reader, payload: &[u8], has_model: bool, has_settings: bool) -> Answer
     ensures { λ a. ⌜ a ≡ verdictOf «has_model» «has_settings» r (now (payload .entry)) ⌝ }
 {
-    let room = rules::room_good(
-        r.kind,
-        r.length,
-        r.checks,
-        r.mechanisms,
-        r.edges,
-        fields::legs(payload),
-    );
-    let schedule = rules::schedule_good(r.kind, fields::schedule_byte(payload));
-    let late = or_else(
-        unless(
-            rules::time_good(r.kind, has_model, has_settings),
-            Refusal::ShotTooEarly,
-        ),
-        or_else(
-            unless(room, Refusal::BeyondRoom),
-            unless(schedule, Refusal::BadSchedule),
-        ),
-    );
     let fits = rules::length_good(r.kind, r.length, r.mechanisms, r.edges, r.degrees);
-    or_else(
-        unless(rules::kind_good(r.kind), Refusal::UnknownKind),
-        or_else(unless(fits, Refusal::PayloadLength), late),
-    )
+    let legs = fields::legs(payload);
+    let within = rules::room_good(r.kind, r.length, r.checks, r.mechanisms, r.edges, legs);
+    let known = rules::schedule_good(r.kind, fields::schedule_byte(payload));
+    let kind = unless(rules::kind_good(r.kind), Refusal::UnknownKind);
+    let size = unless(fits, Refusal::PayloadLength);
+    let time = unless(
+        rules::time_good(r.kind, has_model, has_settings),
+        Refusal::ShotTooEarly,
+    );
+    let room = unless(within, Refusal::BeyondRoom);
+    let schedule = unless(known, Refusal::BadSchedule);
+    or_else(kind, or_else(size, or_else(time, or_else(room, schedule))))
 }
 
 // At the end of the input: 40, unless it ends with a whole record or holds nothing.
