@@ -8,4 +8,6 @@ pub mod Encoding
 pub mod Whole
 pub mod Judging
 pub mod Along
+pub mod Accepted
+pub mod ReadBack
 pub mod Theorems

@@ -11,12 +11,14 @@ use lib.ListN.{length, take, drop, length-drop}
 use lib.Seq.{length-take-le}
 use borrow.Author.Tests.{leb-true, leb-false, ne-eqb}
 use Rattle.numbers.proofs.Cases.{either}
-use Rattle.records.specs.Stream.{AreBytes, Rec, rec, Sayable, AllSayable, none, more, encode, stream, lengthSaid, kindSaid, isComplete, judge, leftOver}
+use Rattle.records.specs.Stream.{seed, syndrome, AreBytes, Rec, rec, Sayable, AllSayable, none, more, encode, stream, lengthSaid, kindSaid, isComplete, judge, leftOver}
 use Rattle.records.specs.Reading.{fresh, holding, isWhole, opened, keptOf, Held, held, pushed, fed, met, toMeet, verdict, atEnd}
 use Rattle.records.proofs.Bytes.{bytes-take, bytes-drop, number-bound}
 use Rattle.records.proofs.Encoding.{length-said, kind-said, payload-said, complete-is}
 use Rattle.records.proofs.Whole.{read-all}
+use Rattle.records.specs.Payloads.{encodeShot, SettingsFields, encodeSettings, Mechanism, encodeModel}
 use Rattle.records.proofs.Judging.{judged}
+use Rattle.records.proofs.ReadBack.{shot-seed, shot-syndrome, SettingsFit, SettingsRead, settings-read, ModelFit, ModelRead, model-read}
 use Rattle.records.proofs.Along.{met-append, met-cut, met-then, end-then, follows, to-its-end}
 
 -- ---- the encoding
@@ -34,6 +36,18 @@ read-back r rest s =
       size = length-said (r .kind) (r .payload) rest (s .size);
       payload = payload-said (r .kind) (r .payload) rest;
     }
+
+-- "Kind 1, model: u32 checks, mechanisms, edges; per mechanism f64 prior, u32 degree; then all the u32 detectors"
+pub model-back : (checks : ℕ) (ms : List Mechanism) (ds : List ℕ) → ModelFit checks ms ds → ModelRead checks ms ds (encodeModel checks ms ds)
+model-back = model-read
+
+-- "Kind 2, settings: .. 49 bytes"
+pub settings-back : (s : SettingsFields) → SettingsFit s → SettingsRead s (encodeSettings s)
+settings-back = settings-read
+
+-- "Kind 3, shot: u64 seed, syndrome bytes"
+pub shot-back : (s : ℕ) (ys : List ℕ) → s < 2 ^ 64 → (seed (encodeShot s ys) ≡ s) × (syndrome (encodeShot s ys) ≡ ys)
+shot-back s ys h = (shot-seed s ys h, shot-syndrome s ys)
 
 -- ---- every input is records, and what is left over
 
