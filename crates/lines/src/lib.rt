@@ -1,14 +1,16 @@
 // The lines that `shots` writes. Each is written at the front of a lent array, and its length is the answer.
 ghost use mathlib.Core.Path.{_≡_};
-ghost use mathlib.Core.List.{[], _∷_, _++_, map};
+ghost use mathlib.Core.List.{[], _∷_, map};
 ghost use Prim.Native.Nat.{_+_, _<_, _≤_};
-ghost use lib.ListN.{length, take};
+ghost use lib.ListN.{length};
+ghost use Rattle.numbers.specs.Loops.{over};
+ghost use Rattle.lines.specs.Writing.{Put};
 ghost use Rattle.lines.specs.Lines.{digits, decimal, flag as flagOf, bitDigit, bitsAfter, shotLine, refusedLine, stoppedLine, endLine, unlessTooLong};
 
 // Writes a byte.
 fn put(byte: u8, out: &mut [u8], at: usize) -> usize
     requires { ⌜ at < length (now out) ⌝ }
-    ensures { λ r. ⌜ (r ≡ at + 1) × (take r (now (out .exit)) ≡ take at (now (out .entry)) ++ (byte ∷ [])) ⌝ }
+    ensures { λ r. ⌜ (r ≡ at + 1) × Put (byte ∷ []) (now (out .entry)) at (now (out .exit)) r ⌝ }
 {
     out[at] = byte;
     at + 1
@@ -17,7 +19,7 @@ fn put(byte: u8, out: &mut [u8], at: usize) -> usize
 // Writes a word.
 fn put_word(word: &[u8], out: &mut [u8], at: usize) -> usize
     requires { ⌜ at + length (now word) ≤ length (now out) ⌝ }
-    ensures { λ r. ⌜ (r ≡ at + length (now (word .entry))) × (take r (now (out .exit)) ≡ take at (now (out .entry)) ++ now (word .entry)) ⌝ }
+    ensures { λ r. ⌜ (r ≡ at + length (now (word .entry))) × Put (now (word .entry)) (now (out .entry)) at (now (out .exit)) r ⌝ }
 {
     let mut i = 0;
     while i < word.len() {
@@ -38,7 +40,7 @@ fn digit(d: usize) -> u8
 // Writes the decimal digits of a number that has at most k.
 fn put_digits(k: usize, n: usize, out: &mut [u8], at: usize) -> usize
     requires { ⌜ at + k ≤ length (now out) ⌝ }
-    ensures { λ r. ⌜ (r ≤ at + k) × (take r (now (out .exit)) ≡ take at (now (out .entry)) ++ digits k n) ⌝ }
+    ensures { λ r. ⌜ (r ≤ at + k) × Put (digits k n) (now (out .entry)) at (now (out .exit)) r ⌝ }
 {
     if k == 0 {
         return at;
@@ -53,7 +55,7 @@ fn put_digits(k: usize, n: usize, out: &mut [u8], at: usize) -> usize
 // Writes a number in decimal.
 fn put_decimal(n: usize, out: &mut [u8], at: usize) -> usize
     requires { ⌜ at + 20 ≤ length (now out) ⌝ }
-    ensures { λ r. ⌜ (r ≤ at + 20) × (take r (now (out .exit)) ≡ take at (now (out .entry)) ++ decimal n) ⌝ }
+    ensures { λ r. ⌜ (r ≤ at + 20) × Put (decimal n) (now (out .entry)) at (now (out .exit)) r ⌝ }
 {
     put_digits(20, n, out, at)
 }
@@ -71,7 +73,7 @@ fn bit_digit(bit: u8) -> u8
 // Writes the bits of a correction.
 fn put_bits(bits: &[u8], out: &mut [u8], at: usize) -> usize
     requires { ⌜ at + length (now bits) ≤ length (now out) ⌝ }
-    ensures { λ r. ⌜ (r ≡ at + length (now (bits .entry))) × (take r (now (out .exit)) ≡ take at (now (out .entry)) ++ map bitDigit (now (bits .entry))) ⌝ }
+    ensures { λ r. ⌜ (r ≡ at + length (now (bits .entry))) × Put (map bitDigit (now (bits .entry))) (now (out .entry)) at (now (out .exit)) r ⌝ }
 {
     let mut i = 0;
     while i < bits.len() {
@@ -84,7 +86,7 @@ fn put_bits(bits: &[u8], out: &mut [u8], at: usize) -> usize
 // Writes them after a space; nothing where there are none.
 fn put_after(bits: &[u8], out: &mut [u8], at: usize) -> usize
     requires { ⌜ at + (1 + length (now bits)) ≤ length (now out) ⌝ }
-    ensures { λ r. ⌜ (r ≤ at + (1 + length (now (bits .entry)))) × (take r (now (out .exit)) ≡ take at (now (out .entry)) ++ bitsAfter (now (bits .entry))) ⌝ }
+    ensures { λ r. ⌜ (r ≤ at + (1 + length (now (bits .entry)))) × Put (bitsAfter (now (bits .entry))) (now (out .entry)) at (now (out .exit)) r ⌝ }
 {
     if bits.len() == 0 {
         return at;
@@ -112,7 +114,7 @@ pub fn shot_line(
     bits: &[u8],
     out: &mut [u8; 512],
 ) -> usize
-    ensures { λ r. ⌜ (r ≤ 512) × (take r (now (out .exit)) ≡ unlessTooLong (now (bits .entry)) (shotLine number converged total legs (now (bits .entry)))) ⌝ }
+    ensures { λ r. ⌜ (r ≡ length (unlessTooLong (now (bits .entry)) (shotLine number converged total legs (now (bits .entry))))) × (now (out .exit) ≡ over (unlessTooLong (now (bits .entry)) (shotLine number converged total legs (now (bits .entry)))) (now (out .entry))) ⌝ }
 {
     if 256 < bits.len() {
         return 0;
@@ -131,7 +133,7 @@ pub fn shot_line(
 
 // A shot that was refused.
 pub fn refused_line(number: usize, code: usize, out: &mut [u8; 512]) -> usize
-    ensures { λ r. ⌜ (r ≤ 512) × (take r (now (out .exit)) ≡ refusedLine number code) ⌝ }
+    ensures { λ r. ⌜ (r ≡ length (refusedLine number code)) × (now (out .exit) ≡ over (refusedLine number code) (now (out .entry))) ⌝ }
 {
     let a = put_word(b"shot ", out, 0);
     let b = put_decimal(number, out, a);
@@ -142,7 +144,7 @@ pub fn refused_line(number: usize, code: usize, out: &mut [u8; 512]) -> usize
 
 // A refusal that ends the run.
 pub fn stopped_line(code: usize, offset: usize, out: &mut [u8; 512]) -> usize
-    ensures { λ r. ⌜ (r ≤ 512) × (take r (now (out .exit)) ≡ stoppedLine code offset) ⌝ }
+    ensures { λ r. ⌜ (r ≡ length (stoppedLine code offset)) × (now (out .exit) ≡ over (stoppedLine code offset) (now (out .entry))) ⌝ }
 {
     let a = put_word(b"stopped ", out, 0);
     let b = put_decimal(code, out, a);
@@ -153,7 +155,7 @@ pub fn stopped_line(code: usize, offset: usize, out: &mut [u8; 512]) -> usize
 
 // The end of a run without one.
 pub fn end_line(shots: usize, out: &mut [u8; 512]) -> usize
-    ensures { λ r. ⌜ (r ≤ 512) × (take r (now (out .exit)) ≡ endLine shots) ⌝ }
+    ensures { λ r. ⌜ (r ≡ length (endLine shots)) × (now (out .exit) ≡ over (endLine shots) (now (out .entry))) ⌝ }
 {
     let a = put_word(b"end ", out, 0);
     let b = put_decimal(shots, out, a);

@@ -3,8 +3,7 @@
 use borrow.Author.Needs.{needs}
 use native.Mathlib.Nat.{pos-of-ne-zero}
 use native.Mathlib.Omega.{arith}
-use lib.ListN.{take}
-use Rattle.lines.proofs.Puts.{digits-none, digits-one, digits-last}
+use Rattle.lines.proofs.Puts.{retext, then, digits-none, digits-one, digits-last}
 use Prim.Native.Nat.{ℕ, _<_}
 use borrow.Fn.Kinds.{In}
 use borrow.Fn.PlainCycle.{Measures, is, falls, and}
@@ -35,7 +34,7 @@ put-digits-returns : (t : ℕ) → put-digits-lts.Need-returns (
   put-digits-below t,
   put-digits.Post,
 ) (put-digits-at t) put-digits.Post
-put-digits-returns t c = (omega arith, digits-none _ _ _ (c .if1 .taken))
+put-digits-returns t c = (omega arith, digits-none _ _ _ _ (c .if1 .taken))
 
 put-digits-digit-requires : (t : ℕ) → put-digits-lts.Need-digit-requires (
   digit-reads.Asked,
@@ -75,7 +74,7 @@ put-digits-returns-2 : (t : ℕ) → put-digits-lts.Need-returns-2 (
   put-digits-below t,
   put-digits.Post,
 ) (put-digits-at t) put-digits.Post
-put-digits-returns-2 t c = (omega (arith, pos-of-ne-zero (c .before .before .before .before .before .before .if1 .left), c .before .before .put .ensures .0), digits-one (take (c .before .before .before .before .before .before .before .before .args .at) (c .before .before .before .before .before .before .before .before .args .out .now)) _ _ _ _ (c .before .before .before .before .before .before .if1 .left) (c .before .before .before .before .before .if2 .taken) (c .before .before .before .before .digit .ensures) (c .before .before .put .ensures .1))
+put-digits-returns-2 t c = (omega (arith, pos-of-ne-zero (c .before .before .before .before .before .before .if1 .left), c .before .before .put .ensures .0), retext _ _ _ _ _ _ (digits-one _ _ _ (c .before .before .before .before .before .before .if1 .left) (c .before .before .before .before .before .if2 .taken) (c .before .before .before .before .digit .ensures)) (c .before .before .put .ensures .1))
 
 put-digits-sub-put-digits : (t : ℕ) → put-digits-lts.Need-sub-put-digits (
   digit-reads.Asked,
@@ -137,8 +136,7 @@ put-digits-returns-3 : (t : ℕ) → put-digits-lts.Need-returns-3 (
   put-digits-below t,
   put-digits.Post,
 ) (put-digits-at t) put-digits.Post
-put-digits-returns-3 t c =
-    (omega (arith, pos-of-ne-zero (c .before .before .before .before .before .before .before .before .before .before .if1 .left), c .before .before .put2 .ensures .0, c .before .before .before .before .before .before .before .put-digits .ensures .0), digits-last (take (c .before .before .before .before .before .before .before .before .before .before .before .before .args .at) (c .before .before .before .before .before .before .before .before .before .before .before .before .args .out .now)) _ _ _ _ _ (c .before .before .before .before .before .before .before .before .before .before .if1 .left) (c .before .before .before .before .before .before .before .before .before .if2 .left) (c .before .before .before .before .digit2 .ensures) (c .before .before .before .before .before .before .before .put-digits .ensures .1) (c .before .before .put2 .ensures .1))
+put-digits-returns-3 t c = (omega (arith, pos-of-ne-zero (c .before .before .before .before .before .before .before .before .before .before .if1 .left), c .before .before .put2 .ensures .0, c .before .before .before .before .before .before .before .put-digits .ensures .0), retext _ _ _ _ _ _ (digits-last _ _ _ (c .before .before .before .before .before .before .before .before .before .before .if1 .left) (c .before .before .before .before .before .before .before .before .before .if2 .left) (c .before .before .before .before .digit2 .ensures)) (then _ _ _ _ _ _ _ _ (c .before .before .before .before .before .before .before .put-digits .ensures .1) (c .before .before .put2 .ensures .1)))
 
 pub +put-digits-spec : {M : Type 1} → statement M
 +put-digits-spec = close μ-put-digits λ t. put-digits-lts.spec (

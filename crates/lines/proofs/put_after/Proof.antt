@@ -1,14 +1,13 @@
 -- `lines::put_after` meets its contract. Without bits there is nothing to write; else a space, and the bits.
 -- Assumes nothing.
+use Rattle.lines.proofs.Puts.{retext, then, after-none, after-some}
 use native.Mathlib.Omega.{arith}
-use lib.ListN.{take}
-use Rattle.lines.proofs.Puts.{after-none, after-some}
 use borrow.Author.Needs.{needs}
 use Rattle.lines.proofs.put_after.Statement.{statement}
 use Rattle.lines.proofs.put_after.Tie as tie
 
 returns : tie.Need-returns
-returns c = (omega arith, after-none _ _ (c .if1 .taken))
+returns c = (omega arith, after-none _ _ _ (c .if1 .taken))
 
 slice-aggregate-put-word : tie.Need-slice-aggregate-put-word
 slice-aggregate-put-word c = search needs
@@ -23,7 +22,7 @@ same-length : tie.Need-same-length
 same-length c = search needs
 
 returns-2 : tie.Need-returns-2
-returns-2 c = (omega (arith, c .before .before .put-bits .ensures .0, c .before .before .before .before .before .before .put-word .ensures .0), after-some (take (c .before .before .before .before .before .before .before .before .before .before .before .before .args .at) (c .before .before .before .before .before .before .before .before .before .before .before .before .args .out .now)) _ _ (c .before .before .before .before .before .before .before .before .before .before .before .before .args .bits .now) (c .before .before .before .before .before .before .before .before .before .if1 .left) (c .before .before .before .before .before .before .put-word .ensures .1) (c .before .before .put-bits .ensures .1))
+returns-2 c = (omega (arith, c .before .before .put-bits .ensures .0, c .before .before .before .before .before .before .put-word .ensures .0), retext _ _ _ _ _ _ (after-some (c .before .before .before .before .before .before .before .before .before .before .before .before .args .bits .now) (c .before .before .before .before .before .before .before .before .before .if1 .left)) (then _ _ _ _ _ _ _ _ (c .before .before .before .before .before .before .put-word .ensures .1) (c .before .before .put-bits .ensures .1)))
 
 pub put-after-spec : {M : Type 1} → statement M
 put-after-spec =

@@ -1,7 +1,8 @@
 -- `lines::refused_line` meets its contract. Part by part.
 -- Assumes nothing.
-use native.Mathlib.Omega.{arith}
 use Rattle.lines.specs.Lines.{refusedLine}
+use Rattle.lines.proofs.Puts.{then, line}
+use native.Mathlib.Omega.{arith}
 use borrow.Author.Needs.{needs}
 use Rattle.lines.proofs.refused_line.Statement.{statement}
 use Rattle.lines.proofs.refused_line.Tie as tie
@@ -32,7 +33,7 @@ put-word-requires-3 c κs = search needs
 
 returns : tie.Need-returns
 unfolding refusedLine
-returns c = (omega arith, rw (c .put-word3 .ensures .1, c .before .before .before .put-decimal2 .ensures .1, c .before .before .before .before .before .put-word2 .ensures .1, c .before .before .before .before .before .before .before .before .put-decimal .ensures .1, c .before .before .before .before .before .before .before .before .before .before .put-word .ensures .1))
+returns c = line _ _ _ _ (then _ _ _ _ _ _ _ _ (then _ _ _ _ _ _ _ _ (then _ _ _ _ _ _ _ _ (then _ _ _ _ _ _ _ _ (c .before .before .before .before .before .before .before .before .before .before .put-word .ensures .1) (c .before .before .before .before .before .before .before .before .put-decimal .ensures .1)) (c .before .before .before .before .before .put-word2 .ensures .1)) (c .before .before .before .put-decimal2 .ensures .1)) (c .put-word3 .ensures .1)) (omega (arith, c .before .before .before .before .before .before .before .before .before .before .put-word .ensures .0, c .before .before .before .before .before .before .before .before .put-decimal .ensures .0, c .before .before .before .before .before .put-word2 .ensures .0, c .before .before .before .put-decimal2 .ensures .0, c .put-word3 .ensures .0)) (omega (arith, c .before .before .before .before .before .before .before .before .before .before .put-word .kept .1 .0, c .before .before .before .before .before .before .before .before .put-decimal .kept .1 .0, c .before .before .before .before .before .put-word2 .kept .1 .0, c .before .before .before .put-decimal2 .kept .1 .0, c .put-word3 .kept .1 .0))
 
 pub refused-line-spec : {M : Type 1} → statement M
 refused-line-spec =
