@@ -176,3 +176,7 @@ judge hasModel hasSettings kind p =
 -- 40: bytes that are left over, from 1 on, are a cut record
 unfoldable pub leftOver : List ℕ → Answer
 leftOver xs = unless (eqb (length xs) 0) CutRecord
+
+-- the refusals that a shot's line has, 20, 21 and 30; any other ends the run
+unfoldable pub isOfShot : ℕ → Bool
+isOfShot code = eqb code 20 || (eqb code 21 || eqb code 30)

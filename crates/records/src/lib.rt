@@ -6,7 +6,7 @@ mod step;
 
 ghost use mathlib.Core.Path.{_≡_};
 ghost use Rattle.records.specs.Reading.{fresh, isWhole, held, pushed, verdict as verdictOf, atEnd};
-ghost use Rattle.records.specs.Stream.{seed};
+ghost use Rattle.records.specs.Stream.{seed, isOfShot};
 ghost use Rattle.records.specs.Fields.{modelLists, modelRead, settingsOf};
 use numbers::at_most;
 use numbers::both;
@@ -143,4 +143,17 @@ pub fn read_seed(payload: &[u8]) -> u64
     ensures { λ x. ⌜ x ≡ seed (now (payload .entry)) ⌝ }
 {
     fields::number8(payload, 0)
+}
+
+// Whether a refusal is one that a shot's line has: any other ends the run.
+pub fn is_of_shot(code: usize) -> bool
+    ensures { λ x. ⌜ x ≡ isOfShot code ⌝ }
+{
+    if code == 20 {
+        return true;
+    }
+    if code == 21 {
+        return true;
+    }
+    code == 30
 }
