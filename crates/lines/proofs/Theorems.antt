@@ -9,6 +9,7 @@ use native.Mathlib.Omega.{arith}
 use lib.ListN.{length, getD, length-append, List·getD-append}
 use borrow.Author.Tests.{lt-ltb, le-ltb}
 use Rattle.numbers.proofs.Cases.{less-or-not}
+use Rattle.numbers.specs.Loops.{over}
 use Rattle.lines.specs.Lines.{digits, decimal, flag, bitDigit, bitsAfter, shotLine, endLine}
 
 -- the number that decimal digits say
@@ -58,3 +59,7 @@ example-shot = refl
 pub example-end : endLine 1 ≡ 101 ∷ 110 ∷ 100 ∷ 32 ∷ 49 ∷ 10 ∷ []
 unfolding endLine decimal digits
 example-end = refl
+
+-- two results that the contract of a line w allows coincide: the answer and the array
+pub line-once : (w old new new′ : List ℕ) (r r′ : ℕ) → (r ≡ length w) × (new ≡ over w old) → (r′ ≡ length w) × (new′ ≡ over w old) → (r ≡ r′) × (new ≡ new′)
+line-once w old new new′ r r′ p q = (p .0 ∙ sym (q .0), p .1 ∙ sym (q .1))

@@ -12,6 +12,10 @@ use lib.Seq.{length-take-le}
 use borrow.Author.Tests.{leb-true, leb-false, ne-eqb}
 use Rattle.numbers.proofs.Cases.{either}
 use Rattle.records.specs.Stream.{seed, syndrome, AreBytes, Rec, rec, Sayable, AllSayable, none, more, encode, stream, lengthSaid, kindSaid, isComplete, judge, leftOver}
+use Rattle.refusals.specs.declared.Answer.{Answer}
+use Rattle.settings.specs.declared.Settings.{Settings}
+use Rattle.records.specs.declared.Reader.{Reader}
+use Rattle.records.specs.Fields.{ModelLists, modelRead, settingsOf}
 use Rattle.records.specs.Reading.{fresh, holding, isWhole, opened, keptOf, Held, held, pushed, fed, met, toMeet, verdict, atEnd}
 use Rattle.records.proofs.Bytes.{bytes-take, bytes-drop, number-bound}
 use Rattle.records.proofs.Encoding.{length-said, kind-said, payload-said, complete-is}
@@ -151,3 +155,27 @@ judges hasModel hasSettings r offset room s h =
     let j : verdict hasModel hasSettings (holding offset xs) (keptOf (drop 6 xs) room) ≡ judge hasModel hasSettings (kindSaid xs) (drop 6 xs) =
     judged hasModel hasSettings offset xs room (to-its-end r s offset room) h in
     ap (λ q. verdict hasModel hasSettings (holding offset xs) (keptOf q room)) (sym p) ∙ j ∙ ap (λ q. judge hasModel hasSettings (kindSaid xs) q) p ∙ ap (λ q. judge hasModel hasSettings q (r .payload)) k
+
+-- ---- two results that a contract allows coincide
+
+pub whole-once : (r : Reader) (x y : Bool) → x ≡ isWhole r → y ≡ isWhole r → x ≡ y
+whole-once r x y p q = p ∙ sym q
+
+pub push-once : (h : Held) (b : ℕ) (x y : Held) → x ≡ pushed h b → y ≡ pushed h b → x ≡ y
+push-once h b x y p q = p ∙ sym q
+
+pub verdict-once : (hasModel hasSettings : Bool) (r : Reader) (kept : List ℕ) (x y : Answer)
+    → x ≡ verdict hasModel hasSettings r kept → y ≡ verdict hasModel hasSettings r kept → x ≡ y
+verdict-once hasModel hasSettings r kept x y p q = p ∙ sym q
+
+pub end-once : (r : Reader) (x y : Answer) → x ≡ atEnd r → y ≡ atEnd r → x ≡ y
+end-once r x y p q = p ∙ sym q
+
+pub model-once : (p : List ℕ) (l x y : ModelLists) → x ≡ modelRead p l → y ≡ modelRead p l → x ≡ y
+model-once p l x y e f = e ∙ sym f
+
+pub settings-once : (p : List ℕ) (x y : Settings) → x ≡ settingsOf p → y ≡ settingsOf p → x ≡ y
+settings-once p x y e f = e ∙ sym f
+
+pub seed-once : (p : List ℕ) (x y : ℕ) → x ≡ seed p → y ≡ seed p → x ≡ y
+seed-once p x y e f = e ∙ sym f
