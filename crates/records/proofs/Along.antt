@@ -1,9 +1,9 @@
 -- A reader along a stream: it meets the records of the grammar, in order and at their offsets, and nothing else. Assumes nothing.
 use mathlib.Core.Path.{_≡_, refl, sym, ap, _∙_}
-use mathlib.Core.Bool.{Bool, true, false, cond}
+use mathlib.Core.Bool.{true, false, cond}
 use mathlib.Core.List.{List, [], _∷_, _++_, foldl, foldl-append, append-nil}
 use mathlib.Core.Logic.{⊎-elim}
-use Prim.Native.Nat.{ℕ, zero, suc, _+_, _-_, _%_, _^_, _<_, _≤_}
+use Prim.Native.Nat.{ℕ, zero, suc, _+_, _%_, _^_, _<_, _≤_}
 use native.Mathlib.Omega.{arith}
 use lib.Dec.{eqb}
 use lib.ListN.{length, getD, take, drop}
@@ -13,7 +13,7 @@ use Rattle.numbers.proofs.Cases.{either}
 use Rattle.refusals.specs.declared.Refusal.the-variants.{CutRecord}
 use Rattle.refusals.specs.Tests.{unless}
 use Rattle.records.specs.Stream.{AreBytes, Rec, Sayable, encode, lengthSaid}
-use Rattle.records.specs.Reading.{fresh, holding, isWhole, opened, keptOf, Held, held, pushed, fed, met, toMeet, atEnd}
+use Rattle.records.specs.Reading.{fresh, holding, isWhole, opened, keptOf, Held, held, pushed, fed, met, atEnd}
 use Rattle.records.proofs.Encoding.{length-encode, length-said, payload-said, bytes-encode}
 use Rattle.records.proofs.Whole.{not-whole, read-first, read-all}
 

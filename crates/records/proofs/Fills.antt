@@ -1,12 +1,12 @@
 -- One turn of each loop that fills a list, and what is left to say of floats: a NaN's bits are the NaN's. Assumes nothing.
 use mathlib.Core.Path.{_≡_, refl, sym, ap, _∙_}
 use mathlib.Core.Bool.{true, false, _&&_, false≢true}
-use mathlib.Core.List.{List, [], _∷_, _++_}
-use Prim.Native.Nat.{ℕ, suc, _+_, _%_, _^_, _<_, _≤_}
+use mathlib.Core.List.{List, []}
+use Prim.Native.Nat.{ℕ, _+_, _%_, _^_, _<_, _≤_}
 use native.Mathlib.Nat.{mod-add-mod}
 use native.Mathlib.Numerals.{add-one}
 use native.Mathlib.Omega.{arith}
-use lib.Ieee.{Float, nan, inf, fin, binary64, ofBits, isNan, nanBits}
+use lib.Ieee.{Float, nan, inf, fin, binary64, ofBits, isNan}
 use lib.Ieee.Bits.{nanBits-is, nanBits-above}
 use lib.ListN.{length, set, take}
 use lib.Seq.{take-suc-set, take-all}

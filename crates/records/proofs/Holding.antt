@@ -1,19 +1,18 @@
 -- What a reader holds after some bytes of a record is what those bytes say, and stays so with each byte more. Assumes nothing.
 use mathlib.Core.Path.{_≡_, refl, sym, ap, _∙_}
-use mathlib.Core.Bool.{Bool, true, false}
-use mathlib.Core.List.{List, [], _∷_, _++_, append-nil, foldl}
+use mathlib.Core.List.{List, [], _∷_, _++_, append-nil}
 use mathlib.Core.Logic.{⊎-elim, inl, inr}
-use Prim.Native.Nat.{ℕ, zero, suc, _+_, _*_, _-_, _/_, _%_, _^_, _<_, _≤_}
+use Prim.Native.Nat.{ℕ, suc, _+_, _*_, _-_, _/_, _%_, _^_, _<_, _≤_}
 use native.Mathlib.Nat.{mod-eq-of-lt, pow-le-pow-right}
 use native.Mathlib.Omega.{arith}
 use lib.ListN.{length, getD, set, take, drop, length-append, length-drop, length-take, drop-of-length-le}
 use lib.Seq.{take-all, drop-cons, drop-append-le, take-append-le, set-at, set-out, append-snoc}
 use Rattle.numbers.proofs.Cases.{less-or-not}
 use Rattle.records.specs.Stream.{AreBytes, numberAt, lengthSaid, kindSaid, checks, mechanisms, edges, degrees}
-use Rattle.records.specs.Reading.{holding, grown, summed, added, keptWith, keptOf}
+use Rattle.records.specs.Reading.{holding, grown, summed, added, keptOf}
 use Rattle.records.proofs.Bytes.{bytes-more, bytes-drop, number-bound, number-drop, number-before, number-within, number-after}
 use Rattle.records.proofs.Degrees.{degrees-none, degrees-same, degrees-more, degrees-small}
-use Rattle.records.proofs.Steps.{grown-before, grown-after, grown-within, summed-before, summed-after, summed-within, keep-none, keep-in}
+use Rattle.records.proofs.Steps.{grown-before, grown-after, grown-within, summed-before, summed-after, summed-within}
 
 -- a number of at most 4 bytes, one byte further
 pub field-grows : (n at : ℕ) (xs : List ℕ) (b : ℕ) → n ≤ 4 → AreBytes xs → b < 256 → grown (numberAt n at xs) at n (length xs) b ≡ numberAt n at (xs ++ (b ∷ []))

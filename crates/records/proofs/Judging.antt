@@ -1,17 +1,15 @@
 -- A record that has been read to its end is judged as the grammar judges it: what is kept answers where the test looks at it. Assumes nothing.
-use mathlib.Core.Path.{_≡_, refl, sym, ap, _∙_}
+use mathlib.Core.Path.{_≡_, refl}
 use mathlib.Core.Bool.{Bool, true, false}
-use mathlib.Core.List.{List, [], _∷_, _++_}
+use mathlib.Core.List.{List, []}
 use mathlib.Core.Logic.{⊎-elim}
-use Prim.Native.Nat.{ℕ, _+_, _<_, _≤_}
+use Prim.Native.Nat.{ℕ, _+_, _≤_}
 use native.Mathlib.Omega.{arith}
-use lib.Dec.{eqb}
-use lib.ListN.{length, getD, take, drop, length-append, length-drop, List·getD-append}
+use lib.ListN.{length, drop, length-drop, List·getD-append}
 use lib.Seq.{take-all, take-append-le, drop-append-le}
-use borrow.Author.Tests.{eq-eqb, ne-eqb}
+use borrow.Author.Tests.{ne-eqb}
 use Rattle.numbers.proofs.Cases.{equal-or-not}
 use Rattle.refusals.specs.declared.Answer.{Answer}
-use Rattle.refusals.specs.declared.Answer.the-variants.{Done, Refused}
 use Rattle.refusals.specs.declared.Refusal.the-variants.{UnknownKind, PayloadLength, ShotTooEarly, BeyondRoom, BadSchedule}
 use Rattle.refusals.specs.Tests.{unless, orElse}
 use Rattle.records.specs.Stream.{numberAt, lengthSaid, kindSaid, checks, mechanisms, edges, degrees, legs, scheduleByte, kindGood, lengthGood, timeGood, roomGood, scheduleGood, judge}

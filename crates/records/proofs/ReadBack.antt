@@ -1,11 +1,11 @@
 -- Payloads that are encoded are read back, field by field. Assumes nothing.
-use mathlib.Core.Path.{_≡_, refl, sym, ap, _∙_}
+use mathlib.Core.Path.{_≡_, refl, _∙_}
 use mathlib.Core.List.{List, [], _∷_, _++_}
-use Prim.Native.Nat.{ℕ, zero, suc, _+_, _*_, _^_, _<_, _≤_}
+use Prim.Native.Nat.{ℕ, zero, suc, _+_, _*_, _^_, _<_}
 use native.Mathlib.Omega.{arith}
-use lib.ListN.{length, getD, take, drop, length-append}
+use lib.ListN.{length, getD, length-append}
 use lib.Seq.{take-at, drop-append-add}
-use Rattle.records.specs.Stream.{bytesOf, number, numberAt, seed, syndrome, checks, mechanisms, edges, priorBits, degree, detector, scheduleByte, alphaBits, gamma0Bits, preIterations, legs, legIterations, lowBits, highBits, stop}
+use Rattle.records.specs.Stream.{bytesOf, numberAt, seed, syndrome, checks, mechanisms, edges, priorBits, degree, detector, scheduleByte, alphaBits, gamma0Bits, preIterations, legs, legIterations, lowBits, highBits, stop}
 use Rattle.records.specs.Payloads.{encodeShot, SettingsFields, encodeSettings, Mechanism, encodeMechanisms, encodeDetectors, encodeModel}
 use Rattle.records.proofs.Encoding.{length-bytesOf, number-bytesOf}
 

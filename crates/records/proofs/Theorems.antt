@@ -4,14 +4,13 @@ use mathlib.Core.Path.{_≡_, refl, sym, ap, _∙_}
 use mathlib.Core.Bool.{Bool, true, false}
 use mathlib.Core.List.{List, [], _∷_, _++_, foldl-append, append-assoc, append-nil}
 use mathlib.Core.Logic.{⊎-elim}
-use Prim.Native.Nat.{ℕ, zero, suc, _+_, _-_, _%_, _^_, _<_, _≤_}
+use Prim.Native.Nat.{ℕ, zero, suc, _+_, _%_, _^_, _<_, _≤_}
 use native.Mathlib.Omega.{arith}
-use lib.Dec.{leb}
 use lib.ListN.{length, take, drop, length-drop}
 use lib.Seq.{length-take-le}
 use borrow.Author.Tests.{leb-true, leb-false, ne-eqb}
 use Rattle.numbers.proofs.Cases.{either}
-use Rattle.records.specs.Stream.{seed, syndrome, AreBytes, Rec, rec, Sayable, AllSayable, none, more, encode, stream, lengthSaid, kindSaid, isComplete, judge, leftOver}
+use Rattle.records.specs.Stream.{seed, syndrome, AreBytes, Rec, rec, Sayable, AllSayable, none, more, encode, stream, lengthSaid, kindSaid, isComplete, judge, leftOver, isOfShot}
 use Rattle.refusals.specs.declared.Answer.{Answer}
 use Rattle.settings.specs.declared.Settings.{Settings}
 use Rattle.records.specs.declared.Reader.{Reader}
@@ -179,3 +178,6 @@ settings-once p x y e f = e ∙ sym f
 
 pub seed-once : (p : List ℕ) (x y : ℕ) → x ≡ seed p → y ≡ seed p → x ≡ y
 seed-once p x y e f = e ∙ sym f
+
+pub of-shot-once : (code : ℕ) (x y : Bool) → x ≡ isOfShot code → y ≡ isOfShot code → x ≡ y
+of-shot-once code x y e f = e ∙ sym f

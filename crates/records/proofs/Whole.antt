@@ -1,20 +1,17 @@
 -- What is read of the bytes of one record, to its end or short of it. Assumes nothing.
 use mathlib.Core.Path.{_≡_, refl, sym, ap, _∙_}
-use mathlib.Core.Bool.{Bool, true, false, not, _||_}
-use mathlib.Core.List.{List, [], _∷_, _++_, foldl, foldl-append}
+use mathlib.Core.Bool.{false}
+use mathlib.Core.List.{List, [], _∷_, _++_}
 use mathlib.Core.Logic.{⊎-elim}
-use Prim.Native.Nat.{ℕ, zero, suc, _+_, _*_, _-_, _%_, _^_, _<_, _≤_}
-use native.Mathlib.Nat.{not-suc-le-zero}
+use Prim.Native.Nat.{ℕ, zero, suc, _+_, _^_, _<_, _≤_}
 use native.Mathlib.Omega.{arith}
-use lib.Dec.{eqb}
-use lib.ListN.{length, getD, set, take, drop, length-append, length-drop, length-take, drop-of-length-le, List·getD-eq-default}
-use lib.Seq.{take-all, take-length, take-take, take-suc, length-take-le, take-append-le, getD-take, drop-append-le, take-nil}
-use borrow.Author.Tests.{eq-eqb, ne-eqb}
+use lib.ListN.{length, getD, set, take, drop, length-append, length-drop, drop-of-length-le}
+use lib.Seq.{take-all, take-length, take-take, take-suc, length-take-le, drop-append-le, take-nil}
+use borrow.Author.Tests.{ne-eqb}
 use Rattle.numbers.proofs.Loops.{foldl-take}
-use Rattle.numbers.proofs.Cases.{less-or-not, equal-or-not, either}
-use Rattle.refusals.specs.Tests.{unless, orElse}
+use Rattle.numbers.proofs.Cases.{less-or-not}
 use Rattle.records.specs.Stream.{AreBytes, number, numberAt, lengthSaid, kindSaid, checks, mechanisms, edges, degrees}
-use Rattle.records.specs.Reading.{fresh, holding, isWhole, opened, added, keptWith, keptOf, held, pushed, fed}
+use Rattle.records.specs.Reading.{fresh, holding, isWhole, opened, keptWith, keptOf, held, pushed, fed}
 use Rattle.records.proofs.Bytes.{bytes-take, number-bound}
 use Rattle.records.proofs.Holding.{holding-more, kept-more}
 use Rattle.records.proofs.Steps.{head-only, keep-none, keep-in}

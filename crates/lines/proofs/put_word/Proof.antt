@@ -1,6 +1,6 @@
 -- `lines::put_word` meets its contract. The invariant: behind the front stand the bytes passed.
 -- Assumes nothing.
-use mathlib.Core.Path.{_≡_, refl, sym}
+use mathlib.Core.Path.{_≡_, refl}
 use mathlib.Core.List.{map}
 use Prim.Native.Nat.{ℕ, _+_, _≤_, _-_}
 use lib.ListN.{length, take, length-set}

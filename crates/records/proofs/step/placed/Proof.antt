@@ -1,7 +1,6 @@
 -- `records::step::placed` meets its contract. Place by place.
 -- Assumes nothing.
 use mathlib.Core.Path.{_≡_}
-use mathlib.Core.Path.{refl}
 use native.Mathlib.Omega.{arith}
 use borrow.Author.Needs.{needs}
 use Rattle.records.proofs.step.placed.Statement.{statement}
