@@ -8,7 +8,7 @@ ghost use mathlib.Core.Path.{_≡_};
 ghost use mathlib.Core.List.{[]};
 ghost use Prim.Native.Nat.{_<_};
 ghost use lib.ListN.{length};
-ghost use Rattle.messages_core.specs.Needs.{Offsets, Entries, Walks, walked, ofChecks, ofVariables};
+ghost use Rattle.messages_core.specs.Needs.{Offsets, Entries, Walks, walked, ofChecks, ofVariables, RowsRise};
 ghost use Rattle.relay_core.specs.Step.{state, biasOf, computeBias, updateCheck, checkPass, variablePass, serialCheck, serialPass, floodingIteration, checkSerialIteration, iteration};
 
 // A variable's bias.
@@ -42,6 +42,7 @@ fn update_one(
 )
     requires { ⌜ c < length (now syndrome) ⌝ }
     requires { ⌜ Offsets (length (now syndrome)) (length (now «check_var»)) (now «check_offset») ⌝ }
+    requires { ⌜ RowsRise (length (now syndrome)) (now «check_var») (now «check_offset») ⌝ }
     requires { ⌜ (length (now «v_to_c») ≡ length (now «check_var»)) × (length (now «c_to_v») ≡ length (now «check_var»)) ⌝ }
     ensures { λ _. ⌜ state (now («c_to_v» .exit)) (now («v_to_c» .entry)) [] ≡ updateCheck (ofChecks (length (now (syndrome .entry))) (now («check_var» .entry)) (now («check_offset» .entry))) alpha (now (syndrome .entry)) (state (now («c_to_v» .entry)) (now («v_to_c» .entry)) []) c ⌝ }
 {
@@ -69,6 +70,7 @@ fn check_pass(
     c_to_v: &mut [f64],
 )
     requires { ⌜ Offsets (length (now syndrome)) (length (now «check_var»)) (now «check_offset») ⌝ }
+    requires { ⌜ RowsRise (length (now syndrome)) (now «check_var») (now «check_offset») ⌝ }
     requires { ⌜ Entries (length (now syndrome)) (now order) ⌝ }
     requires { ⌜ (length (now «v_to_c») ≡ length (now «check_var»)) × (length (now «c_to_v») ≡ length (now «check_var»)) ⌝ }
     ensures { λ _. ⌜ state (now («c_to_v» .exit)) (now («v_to_c» .entry)) [] ≡ checkPass (ofChecks (length (now (syndrome .entry))) (now («check_var» .entry)) (now («check_offset» .entry))) alpha (now (syndrome .entry)) (now (order .entry)) (state (now («c_to_v» .entry)) (now («v_to_c» .entry)) []) ⌝ }

@@ -50,7 +50,7 @@ same-length c = search needs
 returns : tie.Need-returns
 returns c =
     let b = c .before .before .before .before .before .before .before .before .before in
-    rw (post-is (b .args .start) (b .args .end) (b .args .c-to-v .now) (b .pre .0), c .before .before .update-check .ensures)
+    rw (post-is (b .args .start) (b .args .end) (b .args .c-to-v .now) (b .pre .0 .0), c .before .before .update-check .ensures)
 
 pub update-part-spec : {M : Type 1} → statement M
 update-part-spec =

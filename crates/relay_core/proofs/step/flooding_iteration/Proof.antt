@@ -8,7 +8,10 @@ use Rattle.relay_core.proofs.step.flooding_iteration.Statement.{stateme
 use Rattle.relay_core.proofs.step.flooding_iteration.Tie as tie
 
 check-pass-requires : tie.Need-check-pass-requires
-check-pass-requires c κs = search needs
+check-pass-requires c κs =
+    let s = c .before .before .before .before .before .before .before .before .before .before .before .before .before .before in
+    let p = s .pre .1 .1 in
+    (s .pre .0 .parts, (s .pre .0 .rising, (p .0, (p .1 .1 .1, p .1 .1 .0))))
 
 compute-bias-requires : tie.Need-compute-bias-requires
 compute-bias-requires c κs = search needs

@@ -4,7 +4,7 @@ use mathlib.Core.Path.{sym, _∙_}
 use Prim.Native.Nat.{_≤_}
 use native.Mathlib.Omega.{arith}
 use lib.ListN.{length}
-use Rattle.messages_core.proofs.Parts.{bounds, part-names, walks-along}
+use Rattle.messages_core.proofs.Parts.{bounds, part-names, walks-along, part-rises}
 use Rattle.relay_core.proofs.Passes.{serial-is}
 use borrow.Author.Needs.{needs}
 use Rattle.relay_core.proofs.step.serial_check.Statement.{statement}
@@ -30,7 +30,8 @@ update-part-requires : tie.Need-update-part-requires
 update-part-requires c κs =
     let w = within (c .before .before .before) in
     let p = c .before .before .before .before .before .before .before .before .before .before .before .before .before .before .pre .1 .1 .1 .1 in
-    (w .0, w .1, p .1, p .0)
+    let s = c .before .before .before .before .before .before .before .before .before .before .before .before .before .before in
+    ((w .0, w .1, p .1, p .0), part-rises _ _ _ (s .args .c) _ _ (s .pre .1 .0 .rising) (s .pre .0) (c .before .before .before .before .at .ensures) (c .before .before .before .at2 .ensures))
 
 mul-update-variables : tie.Need-mul-update-variables
 mul-update-variables c = omega (arith, within (c .before .before .before .before .before .before))

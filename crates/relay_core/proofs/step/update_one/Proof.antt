@@ -2,7 +2,7 @@
 -- Assumes nothing.
 use Prim.Native.Nat.{_≤_}
 use lib.ListN.{length}
-use Rattle.messages_core.proofs.Parts.{bounds}
+use Rattle.messages_core.proofs.Parts.{bounds, part-rises}
 use Rattle.relay_core.proofs.Passes.{check-is}
 use borrow.Author.Needs.{needs}
 use Rattle.relay_core.proofs.step.update_one.Statement.{statement}
@@ -28,7 +28,8 @@ update-part-requires : tie.Need-update-part-requires
 update-part-requires c κs =
     let w = within (c .before .before) in
     let p = c .before .before .before .before .before .before .before .before .before .pre .1 .1 in
-    (w .0, w .1, p .0, p .1)
+    let s = c .before .before .before .before .before .before .before .before .before in
+    ((w .0, w .1, p .1 .0, p .1 .1), part-rises _ _ _ (s .args .c) _ _ (p .0) (s .pre .0) (c .before .before .before .at .ensures) (c .before .before .at2 .ensures))
 
 same-length : tie.Need-same-length
 same-length c = search needs
