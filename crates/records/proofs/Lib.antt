@@ -9,5 +9,6 @@ pub mod Whole
 pub mod Judging
 pub mod Along
 pub mod Accepted
+pub mod Kept
 pub mod ReadBack
 pub mod Theorems
