@@ -1,0 +1,3 @@
+-- The laws that stand by themselves.
+pub mod Puts
+pub mod Theorems

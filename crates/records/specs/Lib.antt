@@ -1,0 +1,4 @@
+pub mod Stream
+pub mod Reading
+pub mod Fields
+pub mod Payloads
