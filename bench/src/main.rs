@@ -1,8 +1,9 @@
-//! The proved code and the Rust, timed in one process on the same inputs: `bench [draws|building|beliefs]`, or all. A row is
+//! The proved code and the Rust, timed in one process on the same inputs: `bench [draws|building|beliefs|decodes]`, or all. A row is
 //! the least of many turns, taken in alternation, so that whatever else the machine does meets both alike.
 
 mod beliefs;
 mod building;
+mod decodes;
 mod draws;
 mod models;
 mod timing;
@@ -14,6 +15,7 @@ fn main() {
         ("draws", draws::run as fn()),
         ("building", building::run),
         ("beliefs", beliefs::run),
+        ("decodes", decodes::run),
     ] {
         if word.as_ref().is_none_or(|word| word == name) {
             run();

@@ -342,7 +342,7 @@ const ALPHAS: [f64; 16] = [
     0.3, 0.5, 0.625, 0.75, 0.9, 1.0, 1.0, 1.0, 1.0, 1.25, 2.0, 10.0, 1e3, 1e100, 1e160, 1e300,
 ];
 
-fn random_case(random: &mut SplitMix64, number: usize) -> DecodeCase {
+pub fn random_case(random: &mut SplitMix64, number: usize) -> DecodeCase {
     let most = [4, 8, 8, 12, 12, 20][number % 6];
     let model = random_model(random, most, most * 3 / 2);
     let mechanisms = model.mechanisms();

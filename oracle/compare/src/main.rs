@@ -1,9 +1,10 @@
-//! The proved code against the Rust, in one process, on fresh random inputs: `compare numbers|graphs|beliefs|iterations [COUNT [SEED]]`.
+//! The proved code against the Rust, in one process, on fresh random inputs: `compare numbers|graphs|beliefs|iterations|decodes [COUNT [SEED]]`.
 //! Every float is compared by its bits, but a NaN with any NaN. The last line says 'N passed, M failed'.
 
 mod beliefs;
 mod counts;
 mod damage;
+mod decodes;
 mod given;
 mod graphs;
 mod numbers;
@@ -13,16 +14,17 @@ mod table;
 use counts::Counts;
 use std::process::ExitCode;
 
-const USAGE: &str = "usage: compare numbers|graphs|beliefs|iterations [COUNT [SEED]]";
+const USAGE: &str = "usage: compare numbers|graphs|beliefs|iterations|decodes [COUNT [SEED]]";
 
 /// What is compared: its name, how often where no count is given, and how.
 type Subject = (&'static str, u64, fn(u64, u64) -> Counts);
 
-const SUBJECTS: [Subject; 4] = [
+const SUBJECTS: [Subject; 5] = [
     ("numbers", 1_000_000, numbers::run),
     ("graphs", 100_000, graphs::run),
     ("beliefs", 200_000, beliefs::run),
     ("iterations", 300_000, steps::run),
+    ("decodes", 300_000, decodes::run),
 ];
 
 fn main() -> ExitCode {

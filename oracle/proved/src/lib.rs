@@ -145,6 +145,123 @@ mod raw {
             bias: *mut f64,
             bias_len: usize,
         ) -> u64;
+
+        pub unsafe fn chowderkite_decode_in_order(
+            checks: usize,
+            mechanisms: usize,
+            edges: usize,
+            priors: *const f64,
+            priors_len: usize,
+            check_var: *const u32,
+            check_var_len: usize,
+            check_message: *const u32,
+            check_message_len: usize,
+            check_offset: *const u32,
+            check_offset_len: usize,
+            var_check: *const u32,
+            var_check_len: usize,
+            var_message: *const u32,
+            var_message_len: usize,
+            var_offset: *const u32,
+            var_offset_len: usize,
+            schedule: u8,
+            alpha: f64,
+            gamma0: f64,
+            pre_iterations: usize,
+            num_legs: usize,
+            leg_iterations: usize,
+            gamma_low: f64,
+            gamma_high: f64,
+            stop_after_converged: usize,
+            explicit: u8,
+            sets: usize,
+            gammas: *const f64,
+            gammas_len: usize,
+            syndrome: *const u8,
+            syndrome_len: usize,
+            seed: u64,
+            order: *const u32,
+            order_len: usize,
+            leg_state: *mut u8,
+            leg_state_len: usize,
+            leg_steps: *mut u32,
+            leg_steps_len: usize,
+            leg_weight: *mut f64,
+            leg_weight_len: usize,
+            rows: *mut u8,
+            rows_len: usize,
+            correction: *mut u8,
+            correction_len: usize,
+            posterior: *mut f64,
+            posterior_len: usize,
+            gamma: *mut f64,
+            gamma_len: usize,
+            bias: *mut f64,
+            bias_len: usize,
+            c_to_v: *mut f64,
+            c_to_v_len: usize,
+            v_to_c: *mut f64,
+            v_to_c_len: usize,
+            counts: *mut [u64; 3],
+            weight: *mut [f64; 1],
+        ) -> u64;
+        pub unsafe fn chowderkite_decode(
+            checks: usize,
+            mechanisms: usize,
+            edges: usize,
+            priors: *const f64,
+            priors_len: usize,
+            check_var: *const u32,
+            check_var_len: usize,
+            check_message: *const u32,
+            check_message_len: usize,
+            check_offset: *const u32,
+            check_offset_len: usize,
+            var_check: *const u32,
+            var_check_len: usize,
+            var_message: *const u32,
+            var_message_len: usize,
+            var_offset: *const u32,
+            var_offset_len: usize,
+            schedule: u8,
+            alpha: f64,
+            gamma0: f64,
+            pre_iterations: usize,
+            num_legs: usize,
+            leg_iterations: usize,
+            gamma_low: f64,
+            gamma_high: f64,
+            stop_after_converged: usize,
+            explicit: u8,
+            sets: usize,
+            gammas: *const f64,
+            gammas_len: usize,
+            syndrome: *const u8,
+            syndrome_len: usize,
+            seed: u64,
+            leg_state: *mut u8,
+            leg_state_len: usize,
+            leg_steps: *mut u32,
+            leg_steps_len: usize,
+            leg_weight: *mut f64,
+            leg_weight_len: usize,
+            rows: *mut u8,
+            rows_len: usize,
+            correction: *mut u8,
+            correction_len: usize,
+            posterior: *mut f64,
+            posterior_len: usize,
+            gamma: *mut f64,
+            gamma_len: usize,
+            bias: *mut f64,
+            bias_len: usize,
+            c_to_v: *mut f64,
+            c_to_v_len: usize,
+            v_to_c: *mut f64,
+            v_to_c_len: usize,
+            counts: *mut [u64; 3],
+            weight: *mut [f64; 1],
+        ) -> u64;
     }
 }
 
@@ -470,5 +587,226 @@ pub fn iteration(
             step.bias.as_mut_ptr(),
             step.bias.len(),
         )
+    })
+}
+
+/// The settings of Relay; `sets` where the gammas are explicit, and drawn from the seed where it is none.
+#[derive(Clone, Copy, Debug)]
+pub struct Settings {
+    pub serial: bool,
+    pub alpha: f64,
+    pub gamma0: f64,
+    pub pre_iterations: usize,
+    pub num_legs: usize,
+    pub leg_iterations: usize,
+    pub low: f64,
+    pub high: f64,
+    pub stop: usize,
+    pub sets: Option<usize>,
+}
+
+/// A decode: what is asked for beside the graph and the settings.
+#[derive(Clone, Copy, Debug)]
+pub struct Shot<'a> {
+    pub gammas: &'a [f64],
+    pub syndrome: &'a [u8],
+    pub seed: u64,
+    pub order: Option<&'a [u32]>,
+}
+
+/// The lists that a decode writes: the legs' records, the correction, the posterior, the counts (converged, executed legs, total
+/// iterations) and the weight are results, the others are for work.
+#[derive(Clone, Debug, Default)]
+pub struct Decode {
+    pub leg_state: Vec<u8>,
+    pub leg_steps: Vec<u32>,
+    pub leg_weight: Vec<f64>,
+    pub rows: Vec<u8>,
+    pub correction: Vec<u8>,
+    pub posterior: Vec<f64>,
+    pub gamma: Vec<f64>,
+    pub bias: Vec<f64>,
+    pub c_to_v: Vec<f64>,
+    pub v_to_c: Vec<f64>,
+    pub counts: [u64; 3],
+    pub weight: [f64; 1],
+}
+
+impl Decode {
+    /// Lists that fit as many legs, filled with one number.
+    pub fn filled(size: Size, legs: usize, with: u8) -> Self {
+        let float = f64::from(with);
+        Self {
+            leg_state: vec![with; legs],
+            leg_steps: vec![u32::from(with); legs],
+            leg_weight: vec![float; legs],
+            rows: vec![with; legs * size.mechanisms],
+            correction: vec![with; size.mechanisms],
+            posterior: vec![float; size.mechanisms],
+            gamma: vec![float; size.mechanisms],
+            bias: vec![float; size.mechanisms],
+            c_to_v: vec![float; size.edges],
+            v_to_c: vec![float; size.edges],
+            counts: [u64::from(with); 3],
+            weight: [float],
+        }
+    }
+
+    /// Every byte of every list, for a comparison of two.
+    pub fn bits(&self) -> Vec<u64> {
+        let floats = [
+            &self.leg_weight,
+            &self.posterior,
+            &self.gamma,
+            &self.bias,
+            &self.c_to_v,
+            &self.v_to_c,
+        ];
+        let bytes = [&self.leg_state, &self.rows, &self.correction];
+        let mut all: Vec<u64> = Vec::new();
+        for list in bytes {
+            all.push(list.len() as u64);
+            all.extend(list.iter().map(|&byte| u64::from(byte)));
+        }
+        all.extend(self.leg_steps.iter().map(|&count| u64::from(count)));
+        for list in floats {
+            all.push(list.len() as u64);
+            all.extend(list.iter().map(|value| value.to_bits()));
+        }
+        all.extend(self.counts);
+        all.push(self.weight[0].to_bits());
+        all
+    }
+}
+
+pub fn decode(
+    size: Size,
+    priors: &[f64],
+    lists: &Lists,
+    settings: Settings,
+    shot: Shot,
+    left: &mut Decode,
+) -> Answer {
+    answer(match shot.order {
+        Some(order) => unsafe {
+            raw::chowderkite_decode_in_order(
+                size.checks,
+                size.mechanisms,
+                size.edges,
+                priors.as_ptr(),
+                priors.len(),
+                lists.check_var.as_ptr(),
+                lists.check_var.len(),
+                lists.check_message.as_ptr(),
+                lists.check_message.len(),
+                lists.check_offset.as_ptr(),
+                lists.check_offset.len(),
+                lists.var_check.as_ptr(),
+                lists.var_check.len(),
+                lists.var_message.as_ptr(),
+                lists.var_message.len(),
+                lists.var_offset.as_ptr(),
+                lists.var_offset.len(),
+                u8::from(settings.serial),
+                settings.alpha,
+                settings.gamma0,
+                settings.pre_iterations,
+                settings.num_legs,
+                settings.leg_iterations,
+                settings.low,
+                settings.high,
+                settings.stop,
+                u8::from(settings.sets.is_some()),
+                settings.sets.unwrap_or(0),
+                shot.gammas.as_ptr(),
+                shot.gammas.len(),
+                shot.syndrome.as_ptr(),
+                shot.syndrome.len(),
+                shot.seed,
+                order.as_ptr(),
+                order.len(),
+                left.leg_state.as_mut_ptr(),
+                left.leg_state.len(),
+                left.leg_steps.as_mut_ptr(),
+                left.leg_steps.len(),
+                left.leg_weight.as_mut_ptr(),
+                left.leg_weight.len(),
+                left.rows.as_mut_ptr(),
+                left.rows.len(),
+                left.correction.as_mut_ptr(),
+                left.correction.len(),
+                left.posterior.as_mut_ptr(),
+                left.posterior.len(),
+                left.gamma.as_mut_ptr(),
+                left.gamma.len(),
+                left.bias.as_mut_ptr(),
+                left.bias.len(),
+                left.c_to_v.as_mut_ptr(),
+                left.c_to_v.len(),
+                left.v_to_c.as_mut_ptr(),
+                left.v_to_c.len(),
+                &raw mut left.counts,
+                &raw mut left.weight,
+            )
+        },
+        None => unsafe {
+            raw::chowderkite_decode(
+                size.checks,
+                size.mechanisms,
+                size.edges,
+                priors.as_ptr(),
+                priors.len(),
+                lists.check_var.as_ptr(),
+                lists.check_var.len(),
+                lists.check_message.as_ptr(),
+                lists.check_message.len(),
+                lists.check_offset.as_ptr(),
+                lists.check_offset.len(),
+                lists.var_check.as_ptr(),
+                lists.var_check.len(),
+                lists.var_message.as_ptr(),
+                lists.var_message.len(),
+                lists.var_offset.as_ptr(),
+                lists.var_offset.len(),
+                u8::from(settings.serial),
+                settings.alpha,
+                settings.gamma0,
+                settings.pre_iterations,
+                settings.num_legs,
+                settings.leg_iterations,
+                settings.low,
+                settings.high,
+                settings.stop,
+                u8::from(settings.sets.is_some()),
+                settings.sets.unwrap_or(0),
+                shot.gammas.as_ptr(),
+                shot.gammas.len(),
+                shot.syndrome.as_ptr(),
+                shot.syndrome.len(),
+                shot.seed,
+                left.leg_state.as_mut_ptr(),
+                left.leg_state.len(),
+                left.leg_steps.as_mut_ptr(),
+                left.leg_steps.len(),
+                left.leg_weight.as_mut_ptr(),
+                left.leg_weight.len(),
+                left.rows.as_mut_ptr(),
+                left.rows.len(),
+                left.correction.as_mut_ptr(),
+                left.correction.len(),
+                left.posterior.as_mut_ptr(),
+                left.posterior.len(),
+                left.gamma.as_mut_ptr(),
+                left.gamma.len(),
+                left.bias.as_mut_ptr(),
+                left.bias.len(),
+                left.c_to_v.as_mut_ptr(),
+                left.c_to_v.len(),
+                left.v_to_c.as_mut_ptr(),
+                left.v_to_c.len(),
+                &raw mut left.counts,
+                &raw mut left.weight,
+            )
+        },
     })
 }

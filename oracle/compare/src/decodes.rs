@@ -1,0 +1,420 @@
+//! Whole decodes against the Rust, every field and every bit; and each again in several orders of its checks, against the decode in
+//! index order, or against a plain test of the order.
+
+use crate::counts::Counts;
+use crate::damage::{damage_lists, nudge_length};
+use crate::given::{Given, model_of};
+use crate::steps::{is_zero, names_each_once, random_order};
+use crate::table::wanted_lists;
+use oracle::answers::{Decoded, Refusal};
+use oracle::decode_cases::{DecodeCase, Settings as CaseSettings, Source, random_case};
+use oracle::exact::drive;
+use oracle::graph_cases::GraphCase;
+use oracle::splitmix::SplitMix64;
+use proved::{Answer, Decode, Settings, Shot, Size};
+use std::collections::BTreeSet;
+
+const MOST: usize = 65_535;
+const ORDERS: usize = 3;
+
+pub fn run(count: u64, seed: u64) -> Counts {
+    let mut random = SplitMix64::new(seed);
+    let mut all = Counts::default();
+    let (mut decodes, mut orders) = (Counts::default(), Counts::default());
+    let step = (count / 10).max(1);
+    for round in 0..count {
+        if round > 0 && round % step == 0 {
+            eprintln!("decodes: {round} of {count}");
+        }
+        let case = random_case(&mut random, round as usize);
+        compare(&case, &mut random, &mut decodes, &mut orders);
+    }
+    for case in large(&mut random) {
+        compare(&case, &mut random, &mut decodes, &mut orders);
+    }
+    all.add("decodes", decodes);
+    all.add("orders of them", orders);
+    all.add("damaged", damaged(count / 4, &mut random));
+    all
+}
+
+fn settings_of(case: &CaseSettings) -> Settings {
+    Settings {
+        serial: case.serial,
+        alpha: case.alpha,
+        gamma0: case.gamma0,
+        pre_iterations: case.pre_iterations,
+        num_legs: case.num_legs,
+        leg_iterations: case.leg_iterations,
+        low: case.low,
+        high: case.high,
+        stop: case.stop,
+        sets: match &case.source {
+            Source::Seeded => None,
+            Source::Explicit(sets) => Some(sets.len()),
+        },
+    }
+}
+
+fn flat_of(case: &CaseSettings) -> Vec<f64> {
+    match &case.source {
+        Source::Seeded => Vec::new(),
+        Source::Explicit(sets) => sets.concat(),
+    }
+}
+
+fn told(answer: &Result<Decoded, Refusal>) -> Answer {
+    match answer {
+        Ok(_) => Ok(()),
+        Err(Refusal { code, place }) => Err((*code as u64, *place as u64)),
+    }
+}
+
+/// The lists that the Rust's outcome asks for, over lists filled with one number of which the surplus is kept.
+fn wanted_left(size: Size, legs: usize, before: &Decode, outcome: Option<&Decoded>) -> Decode {
+    let mut left = before.clone();
+    let mechanisms = size.mechanisms;
+    left.leg_state[..legs].fill(0);
+    left.leg_steps[..legs].fill(0);
+    left.leg_weight[..legs].fill(0.0);
+    left.rows[..legs * mechanisms].fill(0);
+    for list in [
+        &mut left.gamma,
+        &mut left.bias,
+        &mut left.c_to_v,
+        &mut left.v_to_c,
+    ] {
+        list.fill(0.0);
+    }
+    let Some(outcome) = outcome else {
+        left.correction.fill(0);
+        left.posterior.fill(0.0);
+        left.counts = [0; 3];
+        left.weight = [0.0];
+        return left;
+    };
+    for (place, leg) in outcome.legs.iter().enumerate() {
+        left.leg_steps[place] = leg.iterations as u32;
+        left.leg_state[place] = 1;
+        if let Some((weight, correction)) = &leg.found {
+            left.leg_state[place] = 2;
+            left.leg_weight[place] = *weight;
+            left.rows[place * mechanisms..(place + 1) * mechanisms].copy_from_slice(correction);
+        }
+    }
+    left.correction.copy_from_slice(&outcome.correction);
+    left.posterior.copy_from_slice(&outcome.posterior);
+    left.counts = [
+        u64::from(outcome.weight.is_some()),
+        outcome.legs.len() as u64,
+        outcome.total as u64,
+    ];
+    left.weight = [outcome.weight.unwrap_or(0.0)];
+    left
+}
+
+/// One decode both ways, and then in other orders.
+fn compare(case: &DecodeCase, random: &mut SplitMix64, decodes: &mut Counts, orders: &mut Counts) {
+    let mut given = Given::of(&GraphCase::sparse(case.model.clone()), random);
+    let built = given.build_sparse();
+    let settings = settings_of(&case.settings);
+    let gammas = flat_of(&case.settings);
+    let legs = settings.num_legs + 1;
+    let before = Decode::filled(given.size, legs + random.below(3), 9);
+    let shot = Shot {
+        gammas: &gammas,
+        syndrome: &case.syndrome,
+        seed: case.seed,
+        order: None,
+    };
+    let run = |shot: Shot| {
+        let mut left = before.clone();
+        let answer = proved::decode(
+            given.size,
+            &given.priors,
+            &given.lists,
+            settings,
+            shot,
+            &mut left,
+        );
+        (answer, left)
+    };
+    let rust = drive::decode(case);
+    let wanted = told(&rust);
+    let wanted_bits = wanted_left(given.size, legs, &before, rust.as_ref().ok()).bits();
+    let (answer, left) = run(shot);
+    decodes.wanted(wanted);
+    decodes.check(
+        built == Ok(()) && answer == wanted && left.bits() == wanted_bits,
+        || format!("{answer:?}, {left:?} for {rust:?}: {case:?}"),
+    );
+    for _ in 0..ORDERS {
+        let order = some_order(&given, random);
+        let refused = wanted_of_order(&given, settings.serial, &order);
+        let (in_order, left) = run(Shot {
+            order: Some(&order),
+            ..shot
+        });
+        orders.wanted(refused);
+        let good = match refused {
+            Ok(()) => in_order == wanted && left.bits() == wanted_bits,
+            Err(_) => in_order == refused && left.bits() == before.bits(),
+        };
+        orders.check(good, || {
+            format!("{in_order:?} for {refused:?}, {wanted:?}: {order:?}, {case:?}")
+        });
+    }
+}
+
+/// An order of the checks: any, or one that keeps the index order of checks that share a mechanism, or one that does not name each
+/// once.
+fn some_order(given: &Given, random: &mut SplitMix64) -> Vec<u32> {
+    let checks = given.size.checks;
+    let mut order = random_order(random, checks);
+    match random.below(8) {
+        0 if checks > 0 => {
+            let at = random.below(checks);
+            order[at] = random.below(checks + 1) as u32;
+        }
+        1 => nudge_length(random, &mut order, 0),
+        2..=5 => {
+            // Neighbours that share nothing are exchanged, again and again.
+            order = (0..checks as u32).collect();
+            for _ in 0..4 * checks {
+                let at = random.below(checks.max(1));
+                if at + 1 < checks && !share(given, order[at], order[at + 1]) {
+                    order.swap(at, at + 1);
+                }
+            }
+        }
+        _ => {}
+    }
+    order
+}
+
+fn mechanisms_of(given: &Given, check: u32) -> &[u32] {
+    let offsets = &given.lists.check_offset;
+    let part = offsets[check as usize] as usize..offsets[check as usize + 1] as usize;
+    &given.lists.check_var[part]
+}
+
+fn share(given: &Given, one: u32, other: u32) -> bool {
+    let mechanisms: BTreeSet<u32> = mechanisms_of(given, one).iter().copied().collect();
+    mechanisms_of(given, other)
+        .iter()
+        .any(|mechanism| mechanisms.contains(mechanism))
+}
+
+/// 23 and 24, check by check.
+fn wanted_of_order(given: &Given, serial: bool, order: &[u32]) -> Answer {
+    if !names_each_once(order, given.size.checks) {
+        return Err((23, 0));
+    }
+    if !serial {
+        return Ok(());
+    }
+    for (place, &check) in order.iter().enumerate() {
+        let late = order[..place]
+            .iter()
+            .any(|&before| before > check && share(given, before, check));
+        if late {
+            return Err((24, u64::from(check)));
+        }
+    }
+    Ok(())
+}
+
+fn large(random: &mut SplitMix64) -> Vec<DecodeCase> {
+    let mut cases = Vec::new();
+    for (checks, mechanisms, edges, pre_iterations, num_legs) in [
+        (65_536, 65_536, 262_144, 4, 1),
+        (1024, 4096, 12_288, 10, 3),
+        (1025, 2048, 6144, 10, 2),
+        (300, 900, 2700, 30, 16),
+    ] {
+        for serial in [false, true] {
+            let size = Size {
+                checks,
+                mechanisms,
+                edges,
+            };
+            let mut model = model_of(size, random);
+            for probability in &mut model.probabilities {
+                *probability = 0.01 + 0.1 * random.unit();
+            }
+            let bits: Vec<bool> = (0..mechanisms).map(|_| random.once_in(200)).collect();
+            cases.push(DecodeCase {
+                syndrome: model.syndrome_of(&bits),
+                model,
+                settings: CaseSettings {
+                    serial,
+                    pre_iterations,
+                    num_legs,
+                    leg_iterations: 5,
+                    stop: 2,
+                    ..CaseSettings::default_point()
+                },
+                seed: random.draw(),
+            });
+        }
+    }
+    cases
+}
+
+/// What document 01's table says before the legs: 1, 2, 4, 7, 10 to 24.
+fn wanted_before(given: &Given, settings: Settings, shot: Shot, left: &Decode) -> Answer {
+    wanted_lists(given)?;
+    let Size {
+        checks,
+        mechanisms,
+        edges,
+    } = given.size;
+    let finite = |value: f64| value.is_finite();
+    let test = |good: bool, number: u64| if good { Ok(()) } else { Err((number, 0)) };
+    test(finite(settings.alpha) && settings.alpha > 0.0, 10)?;
+    test(finite(settings.gamma0), 11)?;
+    test((1..=MOST).contains(&settings.pre_iterations), 12)?;
+    test(settings.num_legs <= MOST, 13)?;
+    let legs = settings.num_legs;
+    test(
+        settings.leg_iterations <= MOST && (legs == 0 || settings.leg_iterations > 0),
+        14,
+    )?;
+    let (low, high) = (settings.low, settings.high);
+    test(
+        finite(low) && finite(high) && finite(high - low) && low <= high,
+        15,
+    )?;
+    test(settings.stop > 0, 16)?;
+    if let Some(sets) = settings.sets {
+        test(legs == 0 || sets > 0, 17)?;
+        let long = sets as u128 * mechanisms as u128;
+        test(sets <= MOST && long == shot.gammas.len() as u128, 18)?;
+        if let Some(place) = shot.gammas.iter().position(|gamma| !finite(*gamma)) {
+            return Err((19, place as u64));
+        }
+    }
+    test(shot.syndrome.len() == checks, 20)?;
+    if let Some(check) = shot.syndrome.iter().position(|&byte| byte > 1) {
+        return Err((21, check as u64));
+    }
+    let rows = [
+        left.leg_state.len(),
+        left.leg_steps.len(),
+        left.leg_weight.len(),
+    ];
+    let by_mechanism = [left.posterior.len(), left.gamma.len(), left.bias.len()];
+    test(
+        rows.iter().all(|&long| long > legs)
+            && left.rows.len() >= (legs + 1) * mechanisms
+            && left.correction.len() == mechanisms
+            && by_mechanism.iter().all(|&long| long == mechanisms)
+            && left.c_to_v.len() == edges
+            && left.v_to_c.len() == edges,
+        22,
+    )?;
+    match shot.order {
+        Some(order) => wanted_of_order(given, settings.serial, order),
+        None => Ok(()),
+    }
+}
+
+fn damage_settings(random: &mut SplitMix64, settings: &mut Settings) {
+    let beyond = [MOST + 1, 1 << 32, (1 << 32) + 1, usize::MAX];
+    let bad = [f64::NAN, f64::INFINITY, f64::NEG_INFINITY];
+    match random.below(13) {
+        0 => settings.alpha = random.pick(&[0.0, -0.0, -1.0, f64::NAN, f64::INFINITY]),
+        1 => settings.gamma0 = random.pick(&bad),
+        2 => settings.pre_iterations = random.pick(&[0, MOST, MOST + 1, 1 << 32, usize::MAX]),
+        3 => settings.num_legs = random.pick(&beyond),
+        4 => settings.leg_iterations = random.pick(&[0, MOST + 1, 1 << 32, usize::MAX]),
+        5 => settings.low = random.pick(&bad),
+        6 => settings.high = random.pick(&bad),
+        7 => (settings.low, settings.high) = (-f64::MAX, f64::MAX),
+        8 => (settings.low, settings.high) = (0.5, 0.25),
+        9 => settings.stop = random.pick(&[0, 0, 1 << 32, usize::MAX]),
+        10 => settings.sets = Some(random.pick(&[0, 1, MOST + 1, 1 << 32, usize::MAX])),
+        11 => settings.leg_iterations = MOST,
+        _ => settings.low = settings.high,
+    }
+}
+
+fn damaged(count: u64, random: &mut SplitMix64) -> Counts {
+    let mut counts = Counts::default();
+    for _ in 0..count {
+        let round = random.below(2);
+        let mut case = random_case(random, round);
+        let mut given = Given::of(&GraphCase::sparse(case.model.clone()), random);
+        let built = given.build_sparse();
+        let mut settings = settings_of(&case.settings);
+        settings.num_legs = settings.num_legs.min(2);
+        let mut gammas = flat_of(&case.settings);
+        let mut order = some_order(&given, random);
+        let mut left = Decode::filled(given.size, settings.num_legs + 1, 9);
+        for _ in 0..random.between(1, 2) {
+            match random.below(8) {
+                0 => nudge_length(random, &mut case.syndrome, 1),
+                1 if !case.syndrome.is_empty() => {
+                    let at = random.below(case.syndrome.len());
+                    case.syndrome[at] = random.pick(&[2, 3, 255]);
+                }
+                2 => match random.below(10) {
+                    0 => nudge_length(random, &mut left.leg_state, 9),
+                    1 => nudge_length(random, &mut left.leg_steps, 9),
+                    2 => nudge_length(random, &mut left.leg_weight, 9.0),
+                    3 => nudge_length(random, &mut left.rows, 9),
+                    4 => nudge_length(random, &mut left.correction, 9),
+                    5 => nudge_length(random, &mut left.posterior, 9.0),
+                    6 => nudge_length(random, &mut left.gamma, 9.0),
+                    7 => nudge_length(random, &mut left.bias, 9.0),
+                    8 => nudge_length(random, &mut left.c_to_v, 9.0),
+                    _ => nudge_length(random, &mut left.v_to_c, 9.0),
+                },
+                3 => match random.below(2) {
+                    0 => nudge_length(random, &mut gammas, 0.5),
+                    _ if !gammas.is_empty() => {
+                        let at = random.below(gammas.len());
+                        gammas[at] = random.pick(&[f64::NAN, f64::INFINITY]);
+                    }
+                    _ => {}
+                },
+                4 => damage_lists(random, &mut given),
+                5 => order = (0..given.size.checks.min(70_000) as u32).collect(),
+                _ => damage_settings(random, &mut settings),
+            }
+        }
+        let shot = Shot {
+            gammas: &gammas,
+            syndrome: &case.syndrome,
+            seed: case.seed,
+            order: random.once_in(2).then_some(&order),
+        };
+        let wanted = wanted_before(&given, settings, shot, &left);
+        // Tens of thousands of iterations show nothing here.
+        if wanted.is_ok() && settings.pre_iterations + settings.leg_iterations > 1000 {
+            continue;
+        }
+        let before = left.bits();
+        let answer = proved::decode(
+            given.size,
+            &given.priors,
+            &given.lists,
+            settings,
+            shot,
+            &mut left,
+        );
+        counts.wanted(wanted);
+        let good = match wanted {
+            // What the legs leave is what the others show.
+            Ok(()) => {
+                is_zero(&left.c_to_v)
+                    && (answer.is_ok() || answer.is_err_and(|(number, _)| number == 30))
+            }
+            Err(_) => answer == wanted && left.bits() == before,
+        };
+        counts.check(good && built == Ok(()), || {
+            format!("{answer:?} for {wanted:?}: {settings:?}, {shot:?}, {given:?}")
+        });
+    }
+    counts
+}
