@@ -1,4 +1,5 @@
 pub mod All
+pub mod Copies
 pub mod Rearrange
 pub mod Counts
 pub mod Witness
@@ -12,5 +13,8 @@ pub mod Passes
 pub mod Legs
 pub mod AnyOrder
 pub mod Calls
+pub mod Records
+pub mod Runs
+pub mod Shots
 pub mod Draws
 pub mod Theorems

@@ -6,3 +6,4 @@ pub mod Gammas
 pub mod Decode
 pub mod Calls
 pub mod Marks
+pub mod Kept

@@ -1,0 +1,142 @@
+use borrow.Author.Needs.{needs}
+use Rattle.relay.proofs.decode_in_order.Statement.{statement}
+use Rattle.relay.proofs.decode_in_order.Tie as tie
+use Rattle.relay.proofs.decode_in_order.Reads as reads
+use Rattle.relay.proofs.decode_in_order.Lts as lts
+use Rattle.relay.proofs.all_legs.decode_shot.Reads as decode-shot-reads
+use Rattle.relay.proofs.decode_tests.decode_fault.Reads as decode-fault-reads
+
+-- src/lib.rt:228:9
+decode-fault-requires : tie.Need-decode-fault-requires
+decode-fault-requires c κs = search needs
+
+-- src/lib.rt:253:25
+enum-known-a : tie.Need-enum-known-a
+enum-known-a c = search needs
+
+-- src/lib.rt:265:13
+enum-told : tie.Need-enum-told
+enum-told c = search needs
+
+-- src/lib.rt:254:25
+decode-shot-requires : tie.Need-decode-shot-requires
+decode-shot-requires c κs = ?
+
+-- src/lib.rt:201:1
+same-length : tie.Need-same-length
+same-length c = search needs
+
+-- src/lib.rt:201:1
+same-length-2 : tie.Need-same-length-2
+same-length-2 c = search needs
+
+-- src/lib.rt:201:1
+same-length-3 : tie.Need-same-length-3
+same-length-3 c = search needs
+
+-- src/lib.rt:201:1
+same-length-4 : tie.Need-same-length-4
+same-length-4 c = search needs
+
+-- src/lib.rt:201:1
+same-length-5 : tie.Need-same-length-5
+same-length-5 c = search needs
+
+-- src/lib.rt:201:1
+same-length-6 : tie.Need-same-length-6
+same-length-6 c = search needs
+
+-- src/lib.rt:201:1
+same-length-7 : tie.Need-same-length-7
+same-length-7 c = search needs
+
+-- src/lib.rt:201:1
+same-length-8 : tie.Need-same-length-8
+same-length-8 c = search needs
+
+-- src/lib.rt:201:1
+same-length-9 : tie.Need-same-length-9
+same-length-9 c = search needs
+
+-- src/lib.rt:201:1
+same-length-10 : tie.Need-same-length-10
+same-length-10 c = search needs
+
+-- src/lib.rt:201:1
+returns : tie.Need-returns
+returns c = ?
+
+-- src/lib.rt:201:1
+same-length-11 : tie.Need-same-length-11
+same-length-11 c = search needs
+
+-- src/lib.rt:201:1
+same-length-12 : tie.Need-same-length-12
+same-length-12 c = search needs
+
+-- src/lib.rt:201:1
+same-length-13 : tie.Need-same-length-13
+same-length-13 c = search needs
+
+-- src/lib.rt:201:1
+same-length-14 : tie.Need-same-length-14
+same-length-14 c = search needs
+
+-- src/lib.rt:201:1
+same-length-15 : tie.Need-same-length-15
+same-length-15 c = search needs
+
+-- src/lib.rt:201:1
+same-length-16 : tie.Need-same-length-16
+same-length-16 c = search needs
+
+-- src/lib.rt:201:1
+same-length-17 : tie.Need-same-length-17
+same-length-17 c = search needs
+
+-- src/lib.rt:201:1
+same-length-18 : tie.Need-same-length-18
+same-length-18 c = search needs
+
+-- src/lib.rt:201:1
+same-length-19 : tie.Need-same-length-19
+same-length-19 c = search needs
+
+-- src/lib.rt:201:1
+same-length-20 : tie.Need-same-length-20
+same-length-20 c = search needs
+
+-- src/lib.rt:201:1
+returns-2 : tie.Need-returns-2
+returns-2 c = ?
+
+pub decode-in-order-spec : {M : Type 1} → statement M
+decode-in-order-spec =
+    tie.close
+    (tie.spec
+    decode-fault-requires
+    enum-known-a
+    enum-told
+    decode-shot-requires
+    same-length
+    same-length-2
+    same-length-3
+    same-length-4
+    same-length-5
+    same-length-6
+    same-length-7
+    same-length-8
+    same-length-9
+    same-length-10
+    returns
+    same-length-11
+    same-length-12
+    same-length-13
+    same-length-14
+    same-length-15
+    same-length-16
+    same-length-17
+    same-length-18
+    same-length-19
+    same-length-20
+    returns-2)

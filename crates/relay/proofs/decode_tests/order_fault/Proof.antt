@@ -1,0 +1,49 @@
+use borrow.Author.Needs.{needs}
+use Rattle.relay.proofs.decode_tests.order_fault.Statement.{statement}
+use Rattle.relay.proofs.decode_tests.order_fault.Tie as tie
+use Rattle.relay.proofs.decode_tests.order_fault.Reads as reads
+use Rattle.relay.proofs.decode_tests.order_fault.Lts as lts
+use Rattle.refusals.proofs.is_done.Reads as is-done-reads
+use Rattle.relay.proofs.order.exchange_fault.Reads as exchange-fault-reads
+use Rattle.relay.proofs.order.is_index_order.Reads as is-index-order-reads
+use Rattle.relay.proofs.order.names_fault.Reads as names-fault-reads
+
+-- src/decode_tests.rt:163:8
+is-index-order-requires : tie.Need-is-index-order-requires
+is-index-order-requires c κs = search needs
+
+-- src/decode_tests.rt:164:9
+returns : tie.Need-returns
+returns c = ?
+
+-- src/decode_tests.rt:166:9
+names-fault-requires : tie.Need-names-fault-requires
+names-fault-requires c κs = search needs
+
+-- src/decode_tests.rt:167:9
+is-done-requires : tie.Need-is-done-requires
+is-done-requires c κs = search needs
+
+-- src/decode_tests.rt:168:9
+returns-2 : tie.Need-returns-2
+returns-2 c = ?
+
+-- src/decode_tests.rt:170:5
+exchange-fault-requires : tie.Need-exchange-fault-requires
+exchange-fault-requires c κs = ?
+
+-- src/decode_tests.rt:151:1
+returns-3 : tie.Need-returns-3
+returns-3 c = ?
+
+pub order-fault-spec : {M : Type 1} → statement M
+order-fault-spec =
+    tie.close
+    (tie.spec
+    is-index-order-requires
+    returns
+    names-fault-requires
+    is-done-requires
+    returns-2
+    exchange-fault-requires
+    returns-3)
