@@ -16,5 +16,7 @@ pub mod Calls
 pub mod Records
 pub mod Runs
 pub mod Shots
+pub mod WholeGraph
+pub mod Faults
 pub mod Draws
 pub mod Theorems

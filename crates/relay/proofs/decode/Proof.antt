@@ -1,3 +1,7 @@
+use mathlib.Core.Path.{_≡_, sym, _∙_}
+use native.Mathlib.Omega.{arith}
+use Rattle.relay.specs.Calls.{Lists}
+use Rattle.relay.proofs.Faults.{index-refused, index-told, index-ran, shot-seed}
 use borrow.Author.Needs.{needs}
 use Rattle.relay.proofs.decode.Statement.{statement}
 use Rattle.relay.proofs.decode.Tie as tie
@@ -20,7 +24,10 @@ enum-told c = search needs
 
 -- src/lib.rt:331:25
 decode-counted-requires : tie.Need-decode-counted-requires
-decode-counted-requires c κs = ?
+decode-counted-requires c κs = 
+    let a = c .before .before .before .before .before .before .before .before .before .before .before .before .before .before .before .before .before .before .before .before .before .before .before .before .before .before .before .before .before .before .before .before .before .before .before .before .before .before .before .before .before .before .args in
+    let w = index-told (a .size .edges) (a .size .checks) (a .size .mechanisms) (a .settings) (a .gammas .now) (a .seed) (a .syndrome .now) (a .priors .now) (a .check-var .now) (a .check-message .now) (a .check-offset .now) (a .var-check .now) (a .var-message .now) (a .var-offset .now) (record { legState = a .leg-state .now; legIterations = a .leg-iterations .now; legWeight = a .leg-weight .now; rows = a .rows .now; correction = a .correction .now; posterior = a .posterior .now; gamma = a .gamma .now; bias = a .bias .now; cToV = a .c-to-v .now; vToC = a .v-to-c .now }) _ (c .before .before .before .before .before .before .before .before .before .before .before .before .shot-fault .ensures ∙ shot-seed (a .size .edges) (a .size .checks) (a .size .mechanisms) (a .settings) (a .gammas .now) (a .seed) (a .syndrome .now) (a .priors .now) (a .check-var .now) (a .check-message .now) (a .check-offset .now) (a .var-check .now) (a .var-message .now) (a .var-offset .now) (record { legState = a .leg-state .now; legIterations = a .leg-iterations .now; legWeight = a .leg-weight .now; rows = a .rows .now; correction = a .correction .now; posterior = a .posterior .now; gamma = a .gamma .now; bias = a .bias .now; cToV = a .c-to-v .now; vToC = a .v-to-c .now })) (c .before .before .before .before .before .before .before .before .before .before .enum-told .given .1) in
+    (omega (arith, w .checks-many, w .checks-few), (w .reads, (w .legs-fit, (w .work-fits, w .messages-fit))))
 
 -- src/lib.rt:280:1
 same-length : tie.Need-same-length
@@ -64,7 +71,9 @@ same-length-10 c = search needs
 
 -- src/lib.rt:280:1
 returns : tie.Need-returns
-returns c = ?
+returns c = 
+    let a = c .before .before .before .before .before .before .before .before .before .before .before .before .before .before .before .before .before .before .before .before .before .before .before .before .before .before .before .before .before .before .before .before .before .args in
+    index-refused (a .size .edges) (a .size .checks) (a .size .mechanisms) (a .settings) (a .gammas .now) (a .seed) (a .syndrome .now) (a .priors .now) (a .check-var .now) (a .check-message .now) (a .check-offset .now) (a .var-check .now) (a .var-message .now) (a .var-offset .now) (record { legState = a .leg-state .now; legIterations = a .leg-iterations .now; legWeight = a .leg-weight .now; rows = a .rows .now; correction = a .correction .now; posterior = a .posterior .now; gamma = a .gamma .now; bias = a .bias .now; cToV = a .c-to-v .now; vToC = a .v-to-c .now }) _ _ (c .before .before .before .shot-fault .ensures ∙ shot-seed (a .size .edges) (a .size .checks) (a .size .mechanisms) (a .settings) (a .gammas .now) (a .seed) (a .syndrome .now) (a .priors .now) (a .check-var .now) (a .check-message .now) (a .check-offset .now) (a .var-check .now) (a .var-message .now) (a .var-offset .now) (record { legState = a .leg-state .now; legIterations = a .leg-iterations .now; legWeight = a .leg-weight .now; rows = a .rows .now; correction = a .correction .now; posterior = a .posterior .now; gamma = a .gamma .now; bias = a .bias .now; cToV = a .c-to-v .now; vToC = a .v-to-c .now })) (c .before .a .given .1)
 
 -- src/lib.rt:280:1
 same-length-11 : tie.Need-same-length-11
@@ -108,7 +117,9 @@ same-length-20 c = search needs
 
 -- src/lib.rt:280:1
 returns-2 : tie.Need-returns-2
-returns-2 c = ?
+returns-2 c = 
+    let a = c .before .before .before .before .before .before .before .before .before .before .before .before .before .before .before .before .before .before .before .before .before .before .before .before .before .before .before .before .before .before .before .before .before .before .before .before .before .before .before .before .before .before .before .before .before .before .before .before .before .before .before .before .before .before .before .before .before .before .before .before .before .before .before .args in
+    index-ran (a .size .edges) (a .size .checks) (a .size .mechanisms) (a .settings) (a .gammas .now) (a .seed) (a .syndrome .now) (a .priors .now) (a .check-var .now) (a .check-message .now) (a .check-offset .now) (a .var-check .now) (a .var-message .now) (a .var-offset .now) (record { legState = a .leg-state .now; legIterations = a .leg-iterations .now; legWeight = a .leg-weight .now; rows = a .rows .now; correction = a .correction .now; posterior = a .posterior .now; gamma = a .gamma .now; bias = a .bias .now; cToV = a .c-to-v .now; vToC = a .v-to-c .now }) _ _ (c .before .before .before .before .before .before .before .before .before .before .before .before .before .before .before .before .before .before .before .before .before .before .before .before .before .before .before .before .before .before .before .before .before .shot-fault .ensures ∙ shot-seed (a .size .edges) (a .size .checks) (a .size .mechanisms) (a .settings) (a .gammas .now) (a .seed) (a .syndrome .now) (a .priors .now) (a .check-var .now) (a .check-message .now) (a .check-offset .now) (a .var-check .now) (a .var-message .now) (a .var-offset .now) (record { legState = a .leg-state .now; legIterations = a .leg-iterations .now; legWeight = a .leg-weight .now; rows = a .rows .now; correction = a .correction .now; posterior = a .posterior .now; gamma = a .gamma .now; bias = a .bias .now; cToV = a .c-to-v .now; vToC = a .v-to-c .now })) (c .before .before .before .before .before .before .before .before .before .before .before .before .before .before .before .before .before .before .before .before .before .before .before .before .before .before .before .before .before .before .before .enum-told .given .1) (c .before .before .before .before .before .before .before .before .before .before .before .before .before .before .before .before .before .before .before .before .decode-counted .ensures)
 
 pub decode-spec : {M : Type 1} → statement M
 decode-spec =

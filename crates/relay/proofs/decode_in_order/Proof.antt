@@ -1,3 +1,6 @@
+use mathlib.Core.Path.{_≡_, sym, _∙_}
+use Rattle.relay.specs.Calls.{Lists, decodeFault}
+use Rattle.relay.proofs.Faults.{in-order-refused, in-order-told, in-order-ran, fault-seed}
 use borrow.Author.Needs.{needs}
 use Rattle.relay.proofs.decode_in_order.Statement.{statement}
 use Rattle.relay.proofs.decode_in_order.Tie as tie
@@ -20,7 +23,10 @@ enum-told c = search needs
 
 -- src/lib.rt:254:25
 decode-shot-requires : tie.Need-decode-shot-requires
-decode-shot-requires c κs = ?
+decode-shot-requires c κs = 
+    let a = c .before .before .before .before .before .before .before .before .before .before .before .before .before .before .before .before .before .before .before .before .before .before .before .before .before .before .before .before .before .before .before .before .before .before .before .before .before .before .before .before .before .before .before .args in
+    let w = in-order-told (a .size .edges) (a .size .checks) (a .size .mechanisms) (a .settings) (a .gammas .now) (a .seed) (a .syndrome .now) (a .priors .now) (a .check-var .now) (a .check-message .now) (a .check-offset .now) (a .var-check .now) (a .var-message .now) (a .var-offset .now) (a .order .now) (record { legState = a .leg-state .now; legIterations = a .leg-iterations .now; legWeight = a .leg-weight .now; rows = a .rows .now; correction = a .correction .now; posterior = a .posterior .now; gamma = a .gamma .now; bias = a .bias .now; cToV = a .c-to-v .now; vToC = a .v-to-c .now }) _ (c .before .before .before .before .before .before .before .before .before .before .before .before .decode-fault .ensures ∙ fault-seed (a .size .edges) (a .size .checks) (a .size .mechanisms) (a .settings) (a .gammas .now) (a .seed) (a .syndrome .now) (a .priors .now) (a .check-var .now) (a .check-message .now) (a .check-offset .now) (a .var-check .now) (a .var-message .now) (a .var-offset .now) (a .order .now) (record { legState = a .leg-state .now; legIterations = a .leg-iterations .now; legWeight = a .leg-weight .now; rows = a .rows .now; correction = a .correction .now; posterior = a .posterior .now; gamma = a .gamma .now; bias = a .bias .now; cToV = a .c-to-v .now; vToC = a .v-to-c .now })) (c .before .before .before .before .before .before .before .before .before .before .enum-told .given .1) in
+    (w .reads, (w .legs-fit, (w .work-fits, w .messages-fit)))
 
 -- src/lib.rt:201:1
 same-length : tie.Need-same-length
@@ -64,7 +70,9 @@ same-length-10 c = search needs
 
 -- src/lib.rt:201:1
 returns : tie.Need-returns
-returns c = ?
+returns c = 
+    let a = c .before .before .before .before .before .before .before .before .before .before .before .before .before .before .before .before .before .before .before .before .before .before .before .before .before .before .before .before .before .before .before .before .before .before .args in
+    in-order-refused (a .size .edges) (a .size .checks) (a .size .mechanisms) (a .settings) (a .gammas .now) (a .seed) (a .syndrome .now) (a .priors .now) (a .check-var .now) (a .check-message .now) (a .check-offset .now) (a .var-check .now) (a .var-message .now) (a .var-offset .now) (a .order .now) (record { legState = a .leg-state .now; legIterations = a .leg-iterations .now; legWeight = a .leg-weight .now; rows = a .rows .now; correction = a .correction .now; posterior = a .posterior .now; gamma = a .gamma .now; bias = a .bias .now; cToV = a .c-to-v .now; vToC = a .v-to-c .now }) _ _ (c .before .before .before .decode-fault .ensures ∙ fault-seed (a .size .edges) (a .size .checks) (a .size .mechanisms) (a .settings) (a .gammas .now) (a .seed) (a .syndrome .now) (a .priors .now) (a .check-var .now) (a .check-message .now) (a .check-offset .now) (a .var-check .now) (a .var-message .now) (a .var-offset .now) (a .order .now) (record { legState = a .leg-state .now; legIterations = a .leg-iterations .now; legWeight = a .leg-weight .now; rows = a .rows .now; correction = a .correction .now; posterior = a .posterior .now; gamma = a .gamma .now; bias = a .bias .now; cToV = a .c-to-v .now; vToC = a .v-to-c .now })) (c .before .a .given .1)
 
 -- src/lib.rt:201:1
 same-length-11 : tie.Need-same-length-11
@@ -108,7 +116,9 @@ same-length-20 c = search needs
 
 -- src/lib.rt:201:1
 returns-2 : tie.Need-returns-2
-returns-2 c = ?
+returns-2 c = 
+    let a = c .before .before .before .before .before .before .before .before .before .before .before .before .before .before .before .before .before .before .before .before .before .before .before .before .before .before .before .before .before .before .before .before .before .before .before .before .before .before .before .before .before .before .before .before .before .before .before .before .before .before .before .before .before .before .before .before .before .before .before .before .before .before .before .before .args in
+    in-order-ran (a .size .edges) (a .size .checks) (a .size .mechanisms) (a .settings) (a .gammas .now) (a .seed) (a .syndrome .now) (a .priors .now) (a .check-var .now) (a .check-message .now) (a .check-offset .now) (a .var-check .now) (a .var-message .now) (a .var-offset .now) (a .order .now) (record { legState = a .leg-state .now; legIterations = a .leg-iterations .now; legWeight = a .leg-weight .now; rows = a .rows .now; correction = a .correction .now; posterior = a .posterior .now; gamma = a .gamma .now; bias = a .bias .now; cToV = a .c-to-v .now; vToC = a .v-to-c .now }) _ _ (c .before .before .before .before .before .before .before .before .before .before .before .before .before .before .before .before .before .before .before .before .before .before .before .before .before .before .before .before .before .before .before .before .before .decode-fault .ensures ∙ fault-seed (a .size .edges) (a .size .checks) (a .size .mechanisms) (a .settings) (a .gammas .now) (a .seed) (a .syndrome .now) (a .priors .now) (a .check-var .now) (a .check-message .now) (a .check-offset .now) (a .var-check .now) (a .var-message .now) (a .var-offset .now) (a .order .now) (record { legState = a .leg-state .now; legIterations = a .leg-iterations .now; legWeight = a .leg-weight .now; rows = a .rows .now; correction = a .correction .now; posterior = a .posterior .now; gamma = a .gamma .now; bias = a .bias .now; cToV = a .c-to-v .now; vToC = a .v-to-c .now })) (c .before .before .before .before .before .before .before .before .before .before .before .before .before .before .before .before .before .before .before .before .before .before .before .before .before .before .before .before .before .before .before .enum-told .given .1) (c .before .before .before .before .before .before .before .before .before .before .before .before .before .before .before .before .before .before .before .before .decode-shot .ensures)
 
 pub decode-in-order-spec : {M : Type 1} → statement M
 decode-in-order-spec =

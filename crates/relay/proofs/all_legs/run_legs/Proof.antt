@@ -1,5 +1,5 @@
 use mathlib.Core.Path.{_≡_, refl, sym, ap, _∙_}
-use mathlib.Core.Bool.{false}
+use mathlib.Core.Option.{none}
 use Prim.Native.Nat.{ℕ, suc, _+_, _-_, _*_, _≤_, _<_}
 use native.Mathlib.Numerals.{add-one}
 use native.Mathlib.Omega.{arith}
@@ -33,7 +33,7 @@ loop-holds c =
     let s = c .before .before .before .before .before .before .before .before .before .before .before .before .before .before .before .before .before .before in
     let a = s .args in
     let e = s .pre .1 .1 .1 .1 in
-    (omega arith, refl, refl, refl, refl, refl, refl, refl, refl, refl, refl, reached-start (shotOf (a .t) (a .gammas .now) (a .seed) (a .syndrome .now) (a .priors .now) (a .check-var .now) (a .check-offset .now) (a .var-message .now) (a .var-offset .now) (a .order .now)) (bestOf false _) 0 0 _ _ _ _ _ _ e, blank-start _ _ _ (ap (λ (z : Results). z .rows) e), omega arith, omega arith)
+    (omega arith, refl, refl, refl, refl, refl, refl, refl, refl, refl, refl, reached-start (shotOf (a .t) (a .gammas .now) (a .seed) (a .syndrome .now) (a .priors .now) (a .check-var .now) (a .check-offset .now) (a .var-message .now) (a .var-offset .now) (a .order .now)) none 0 0 _ _ _ _ _ _ e, blank-start (suc (a .t .«num_legs») * length (a .priors .now)) _ _ (ap (λ (z : Results). z .rows) e), omega arith, omega arith)
 
 -- src/all_legs.rt:102:9
 next-leg-requires : tie.Need-next-leg-requires Inv-loop μ-loop

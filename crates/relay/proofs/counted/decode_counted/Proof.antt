@@ -1,3 +1,4 @@
+use native.Mathlib.Omega.{arith}
 use borrow.Author.Needs.{needs}
 use Rattle.relay.proofs.counted.decode_counted.Statement.{statement}
 use Rattle.relay.proofs.counted.decode_counted.Tie as tie
@@ -8,7 +9,7 @@ use Rattle.relay.proofs.counted.decode_many.Reads as decode-many-reads
 
 -- src/counted.rt:156:9
 decode-few-requires : tie.Need-decode-few-requires
-decode-few-requires c κs = ?
+decode-few-requires c κs = (c .before .before .before .before .before .before .before .before .before .before .if1 .taken, c .before .before .before .before .before .before .before .before .before .before .before .before .before .before .before .before .before .before .before .before .before .before .before .before .before .before .before .before .pre .1)
 
 -- src/counted.rt:156:9
 same-length : tie.Need-same-length

@@ -1,3 +1,10 @@
+use mathlib.Core.Path.{_≡_, refl, sym, ap, _∙_}
+use Prim.Native.Nat.{ℕ, _-_, _≤_}
+use native.Mathlib.Omega.{arith}
+use lib.ListN.{length, replicate, length-replicate}
+use borrow.Rule.Slice.PartMut.{mid-len, same-len-mid}
+use Rattle.relay.specs.Order.{upto}
+use Rattle.relay.proofs.Shots.{along-order, reads-along, counted-many, counted-is}
 use borrow.Author.Needs.{needs}
 use Rattle.relay.proofs.counted.decode_few.Statement.{statement}
 use Rattle.relay.proofs.counted.decode_few.Tie as tie
@@ -32,11 +39,14 @@ part-decode-shot-start c = search needs
 
 -- src/counted.rt:56:9
 part-decode-shot-end : tie.Need-part-decode-shot-end
-part-decode-shot-end c = ?
+part-decode-shot-end c = counted-many 1024 (length (c .before .before .before .before .before .before .before .before .before .before .before .before .before .before .before .before .before .before .before .before .before .args .syndrome .now)) _ _ (c .before .before .before .before .before .before .before .before .before .before .before .before .before .before .before .before .before .before .before .before .before .pre .0) (length-replicate {A = ℕ} 1024 0) (c .before .before .index .ensures)
 
 -- src/counted.rt:46:5
 decode-shot-requires : tie.Need-decode-shot-requires
-decode-shot-requires c κs = ?
+decode-shot-requires c κs = 
+    let s = c .before .before .before .before .before .before .before .before .before .before .before .before .before .before .before .before .before .before .before .before .before .before .before .before .before .before .before .before .before .before .before .before in
+    let a = s .args in
+    (reads-along (a .t) (a .gammas .now) (a .seed) (a .syndrome .now) (a .priors .now) (a .check-var .now) (a .check-offset .now) (a .var-message .now) (a .var-offset .now) _ _ (counted-is 1024 (length (a .syndrome .now)) _ _ (s .pre .0) (length-replicate {A = ℕ} 1024 0) (c .before .before .before .before .before .before .before .before .before .before .before .before .before .index .ensures)) (s .pre .1 .0), s .pre .1 .1)
 
 -- src/counted.rt:15:1
 same-length : tie.Need-same-length
@@ -80,7 +90,10 @@ same-length-10 c = search needs
 
 -- src/counted.rt:15:1
 returns : tie.Need-returns
-returns c = ?
+returns c = 
+    let s = c .before .before .before .before .before .before .before .before .before .before .before .before .before .before .before .before .before .before .before .before .before .before .before .before .before .before .before .before .before .before .before .before .before .before .before .before .before .before .before .before .before .before .before .before .before .before .before .before .before .before .before .before .before in
+    let a = s .args in
+    along-order (a .t) (a .gammas .now) (a .seed) (a .syndrome .now) (a .priors .now) (a .check-var .now) (a .check-offset .now) (a .var-message .now) (a .var-offset .now) _ _ _ _ _ (counted-is 1024 (length (a .syndrome .now)) _ _ (s .pre .0) (length-replicate {A = ℕ} 1024 0) (c .before .before .before .before .before .before .before .before .before .before .before .before .before .before .before .before .before .before .before .before .before .before .before .before .before .before .before .before .before .before .before .before .before .before .index .ensures)) (c .before .before .before .before .before .before .before .before .before .before .before .before .before .before .before .before .before .before .before .before .decode-shot .ensures)
 
 pub decode-few-spec : {M : Type 1} → statement M
 decode-few-spec =

@@ -1,3 +1,6 @@
+use native.Mathlib.Omega.{arith}
+use native.Mathlib.Numerals.{add-one}
+use Rattle.relay.proofs.Faults.{cells-small}
 use borrow.Author.Needs.{needs}
 use Rattle.relay.proofs.decode_tests.legs_fit.Statement.{statement}
 use Rattle.relay.proofs.decode_tests.legs_fit.Tie as tie
@@ -12,7 +15,7 @@ add-legs c = search needs
 
 -- src/decode_tests.rt:42:17
 mul-cells : tie.Need-mul-cells
-mul-cells c = ?
+mul-cells c = let s = c .before .before .before .before in omega (arith, cells-small (s .args .num-legs) (s .args .mechanisms) (s .pre .0) (s .pre .1))
 
 -- src/decode_tests.rt:44:9
 at-most-requires : tie.Need-at-most-requires
@@ -44,7 +47,7 @@ both-requires-3 c κs = search needs
 
 -- src/decode_tests.rt:30:1
 returns : tie.Need-returns
-returns c = ?
+returns c = rw (c .both3 .ensures, c .before .both2 .ensures, c .before .before .both .ensures, c .before .before .before .at-most4 .ensures, c .before .before .before .before .at-most3 .ensures, c .before .before .before .before .before .at-most2 .ensures, c .before .before .before .before .before .before .at-most .ensures, add-one)
 
 pub legs-fit-spec : {M : Type 1} → statement M
 legs-fit-spec =

@@ -1,3 +1,6 @@
+use mathlib.Core.Path.{_≡_, sym, _∙_}
+use Rattle.relay.proofs.Calls.{or-refused, or-passed}
+use Rattle.relay.proofs.Faults.{index-passes, names-passed}
 use borrow.Author.Needs.{needs}
 use Rattle.relay.proofs.decode_tests.order_fault.Statement.{statement}
 use Rattle.relay.proofs.decode_tests.order_fault.Tie as tie
@@ -14,7 +17,7 @@ is-index-order-requires c κs = search needs
 
 -- src/decode_tests.rt:164:9
 returns : tie.Need-returns
-returns c = ?
+returns c = let a = c .before .before .before .before .before .args in index-passes (a .schedule) (a .checks) (a .check-var .now) (a .check-offset .now) (a .order .now) (c .before .is-index-order .ensures (c .if1 .taken))
 
 -- src/decode_tests.rt:166:9
 names-fault-requires : tie.Need-names-fault-requires
@@ -26,15 +29,17 @@ is-done-requires c κs = search needs
 
 -- src/decode_tests.rt:168:9
 returns-2 : tie.Need-returns-2
-returns-2 c = ?
+returns-2 c = or-refused _ _ _ _ (c .before .before .names-fault .ensures) (c .before .is-done .ensures) (c .if2 .taken)
 
 -- src/decode_tests.rt:170:5
 exchange-fault-requires : tie.Need-exchange-fault-requires
-exchange-fault-requires c κs = ?
+exchange-fault-requires c κs = 
+    let p = c .before .before .before .before .before .before .before .before .pre in
+    (p .0, (p .1 .0, (p .1 .1, names-passed _ _ _ _ (c .before .before .names-fault .ensures) (c .before .is-done .ensures) (c .if2 .left))))
 
 -- src/decode_tests.rt:151:1
 returns-3 : tie.Need-returns-3
-returns-3 c = ?
+returns-3 c = or-passed _ _ _ _ _ (c .before .before .before .names-fault .ensures) (c .before .before .is-done .ensures) (c .before .if2 .left) (c .exchange-fault .ensures)
 
 pub order-fault-spec : {M : Type 1} → statement M
 order-fault-spec =

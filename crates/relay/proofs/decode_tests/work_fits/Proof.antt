@@ -52,7 +52,7 @@ both-requires-5 c κs = search needs
 
 -- src/decode_tests.rt:56:1
 returns : tie.Need-returns
-returns c = ?
+returns c = rw (c .both5 .ensures, c .before .both4 .ensures, c .before .before .both3 .ensures, c .before .before .before .same-number6 .ensures, c .before .before .before .before .same-number5 .ensures, c .before .before .before .before .before .same-number4 .ensures, c .before .before .before .before .before .before .both2 .ensures, c .before .before .before .before .before .before .before .same-number3 .ensures, c .before .before .before .before .before .before .before .before .both .ensures, c .before .before .before .before .before .before .before .before .before .same-number2 .ensures, c .before .before .before .before .before .before .before .before .before .before .same-number .ensures)
 
 pub work-fits-spec : {M : Type 1} → statement M
 work-fits-spec =
