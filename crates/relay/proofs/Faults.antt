@@ -2,10 +2,8 @@
 use mathlib.Core.Path.{_≡_, refl, sym, ap, _∙_}
 use mathlib.Core.Bool.{Bool, true, false, not, _&&_, _||_}
 use mathlib.Core.List.{List, []}
-use mathlib.Core.Logic.{inl, inr}
 use Prim.Native.Nat.{ℕ, suc, _+_, _*_, _<_, _≤_}
 use native.Mathlib.Nat.{mul-le-mul}
-use native.Mathlib.Numerals.{add-one}
 use native.Mathlib.Omega.{arith}
 use lib.Dec.{eqb, leb}
 use lib.Ieee.{Float}
@@ -20,8 +18,8 @@ use Rattle.refusals.specs.Tests.{isDone, unless, orElse}
 use Rattle.refusals.proofs.Tests.{done-is, or-first, or-second, or-done, unless-done}
 use Rattle.graph.specs.Graph.{Graph, graph}
 use Rattle.graph.specs.Model.{graphFault}
-use Rattle.graph.proofs.GraphTests.{GraphTold, graph-told}
-use Rattle.messages_core.specs.Needs.{Offsets, Entries, Walks, ofChecks}
+use Rattle.graph.proofs.GraphTests.{graph-told}
+use Rattle.messages_core.specs.Needs.{Offsets, Entries, ofChecks}
 use Rattle.messages_core.proofs.Parts.{walks-both, entries-along}
 use Rattle.messages_core.proofs.Walks.{graph-walks}
 use Rattle.relay.specs.declared.Schedule.{Schedule}
@@ -30,9 +28,9 @@ use Rattle.relay.specs.declared.GammaSource.the-variants.{Explicit}
 use Rattle.relay.specs.declared.Settings.{Settings}
 use Rattle.relay.specs.declared.Decoded.the-variants as Decoded
 use Rattle.relay.specs.Settings.{preGood, legIterationsGood, setsGood, sourceFault, settingsFault}
-use Rattle.relay.specs.Order.{upto, NamesOnce, namesOnce, namesFault, exchangeFault}
+use Rattle.relay.specs.Order.{upto, namesOnce, namesFault, exchangeFault}
 use Rattle.relay.specs.Decode.{Shot, decodeLegs}
-use Rattle.relay.specs.Calls.{syndromeFault, Lists, Outcome, outcome, listsFit, decodeFault, afterLegs, afterTests, decodeInOrder, withOrder, decode}
+use Rattle.relay.specs.Calls.{syndromeFault, Lists, Outcome, outcome, listsFit, decodeFault, afterLegs, decodeInOrder, decode}
 use Rattle.relay.specs.Kept.{Reads, shotOf, shotFault}
 use Rattle.relay.proofs.All.{all-at}
 use Rattle.relay.proofs.Counts.{names-below, names-once-is}
@@ -160,7 +158,7 @@ settings-passed t m flat a b e d h = settings-told t m flat (sym e ∙ done-is a
 pub record Told (edges checks mechanisms : ℕ) (t : Settings) (flat : List Float) (syndrome : List ℕ) (prior : List Float) (cv co vm vo order : List ℕ) (l : Lists) : Type 0 where
   pub reads : Reads t flat syndrome prior cv co vm vo order
   pub legs-fit :
-    (suc (t .«num_legs») ≤ length (l .legState)) × (suc (t .«num_legs») ≤ length (l .legIterations)) × (suc (t .«num_legs») ≤ length (l .legWeight)) × (suc (t .«num_legs») * length prior ≤ length (l .rows))
+      (suc (t .«num_legs») ≤ length (l .legState)) × (suc (t .«num_legs») ≤ length (l .legIterations)) × (suc (t .«num_legs») ≤ length (l .legWeight)) × (suc (t .«num_legs») * length prior ≤ length (l .rows))
   pub work-fits : (length (l .correction) ≡ length prior) × (length (l .posterior) ≡ length prior) × (length (l .gamma) ≡ length prior) × (length (l .bias) ≡ length prior)
   pub messages-fit : (length (l .cToV) ≡ length cv) × (length (l .vToC) ≡ length cv)
   pub edges-many : length cv ≡ edges
@@ -196,21 +194,21 @@ module _ (edges checks mechanisms : ℕ) (t : Settings) (flat : List Float) (see
       let cells : suc (t .«num_legs») * mechanisms ≤ length (l .rows) = leb-true _ _ (f4 .0) in
       record {
         reads =
-          record {
-            check-walks = walks-both _ _ _ _ _ _ (sym many) (sym p) (w .0);
-            var-walks = walks-both _ _ _ _ _ _ (sym p) refl (w .1);
-            named = entries-along _ _ _ (sym many) names;
-            mechanisms-few = omega (arith, p, g .mechanisms-few);
-            legs-few = s .legs-few;
-            pre-some = s .pre-some;
-            pre-few = s .pre-few;
-            leg-some = s .leg-some;
-            leg-few = s .leg-few;
-            sets-many = λ k sets e. let q = s .sets-many k sets e in (q .0, rw p (q .1));
-          };
+            record {
+              check-walks = walks-both _ _ _ _ _ _ (sym many) (sym p) (w .0);
+              var-walks = walks-both _ _ _ _ _ _ (sym p) refl (w .1);
+              named = entries-along _ _ _ (sym many) names;
+              mechanisms-few = omega (arith, p, g .mechanisms-few);
+              legs-few = s .legs-few;
+              pre-some = s .pre-some;
+              pre-few = s .pre-few;
+              leg-some = s .leg-some;
+              leg-few = s .leg-few;
+              sets-many = λ k sets e. let q = s .sets-many k sets e in (q .0, rw p (q .1));
+            };
         legs-fit = (leb-true _ _ (f1 .0), leb-true _ _ (f2 .0), leb-true _ _ (f3 .0), rw p cells);
         work-fits =
-          (eqb-true _ _ (f5 .0) ∙ sym p, eqb-true _ _ (f6 .0) ∙ sym p, eqb-true _ _ (f7 .0) ∙ sym p, eqb-true _ _ (f8 .0) ∙ sym p);
+            (eqb-true _ _ (f5 .0) ∙ sym p, eqb-true _ _ (f6 .0) ∙ sym p, eqb-true _ _ (f7 .0) ∙ sym p, eqb-true _ _ (f8 .0) ∙ sym p);
         messages-fit = (eqb-true _ _ (f9 .0) ∙ sym (g .long .check-var), eqb-true _ _ (f9 .1) ∙ sym (g .long .check-var));
         edges-many = g .long .check-var;
         checks-many = many;

@@ -2,7 +2,7 @@
 use mathlib.Core.Path.{_≡_, refl, sym, ap, _∙_}
 use mathlib.Core.Bool.{Bool, true, false, cond}
 use mathlib.Core.List.{List, [], _++_}
-use mathlib.Core.Logic.{inl, inr}
+use mathlib.Core.Logic.{inr}
 use mathlib.Core.Option.{Option, none, some}
 use Prim.Native.Nat.{ℕ, zero, suc, _+_, _-_, _*_, _<_, _≤_}
 use native.Mathlib.Nat.{mul-le-mul, mul-le-mul-right, suc-mul}
@@ -153,10 +153,10 @@ module _ (rows : List ℕ) (m r : ℕ) (z : Blank (r * m) rows) (h : r * m + m �
   blank-after row tail e d =
       record {
         blank =
-          λ i k.
-          rw d
-          (spliced-out rows (r * m) (r * m + m) row (omega arith) h (omega arith) i 0 (inr k)
-          ∙ z .blank i (omega arith));
+            λ i k.
+            rw d
+            (spliced-out rows (r * m) (r * m + m) row (omega arith) h (omega arith) i 0 (inr k)
+            ∙ z .blank i (omega arith));
       }
 
   module _ (x : Shot) (mechanisms : x .graph .mechanisms ≡ m) (best best′ : Option Float) (num num′ total total′ : ℕ) (ss ss′ is is′ : List ℕ) (ws ws′ : List Float) (row tail cor cor′ : List ℕ) (p p′ : List Float) (l : Leg) where
@@ -168,7 +168,7 @@ module _ (rows : List ℕ) (m r : ℕ) (z : Blank (r * m) rows) (h : r * m + m �
     rows-turn e d =
         let own : row ≡ cond (l .converged) (hardDecision (l .left .posterior)) (replicate m 0) = rw (← mechanisms) (ap (λ (k : Kept). k .rows) e) in
         let back : take (r * m) rows ++ (row ++ tail) ≡ cond (l .converged) (spliced rows (r * m) (r * m + m) (hardDecision (l .left .posterior))) rows =
-            rw (d, own) (row-spliced (l .converged) (hardDecision (l .left .posterior))) in
+        rw (d, own) (row-spliced (l .converged) (hardDecision (l .left .posterior))) in
         ap (λ (k : Kept). kept (k .best) (k .numConverged) (k .totalIterations) (k .executedLegs) (k .legState) (k .legIterations) (k .legWeight) (take (r * m) rows ++ (row ++ tail)) (k .correction) (k .posterior)) e
         ∙ rw (back, mechanisms)
 

@@ -9,7 +9,7 @@ use native.Mathlib.Numerals.{add-one}
 use native.Mathlib.Omega.{arith}
 use lib.Dec.{leb}
 use lib.Ieee.{Float, lt}
-use lib.ListN.{length, getD, replicate, getD-replicate}
+use lib.ListN.{length, getD, replicate}
 use Rattle.refusals.specs.declared.Answer.{Answer}
 use Rattle.refusals.specs.declared.Answer.the-variants.{Done, Refused}
 use Rattle.refusals.specs.Tests.{isDone, firstOf}
@@ -110,8 +110,8 @@ module _ (x : Shot) where
         record {
           run = new;
           ahead =
-            ap (λ (z : Kept). legs x (many - suc r) (judged (posteriorFault (x .graph) (z .posterior)) (leb (x .settings .«stop_after_converged») (z .numConverged)) new) (suc r)) (sym same)
-            ∙ whole;
+              ap (λ (z : Kept). legs x (many - suc r) (judged (posteriorFault (x .graph) (z .posterior)) (leb (x .settings .«stop_after_converged») (z .numConverged)) new) (suc r)) (sym same)
+              ∙ whole;
           is = same;
         }
 

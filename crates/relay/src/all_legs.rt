@@ -39,7 +39,13 @@ fn answer_run(found: bool, weight: f64, executed_legs: usize, total_iterations: 
 }
 
 // What is answered after a leg that is the last: 30, or the run.
-fn answer(a: Answer, found: bool, weight: f64, executed_legs: usize, total_iterations: usize) -> Decoded
+fn answer(
+    a: Answer,
+    found: bool,
+    weight: f64,
+    executed_legs: usize,
+    total_iterations: usize,
+) -> Decoded
     ensures { λ r. ⌜ r ≡ answerBy a (bestOf found weight) «executed_legs» «total_iterations» ⌝ }
 {
     match a {
@@ -244,7 +250,15 @@ fn run_shot(
         c_to_v,
         v_to_c,
     );
-    end_legs(d, leg_state, leg_iterations, leg_weight, rows, correction, posterior);
+    end_legs(
+        d,
+        leg_state,
+        leg_iterations,
+        leg_weight,
+        rows,
+        correction,
+        posterior,
+    );
     clear_work(gamma, bias, c_to_v, v_to_c);
     d
 }

@@ -44,10 +44,7 @@ fn legs_fit(
         at_most(legs, leg_state.len()),
         both(
             at_most(legs, leg_iterations.len()),
-            both(
-                at_most(legs, leg_weight.len()),
-                at_most(cells, rows.len()),
-            ),
+            both(at_most(legs, leg_weight.len()), at_most(cells, rows.len())),
         ),
     )
 }

@@ -9,7 +9,7 @@ use crate::leg::run_leg;
 use messages_core::clear;
 use messages_core::from_variables;
 ghost use mathlib.Core.Path.{_≡_};
-ghost use mathlib.Core.Bool.{true, false, cond};
+ghost use mathlib.Core.Bool.{true, cond};
 ghost use mathlib.Core.List.{[]};
 ghost use Prim.Native.Nat.{_+_, _*_, _<_, _≤_, suc};
 ghost use lib.ListN.{length, set, replicate};
@@ -196,10 +196,26 @@ fn record_leg(
 {
     if l.converged {
         let weight = correction_weight(priors, row);
-        write_leg(leg, 2, l.iterations, weight, leg_state, leg_iterations, leg_weight);
+        write_leg(
+            leg,
+            2,
+            l.iterations,
+            weight,
+            leg_state,
+            leg_iterations,
+            leg_weight,
+        );
         return keep_least(tally, l.iterations, weight, row, correction);
     }
-    write_leg(leg, 1, l.iterations, 0.0, leg_state, leg_iterations, leg_weight);
+    write_leg(
+        leg,
+        1,
+        l.iterations,
+        0.0,
+        leg_state,
+        leg_iterations,
+        leg_weight,
+    );
     keep_last(tally.found, row, correction);
     clear_bytes(row);
     Tally {

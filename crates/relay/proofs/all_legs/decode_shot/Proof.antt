@@ -1,132 +1,102 @@
-use mathlib.Core.Path.{_≡_, refl, sym, ap, _∙_}
-use Prim.Native.Nat.{suc, _+_, _*_, _-_, _≤_}
-use native.Mathlib.Nat.{sub-zero}
+-- `relay::all_legs::decode_shot` meets its contract. The fronts that come back stand before the surplus.
+-- Assumes nothing.
+use Prim.Native.Nat.{_+_, _*_, _-_}
 use native.Mathlib.Numerals.{add-one}
 use native.Mathlib.Omega.{arith}
-use lib.ListN.{length, drop}
-use borrow.Rule.Slice.PartMut.{post-is, mid-len, same-len-mid}
+use lib.ListN.{length}
+use borrow.Rule.Slice.PartMut.{same-len-mid}
 use Rattle.relay.specs.Decode.{decodeLegs}
-use Rattle.relay.specs.Calls.{Lists}
 use Rattle.relay.specs.Kept.{shotOf}
 use Rattle.relay.proofs.Faults.{cells-small}
 use Rattle.relay.proofs.Shots.{shot-is, front-lent, cells-lent, front-tail}
 use borrow.Author.Needs.{needs}
 use Rattle.relay.proofs.all_legs.decode_shot.Statement.{statement}
 use Rattle.relay.proofs.all_legs.decode_shot.Tie as tie
-use Rattle.relay.proofs.all_legs.decode_shot.Reads as reads
-use Rattle.relay.proofs.all_legs.decode_shot.Lts as lts
-use Rattle.relay.proofs.all_legs.run_shot.Reads as run-shot-reads
 
--- src/all_legs.rt:281:16
 add-legs : tie.Need-add-legs
 add-legs c = search needs
 
--- src/all_legs.rt:282:17
 mul-cells : tie.Need-mul-cells
 mul-cells c =
     let s = c .before .before .before .before .before .before .before .before .before .before .before .before .before .before .before .before .before .before .before in
     omega (arith, cells-small (s .args .t .«num_legs») (length (s .args .priors .now)) (s .pre .0 .legs-few) (s .pre .0 .mechanisms-few))
 
--- src/all_legs.rt:294:9
 sub-run-shot : tie.Need-sub-run-shot
 sub-run-shot c = search needs
 
--- src/all_legs.rt:294:9
 part-run-shot-start : tie.Need-part-run-shot-start
 part-run-shot-start c = search needs
 
--- src/all_legs.rt:294:9
 part-run-shot-end : tie.Need-part-run-shot-end
 part-run-shot-end c = search needs
 
--- src/all_legs.rt:295:9
 sub-run-shot-2 : tie.Need-sub-run-shot-2
 sub-run-shot-2 c = search needs
 
--- src/all_legs.rt:295:9
 part-run-shot-start-2 : tie.Need-part-run-shot-start-2
 part-run-shot-start-2 c = search needs
 
--- src/all_legs.rt:295:9
 part-run-shot-end-2 : tie.Need-part-run-shot-end-2
 part-run-shot-end-2 c = search needs
 
--- src/all_legs.rt:296:9
 sub-run-shot-3 : tie.Need-sub-run-shot-3
 sub-run-shot-3 c = search needs
 
--- src/all_legs.rt:296:9
 part-run-shot-start-3 : tie.Need-part-run-shot-start-3
 part-run-shot-start-3 c = search needs
 
--- src/all_legs.rt:296:9
 part-run-shot-end-3 : tie.Need-part-run-shot-end-3
 part-run-shot-end-3 c = search needs
 
--- src/all_legs.rt:297:9
 sub-run-shot-4 : tie.Need-sub-run-shot-4
 sub-run-shot-4 c = search needs
 
--- src/all_legs.rt:297:9
 part-run-shot-start-4 : tie.Need-part-run-shot-start-4
 part-run-shot-start-4 c = search needs
 
--- src/all_legs.rt:297:9
 part-run-shot-end-4 : tie.Need-part-run-shot-end-4
 part-run-shot-end-4 c = search needs
 
--- src/all_legs.rt:283:5
 run-shot-requires : tie.Need-run-shot-requires
-run-shot-requires c κs = 
+run-shot-requires c κs =
     let s = c .before .before .before .before .before .before .before .before .before .before .before .before .before .before .before .before .before .before .before .before .before .before .before .before .before .before .before .before .before in
     let a = s .args in
     let p = s .pre in
     let m = p .1 .0 in
     (p .0, ((front-lent (a .t .«num_legs») (a .leg-state .now) (m .0), front-lent (a .t .«num_legs») (a .leg-iterations .now) (m .1), front-lent (a .t .«num_legs») (a .leg-weight .now) (m .2), cells-lent (a .t .«num_legs») (length (a .priors .now)) (a .rows .now) (m .3)), (p .1 .1 .0, p .1 .1 .1)))
 
--- src/all_legs.rt:253:1
 same-length : tie.Need-same-length
 same-length c = let a = c .before .before .before .before .before .before .before .before .before .before .before .before .before .before .before .before .before .before .before .before .before .before .before .before .before .before .before .before .before .before .before .before .before .before .before .before .before .before .before .before .before .before .before .before .before .before .before .before .before .before .args in same-len-mid 0 (a .t .«num_legs» + 1 - 0) (a .leg-state .now) (c .before .before .before .before .before .before .before .before .before .before .before .before .before .before .before .before .before .before .before .before .run-shot .last .1 .1 .1 .1 .1 .1 .1 .1 .1 .1 .0) (c .before .before .before .before .before .before .before .before .before .before .before .before .before .before .before .before .before .before .before .before .run-shot .kept .1 .1 .1 .1 .1 .1 .1 .1 .1 .1 .0)
 
--- src/all_legs.rt:253:1
 same-length-2 : tie.Need-same-length-2
 same-length-2 c = let a = c .before .before .before .before .before .before .before .before .before .before .before .before .before .before .before .before .before .before .before .before .before .before .before .before .before .before .before .before .before .before .before .before .before .before .before .before .before .before .before .before .before .before .before .before .before .before .before .before .before .before .args in same-len-mid 0 (a .t .«num_legs» + 1 - 0) (a .leg-iterations .now) (c .before .before .before .before .before .before .before .before .before .before .before .before .before .before .before .before .before .before .before .before .run-shot .last .1 .1 .1 .1 .1 .1 .1 .1 .1 .1 .1 .0) (c .before .before .before .before .before .before .before .before .before .before .before .before .before .before .before .before .before .before .before .before .run-shot .kept .1 .1 .1 .1 .1 .1 .1 .1 .1 .1 .1 .0)
 
--- src/all_legs.rt:253:1
 same-length-3 : tie.Need-same-length-3
 same-length-3 c = let a = c .before .before .before .before .before .before .before .before .before .before .before .before .before .before .before .before .before .before .before .before .before .before .before .before .before .before .before .before .before .before .before .before .before .before .before .before .before .before .before .before .before .before .before .before .before .before .before .before .before .before .args in same-len-mid 0 (a .t .«num_legs» + 1 - 0) (a .leg-weight .now) (c .before .before .before .before .before .before .before .before .before .before .before .before .before .before .before .before .before .before .before .before .run-shot .last .1 .1 .1 .1 .1 .1 .1 .1 .1 .1 .1 .1 .0) (c .before .before .before .before .before .before .before .before .before .before .before .before .before .before .before .before .before .before .before .before .run-shot .kept .1 .1 .1 .1 .1 .1 .1 .1 .1 .1 .1 .1 .0)
 
--- src/all_legs.rt:253:1
 same-length-4 : tie.Need-same-length-4
 same-length-4 c = search needs
 
--- src/all_legs.rt:253:1
 same-length-5 : tie.Need-same-length-5
 same-length-5 c = search needs
 
--- src/all_legs.rt:253:1
 same-length-6 : tie.Need-same-length-6
 same-length-6 c = search needs
 
--- src/all_legs.rt:253:1
 same-length-7 : tie.Need-same-length-7
 same-length-7 c = search needs
 
--- src/all_legs.rt:253:1
 same-length-8 : tie.Need-same-length-8
 same-length-8 c = search needs
 
--- src/all_legs.rt:253:1
 same-length-9 : tie.Need-same-length-9
 same-length-9 c = search needs
 
--- src/all_legs.rt:253:1
 same-length-10 : tie.Need-same-length-10
 same-length-10 c = search needs
 
--- src/all_legs.rt:253:1
 returns : tie.Need-returns
-returns c = 
+returns c =
     let s = c .before .before .before .before .before .before .before .before .before .before .before .before .before .before .before .before .before .before .before .before .before .before .before .before .before .before .before .before .before .before .before .before .before .before .before .before .before .before .before .before .before .before .before .before .before .before .before .before .before .before in
     let a = s .args in
     let p = s .pre in

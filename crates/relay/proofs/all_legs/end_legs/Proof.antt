@@ -1,55 +1,40 @@
-use mathlib.Core.Path.{_≡_, refl}
+-- `relay::all_legs::end_legs` meets its contract. The results stay where nothing is refused, and else each list is cleared.
+-- Assumes nothing.
 use Rattle.relay.proofs.Shots.{end-kept, end-zeroed}
 use borrow.Author.Needs.{needs}
 use Rattle.relay.proofs.all_legs.end_legs.Statement.{statement}
 use Rattle.relay.proofs.all_legs.end_legs.Tie as tie
-use Rattle.relay.proofs.all_legs.end_legs.Reads as reads
-use Rattle.relay.proofs.all_legs.end_legs.Lts as lts
-use Rattle.messages_core.proofs.clear.Reads as clear-reads
-use Rattle.relay.proofs.all_legs.clear_records.Reads as clear-records-reads
-use Rattle.relay.proofs.all_legs.is_refused.Reads as is-refused-reads
 
--- src/all_legs.rt:185:9
 is-refused-requires : tie.Need-is-refused-requires
 is-refused-requires c κs = search needs
 
--- src/all_legs.rt:186:9
 returns : tie.Need-returns
 returns c = end-kept (c .before .before .before .before .before .before .before .before .args .d) _ _ _ (c .before .is-refused .ensures) (c .if1 .taken)
 
--- src/all_legs.rt:188:5
 clear-records-requires : tie.Need-clear-records-requires
 clear-records-requires c κs = search needs
 
--- src/all_legs.rt:189:5
 clear-requires : tie.Need-clear-requires
 clear-requires c κs = search needs
 
--- src/all_legs.rt:174:1
 same-length : tie.Need-same-length
 same-length c = search needs
 
--- src/all_legs.rt:174:1
 same-length-2 : tie.Need-same-length-2
 same-length-2 c = search needs
 
--- src/all_legs.rt:174:1
 same-length-3 : tie.Need-same-length-3
 same-length-3 c = search needs
 
--- src/all_legs.rt:174:1
 same-length-4 : tie.Need-same-length-4
 same-length-4 c = search needs
 
--- src/all_legs.rt:174:1
 same-length-5 : tie.Need-same-length-5
 same-length-5 c = search needs
 
--- src/all_legs.rt:174:1
 same-length-6 : tie.Need-same-length-6
 same-length-6 c = search needs
 
--- src/all_legs.rt:174:1
 returns-2 : tie.Need-returns-2
 returns-2 c = let a = c .before .before .before .before .before .before .before .before .before .before .before .before .before .before .before .before .before .before .before .before .before .before .before .before .before .before .before .before .args in let z = c .before .before .before .before .before .before .before .before .before .before .before .before .before .before .clear-records .ensures in end-zeroed (a .d) _ _ (a .leg-state .now) (a .leg-iterations .now) (a .leg-weight .now) (a .rows .now) (a .correction .now) (a .posterior .now) _ _ _ _ _ _ (c .before .before .before .before .before .before .before .before .before .before .before .before .before .before .before .before .before .before .before .before .before .is-refused .ensures) (c .before .before .before .before .before .before .before .before .before .before .before .before .before .before .before .before .before .before .before .before .if1 .left) z (c .before .before .clear .ensures)
 

@@ -1,3 +1,5 @@
+-- `relay::bytes::copy_bytes` meets its contract. The invariant: the elements passed are the same.
+-- Assumes nothing.
 use mathlib.Core.Path.{_≡_, refl, sym, _∙_}
 use Prim.Native.Nat.{_≤_, _-_}
 use native.Mathlib.Omega.{arith}
@@ -6,8 +8,6 @@ use lib.Seq.{take-all}
 use Rattle.relay.proofs.Copies.{bytes-turn}
 use Rattle.relay.proofs.bytes.copy_bytes.Statement.{statement}
 use Rattle.relay.proofs.bytes.copy_bytes.Tie as tie
-use Rattle.relay.proofs.bytes.copy_bytes.Reads as reads
-use Rattle.relay.proofs.bytes.copy_bytes.Lts as lts
 
 abbrev Inv-loop : tie.InvT-loop
 Inv-loop from to₀ i₀ to i = (i ≤ length from) × (length to ≡ length from) × (take i to ≡ take i from)
@@ -15,35 +15,27 @@ Inv-loop from to₀ i₀ to i = (i ≤ length from) × (length to ≡ length fro
 abbrev μ-loop : tie.MeasureT-loop
 μ-loop from to₀ i₀ to i = length from - i
 
--- src/bytes.rt:35:5
 loop-holds : tie.Need-loop-holds Inv-loop μ-loop
 loop-holds c = (omega arith, omega arith, refl)
 
--- src/bytes.rt:36:17
 shared-slice-read-to : tie.Need-shared-slice-read-to Inv-loop μ-loop
 shared-slice-read-to c = omega arith
 
--- src/bytes.rt:36:9
 slice-write-to : tie.Need-slice-write-to Inv-loop μ-loop
 slice-write-to c = omega arith
 
--- src/bytes.rt:37:9
 add-i : tie.Need-add-i Inv-loop μ-loop
 add-i c = omega arith
 
--- src/bytes.rt:35:5
 loop-less : tie.Need-loop-less Inv-loop μ-loop
 loop-less c = omega arith
 
--- src/bytes.rt:35:5
 loop-again : tie.Need-loop-again Inv-loop μ-loop
 loop-again c = (omega arith, simp length-set (omega arith), bytes-turn _ (c .before .before .loop .to) (c .before .before .loop .i) (c .before .loop-test .taken) (omega arith) (c .before .before .loop .inv .2))
 
--- src/bytes.rt:30:1
 same-length : tie.Need-same-length Inv-loop μ-loop
 same-length c = omega arith
 
--- src/bytes.rt:30:1
 returns : tie.Need-returns Inv-loop μ-loop
 returns c = let l = c .before .loop in sym (take-all (l .i) (l .to) (omega arith)) ∙ l .inv .2 ∙ take-all _ _ (c .loop-test .left)
 

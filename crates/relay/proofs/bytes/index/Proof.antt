@@ -1,3 +1,5 @@
+-- `relay::bytes::index` meets its contract. The invariant: each place passed holds its own number.
+-- Assumes nothing.
 use mathlib.Core.Path.{_≡_, refl}
 use Prim.Native.Nat.{ℕ, _≤_, _<_, _-_}
 use native.Mathlib.Omega.{arith}
@@ -6,8 +8,6 @@ use Rattle.relay.proofs.OrderWords.{index-order}
 use Rattle.relay.proofs.Copies.{count-turn}
 use Rattle.relay.proofs.bytes.index.Statement.{statement}
 use Rattle.relay.proofs.bytes.index.Tie as tie
-use Rattle.relay.proofs.bytes.index.Reads as reads
-use Rattle.relay.proofs.bytes.index.Lts as lts
 
 abbrev Inv-loop : tie.InvT-loop
 Inv-loop order₀ c₀ order c = (c ≤ length order) × (length order ≡ length order₀) × ((k : ℕ) → k < c → getD order k 0 ≡ k)
@@ -15,39 +15,30 @@ Inv-loop order₀ c₀ order c = (c ≤ length order) × (length order ≡ lengt
 abbrev μ-loop : tie.MeasureT-loop
 μ-loop order₀ c₀ order c = length order - c
 
--- src/bytes.rt:47:5
 loop-holds : tie.Need-loop-holds Inv-loop μ-loop
 loop-holds c = (omega arith, refl, λ k h. absurd (omega arith))
 
--- src/bytes.rt:48:20
 cast-order : tie.Need-cast-order Inv-loop μ-loop
 cast-order c = omega arith
 
--- src/bytes.rt:48:9
 mul-order : tie.Need-mul-order Inv-loop μ-loop
 mul-order c = omega arith
 
--- src/bytes.rt:48:9
 slice-write-order : tie.Need-slice-write-order Inv-loop μ-loop
 slice-write-order c = omega arith
 
--- src/bytes.rt:49:9
 add-c : tie.Need-add-c Inv-loop μ-loop
 add-c c = omega arith
 
--- src/bytes.rt:47:5
 loop-less : tie.Need-loop-less Inv-loop μ-loop
 loop-less c = simp length-set (omega arith)
 
--- src/bytes.rt:47:5
 loop-again : tie.Need-loop-again Inv-loop μ-loop
 loop-again c = (simp length-set (omega arith), simp length-set (omega arith), count-turn (c .before .loop .order) (c .before .loop .c) (c .loop-test .taken) (c .before .loop .inv .2))
 
--- src/bytes.rt:42:1
 same-length : tie.Need-same-length Inv-loop μ-loop
 same-length c = omega arith
 
--- src/bytes.rt:42:1
 returns : tie.Need-returns Inv-loop μ-loop
 returns c = let l = c .before .loop in index-order _ (l .order) (l .inv .1) (λ k h. l .inv .2 k (omega arith))
 

@@ -1,83 +1,65 @@
-use mathlib.Core.Path.{_≡_, refl, sym, ap, _∙_}
-use mathlib.Core.Bool.{false}
-use Prim.Native.Nat.{_≤_}
+-- `relay::one_leg::execute_leg` meets its contract. The gammas, the start and the iterations are the definition's; there is some iteration, so that the bits are the hard decision.
+-- Assumes nothing.
+use mathlib.Core.Path.{ap, _∙_}
 use native.Mathlib.Omega.{arith}
-use lib.ListN.{length}
-use Rattle.messages_core.specs.Needs.{walked, ofChecks}
-use Rattle.relay.specs.Step.{state, iteration}
-use Rattle.relay.specs.Leg.{Leg, leg, satisfied, runLeg}
-use Rattle.relay.specs.Decode.{iterationLimit}
+use Rattle.relay.specs.Leg.{leg}
 use Rattle.relay.specs.Gammas.{gammaOf}
-use Rattle.relay.proofs.Records.{limit-some, limit-few, sets-along, leg-few, executed-is}
+use Rattle.relay.proofs.Records.{limit-some, limit-few, sets-along, executed-is}
 use borrow.Author.Needs.{needs}
 use Rattle.relay.proofs.one_leg.execute_leg.Statement.{statement}
 use Rattle.relay.proofs.one_leg.execute_leg.Tie as tie
-use Rattle.relay.proofs.one_leg.execute_leg.Reads as reads
-use Rattle.relay.proofs.one_leg.execute_leg.Lts as lts
-use Rattle.relay.proofs.gammas.prepare_gamma.Reads as prepare-gamma-reads
-use Rattle.relay.proofs.leg.run_leg.Reads as run-leg-reads
-use Rattle.relay.proofs.one_leg.iteration_limit.Reads as iteration-limit-reads
-use Rattle.relay.proofs.one_leg.start_leg.Reads as start-leg-reads
 
--- src/one_leg.rt:73:9
 iteration-limit-requires : tie.Need-iteration-limit-requires
 iteration-limit-requires c κs = search needs
 
--- src/one_leg.rt:74:5
 prepare-gamma-requires : tie.Need-prepare-gamma-requires
-prepare-gamma-requires c κs = 
+prepare-gamma-requires c κs =
     let s = c .before .before .before .before .before .before .before .before .before .before .before .before .before .before .before .before in
     let p = s .pre in
     (omega (arith, p .1 .0, p .0 .legs-few), λ h sets e. sets-along _ _ _ _ _ _ _ _ _ (p .0) (s .args .gamma .now) _ (p .1 .1 .0 .0) (p .1 .0) h sets e)
 
--- src/one_leg.rt:75:5
 start-leg-requires : tie.Need-start-leg-requires
 start-leg-requires c κs = search needs
 
--- src/one_leg.rt:76:5
 run-leg-requires : tie.Need-run-leg-requires
-run-leg-requires c κs = 
+run-leg-requires c κs =
     let p = c .before .before .before .before .before .before .before .before .before .before .before .before .before .before .before .before .before .before .before .before .before .before .before .before .before .before .before .before .before .before .before .before .pre in
     let g = c .before .before .before .before .before .before .before .before .before .before .before .before .before .before .before .prepare-gamma .kept .1 .1 .1 .1 .0 in
     let k = c .before .before .before .before .before .before .before .before .before .before .start-leg .kept .1 .1 in
     (p .0 .check-walks, (p .0 .var-walks, (p .0 .named, ((g ∙ p .1 .1 .0 .0, p .1 .1 .0 .1, p .1 .1 .0 .2, p .1 .1 .0 .3), (k .0 ∙ p .1 .1 .1 .0, k .1 .0 ∙ p .1 .1 .1 .1)))))
 
--- src/one_leg.rt:44:1
 same-length : tie.Need-same-length
 same-length c = search needs
 
--- src/one_leg.rt:44:1
 same-length-2 : tie.Need-same-length-2
 same-length-2 c = search needs
 
--- src/one_leg.rt:44:1
 same-length-3 : tie.Need-same-length-3
 same-length-3 c = search needs
 
--- src/one_leg.rt:44:1
 same-length-4 : tie.Need-same-length-4
 same-length-4 c = search needs
 
--- src/one_leg.rt:44:1
 same-length-5 : tie.Need-same-length-5
 same-length-5 c = search needs
 
--- src/one_leg.rt:44:1
 same-length-6 : tie.Need-same-length-6
 same-length-6 c = search needs
 
--- src/one_leg.rt:44:1
 returns : tie.Need-returns
-returns c = 
+returns c =
     let s = c .before .before .before .before .before .before .before .before .before .before .before .before .before .before .before .before .before .before .before .before .before .before .before .before .before .before .before .before .before .before .before .before .before .before .before .before .before .before .before .before .before .before .before in
     let a = s .args in
     let p = s .pre in
     let limit = c .before .before .before .before .before .before .before .before .before .before .before .before .before .before .before .before .before .before .before .before .before .before .before .before .before .before .before .before .iteration-limit .ensures in
     let e = c .before .before .before .before .before .before .before .before .before .before .run-leg .ensures in
-    let x = executed-is (a .t) (a .gammas .now) (a .seed) (a .syndrome .now) (a .priors .now) (a .check-var .now) (a .check-offset .now) (a .var-message .now) (a .var-offset .now) (a .order .now) (a .leg) _ _ _ _ (a .posterior .now) _ (c .before .before .before .before .before .before .before .before .before .before .before .before .before .before .before .before .before .before .before .before .before .before .before .before .before .before .prepare-gamma .ensures ∙ ap (λ n. gammaOf (a .t) (a .gammas .now) n (a .seed) (a .leg)) (p .1 .1 .0 .0)) (c .before .before .before .before .before .before .before .before .before .before .before .before .before .before .before .before .before .before .before .before .before .start-leg .ensures) limit (e .0) in
-    (x .0,
-    (e .1 (rw limit (limit-some _ _ _ _ _ _ _ _ _ (p .0) _ (p .1 .0))),
-    omega (arith, x .1, limit-few _ _ _ _ _ _ _ _ _ (p .0) (a .leg))))
+    let x = executed-is (a .t) (a .gammas .now) (a .seed) (a .syndrome .now) (a .priors .now) (a .check-var .now) (a .check-offset .now) (a .var-message .now) (a .var-offset .now) (a .order .now) (a .leg) _ _ _ _ (a .posterior .now) _ (c .before .before .before .before .before .before .before .before .before .before .before .before .before .before .before .before .before .before .before .before .before .before .before .before .before .before .prepare-gamma .ensures ∙ ap (λ n. gammaOf (a .t) (a .gammas .now) n (a .seed) (a .leg)) (p .1 .1 .0 .0)) (c .before .before .before .before .before .before .before .before .before .before .before .before .before .before .before .before .before .before .before .before .before .start-leg .ensures) limit (e .0) in (
+      x .0,
+      (
+        e .1 (rw limit (limit-some _ _ _ _ _ _ _ _ _ (p .0) _ (p .1 .0))),
+        omega (arith, x .1, limit-few _ _ _ _ _ _ _ _ _ (p .0) (a .leg)),
+      ),
+    )
 
 pub execute-leg-spec : {M : Type 1} → statement M
 execute-leg-spec =

@@ -1,14 +1,12 @@
+-- `relay::one_leg::iteration_limit` meets its contract. Leg zero has its own limit.
+-- Assumes nothing.
 use Rattle.relay.proofs.Records.{limit-zero, limit-relayed}
 use Rattle.relay.proofs.one_leg.iteration_limit.Statement.{statement}
 use Rattle.relay.proofs.one_leg.iteration_limit.Tie as tie
-use Rattle.relay.proofs.one_leg.iteration_limit.Reads as reads
-use Rattle.relay.proofs.one_leg.iteration_limit.Lts as lts
 
--- src/one_leg.rt:28:9
 returns : tie.Need-returns
 returns c = limit-zero _ _ (c .if1 .taken)
 
--- src/one_leg.rt:24:1
 returns-2 : tie.Need-returns-2
 returns-2 c = limit-relayed _ _ (c .if1 .left)
 

@@ -1,35 +1,27 @@
+-- `relay::one_leg::keep_least` meets its contract. Each arm is the definition's, by whether the weight is better.
+-- Assumes nothing.
 use mathlib.Core.Path.{refl}
 use Rattle.relay.specs.Kept.{bestOf}
 use Rattle.relay.proofs.Records.{least-better, least-other, corrected-better, corrected-other}
 use borrow.Author.Needs.{needs}
 use Rattle.relay.proofs.one_leg.keep_least.Statement.{statement}
 use Rattle.relay.proofs.one_leg.keep_least.Tie as tie
-use Rattle.relay.proofs.one_leg.keep_least.Reads as reads
-use Rattle.relay.proofs.one_leg.keep_least.Lts as lts
-use Rattle.relay.proofs.bytes.copy_bytes.Reads as copy-bytes-reads
-use Rattle.relay.proofs.one_leg.is_better.Reads as is-better-reads
 
--- src/one_leg.rt:128:21
 add-converged : tie.Need-add-converged
 add-converged c = search needs
 
--- src/one_leg.rt:129:17
 add-total : tie.Need-add-total
 add-total c = search needs
 
--- src/one_leg.rt:130:8
 is-better-requires : tie.Need-is-better-requires
 is-better-requires c κs = search needs
 
--- src/one_leg.rt:131:9
 copy-bytes-requires : tie.Need-copy-bytes-requires
 copy-bytes-requires c κs = search needs
 
--- src/one_leg.rt:132:9
 same-length : tie.Need-same-length
 same-length c = search needs
 
--- src/one_leg.rt:132:9
 returns : tie.Need-returns
 returns c =
     let a = c .before .before .before .before .before .before .before .before .before .before .args in

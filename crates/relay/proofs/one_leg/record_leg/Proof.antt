@@ -1,96 +1,71 @@
-use mathlib.Core.Path.{refl, sym, _∙_}
+-- `relay::one_leg::record_leg` meets its contract. A leg that converged, and one that ran out, each as the definition records it.
+-- Assumes nothing.
 use lib.Ieee.{ofBits}
 use Rattle.relay.specs.Kept.{bestOf}
 use Rattle.relay.proofs.Records.{record-converged, record-out}
 use borrow.Author.Needs.{needs}
 use Rattle.relay.proofs.one_leg.record_leg.Statement.{statement}
 use Rattle.relay.proofs.one_leg.record_leg.Tie as tie
-use Rattle.relay.proofs.one_leg.record_leg.Reads as reads
-use Rattle.relay.proofs.one_leg.record_leg.Lts as lts
-use Rattle.relay.proofs.bytes.clear_bytes.Reads as clear-bytes-reads
-use Rattle.relay.proofs.leg.correction_weight.Reads as correction-weight-reads
-use Rattle.relay.proofs.one_leg.keep_last.Reads as keep-last-reads
-use Rattle.relay.proofs.one_leg.keep_least.Reads as keep-least-reads
-use Rattle.relay.proofs.one_leg.write_leg.Reads as write-leg-reads
 
--- src/one_leg.rt:198:13
 correction-weight-requires : tie.Need-correction-weight-requires
 correction-weight-requires c κs = search needs
 
--- src/one_leg.rt:199:9
 write-leg-requires : tie.Need-write-leg-requires
 write-leg-requires c κs = search needs
 
--- src/one_leg.rt:200:9
 keep-least-requires : tie.Need-keep-least-requires
 keep-least-requires c κs = search needs
 
--- src/one_leg.rt:200:9
 same-length : tie.Need-same-length
 same-length c = search needs
 
--- src/one_leg.rt:200:9
 same-length-2 : tie.Need-same-length-2
 same-length-2 c = search needs
 
--- src/one_leg.rt:200:9
 same-length-3 : tie.Need-same-length-3
 same-length-3 c = search needs
 
--- src/one_leg.rt:200:9
 same-length-4 : tie.Need-same-length-4
 same-length-4 c = search needs
 
--- src/one_leg.rt:200:9
 same-length-5 : tie.Need-same-length-5
 same-length-5 c = search needs
 
--- src/one_leg.rt:200:9
 returns : tie.Need-returns
-returns c = 
+returns c =
     let a = c .before .before .before .before .before .before .before .before .before .before .before .before .before .before .before .before .before .before .before .before .before .before .before .before .args in
     record-converged (a .l .converged) (bestOf (a .tally .found) (a .tally .weight)) _ _ _ _ _ (a .leg-state .now) (a .leg-iterations .now) (a .leg-weight .now) _ _ _ (a .row .now) (a .correction .now) _ (a .leg) _ _ _ (c .before .before .before .before .before .before .before .before .before .before .before .before .before .before .before .before .before .if1 .taken) (c .before .before .before .before .before .before .before .before .before .before .before .before .before .before .before .correction-weight .ensures) (c .before .before .before .before .before .before .before .before .before .before .before .write-leg .ensures) (c .before .before .keep-least .ensures .0) (c .before .before .keep-least .ensures .1 .0) (c .before .before .keep-least .ensures .1 .1)
 
--- src/one_leg.rt:202:5
 write-leg-requires-2 : tie.Need-write-leg-requires-2
 write-leg-requires-2 c κs = search needs
 
--- src/one_leg.rt:203:5
 keep-last-requires : tie.Need-keep-last-requires
 keep-last-requires c κs = search needs
 
--- src/one_leg.rt:204:5
 clear-bytes-requires : tie.Need-clear-bytes-requires
 clear-bytes-requires c κs = search needs
 
--- src/one_leg.rt:209:27
 add-t38 : tie.Need-add-t38
 add-t38 c = search needs
 
--- src/one_leg.rt:177:1
 same-length-6 : tie.Need-same-length-6
 same-length-6 c = search needs
 
--- src/one_leg.rt:177:1
 same-length-7 : tie.Need-same-length-7
 same-length-7 c = search needs
 
--- src/one_leg.rt:177:1
 same-length-8 : tie.Need-same-length-8
 same-length-8 c = search needs
 
--- src/one_leg.rt:177:1
 same-length-9 : tie.Need-same-length-9
 same-length-9 c = search needs
 
--- src/one_leg.rt:177:1
 same-length-10 : tie.Need-same-length-10
 same-length-10 c = search needs
 
--- src/one_leg.rt:177:1
 returns-2 : tie.Need-returns-2
 unfolding ofBits
-returns-2 c = 
+returns-2 c =
     let a = c .before .before .before .before .before .before .before .before .before .before .before .before .before .before .before .before .before .before .before .before .before .before .before .before .before .before .before .before .args in
     record-out (a .l .converged) (a .tally .found) (a .tally .weight) _ (a .tally .«num_converged») (a .tally .«total_iterations») (a .leg-state .now) (a .leg-iterations .now) (a .leg-weight .now) _ _ _ (a .row .now) _ (a .correction .now) _ (a .leg) (a .l .iterations) (c .before .before .before .before .before .before .before .before .before .before .before .before .before .before .before .before .before .before .before .before .before .if1 .left) (c .before .before .before .before .before .before .before .before .before .before .before .before .before .before .before .before .before .write-leg2 .ensures) (c .before .before .before .before .clear-bytes .ensures) (c .before .before .before .before .before .before .before .before .keep-last .ensures)
 
