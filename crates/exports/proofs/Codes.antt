@@ -12,7 +12,8 @@ use Rattle.refusals.specs.Refusal.{numberOf, placeOf}
 use Rattle.graph.specs.Graph.{Graph}
 use Rattle.graph.specs.Model.{Outcome, outcome}
 use Rattle.min_sum.specs.Beliefs.{Lists, Outcome as BeliefsOutcome, outcome as beliefsOutcome}
-use Rattle.exports.specs.Answers.{placeCode, codeOf, sent, sentOf, left, leftBy}
+use Rattle.relay.specs.Calls.{StepLists, StepOutcome, stepOutcome}
+use Rattle.exports.specs.Answers.{placeCode, codeOf, sent, sentOf, left, leftBy, stepLeft, stepLeftBy}
 
 -- a refusal's number is far below 65,536
 pub number-small : (r : Refusal) → numberOf r < 65536
@@ -64,3 +65,7 @@ sent-as code a g o is-code is-outcome = ap (λ k. sent k g) is-code ∙ ap sentO
 -- the same of `beliefs`
 pub left-as : (code : ℕ) (a : Answer) (l : Lists) (o : BeliefsOutcome) → code ≡ codeOf a → beliefsOutcome a l ≡ o → left code l ≡ leftBy o
 left-as code a l o is-code is-outcome = ap (λ k. left k l) is-code ∙ ap leftBy is-outcome
+
+-- and of `iteration`
+pub step-left-as : (code : ℕ) (a : Answer) (l : StepLists) (o : StepOutcome) → code ≡ codeOf a → stepOutcome a l ≡ o → stepLeft code l ≡ stepLeftBy o
+step-left-as code a l o is-code is-outcome = ap (λ k. stepLeft k l) is-code ∙ ap stepLeftBy is-outcome

@@ -1,5 +1,5 @@
 -- How answers pass through the C calling convention. Definitions only. Assumes nothing.
-use Prim.Native.Nat.{ℕ, _+_, _*_, _%_}
+use Prim.Native.Nat.{ℕ, zero, suc, _+_, _*_, _%_}
 use mathlib.Core.Bool.{Bool, true, false}
 use Rattle.refusals.specs.declared.Answer.{Answer}
 use Rattle.refusals.specs.declared.Answer.the-variants.{Done, Refused}
@@ -8,6 +8,11 @@ use Rattle.refusals.specs.declared.Place.the-variants.{Nowhere, At}
 use Rattle.refusals.specs.Refusal.{numberOf, placeOf}
 use Rattle.graph.specs.Graph.{Graph}
 use Rattle.graph.specs.Model.{Outcome}
+use Rattle.settings.specs.declared.Schedule.{Schedule}
+use Rattle.settings.specs.declared.Schedule.the-variants.{Flooding, CheckSerial}
+use Rattle.settings.specs.declared.GammaSource.{GammaSource}
+use Rattle.settings.specs.declared.GammaSource.the-variants.{Explicit, Seeded}
+use Rattle.relay.specs.Calls.{StepLists, StepOutcome}
 use Rattle.min_sum.specs.Beliefs.{Lists, Outcome as BeliefsOutcome}
 
 -- 1 for true, 0 for false
@@ -53,3 +58,27 @@ left code l = record { code = code; lists = l }
 -- an outcome of `beliefs`, its answer as a code
 abbrev pub leftBy : BeliefsOutcome → Left
 leftBy o = left (codeOf (o .answer)) (o .left)
+
+-- ---- Relay
+
+-- a byte that is 0 is Flooding
+abbrev pub scheduleOf : ℕ → Schedule
+scheduleOf zero = Flooding
+scheduleOf (suc n) = CheckSerial
+
+-- where a byte is 0 the gammas are drawn, and else they are explicit sets
+abbrev pub sourceOf : ℕ → ℕ → GammaSource
+sourceOf zero sets = Seeded
+sourceOf (suc n) sets = Explicit sets
+
+-- the code of a single iteration, and its lent lists as the call leaves them
+pub record StepLeft : Type 0 where
+  pub code : ℕ
+  pub lists : StepLists
+
+abbrev pub stepLeft : ℕ → StepLists → StepLeft
+stepLeft code l = record { code = code; lists = l }
+
+-- an outcome of `iteration`, its answer as a code
+abbrev pub stepLeftBy : StepOutcome → StepLeft
+stepLeftBy o = stepLeft (codeOf (o .answer)) (o .left)

@@ -3,6 +3,7 @@
 mod answers;
 mod beliefs;
 mod graphs;
+mod steps;
 
 ghost use mathlib.Core.Path.{_≡_};
 ghost use Rattle.numbers.specs.Floats.{abs, isFinite, isNegative, messageSign};

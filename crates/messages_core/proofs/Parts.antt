@@ -7,7 +7,7 @@ use native.Mathlib.Omega.{arith}
 use lib.ListN.{length, getD}
 use Rattle.numbers.specs.Loops.{part}
 use Rattle.numbers.proofs.Loops.{length-part, getD-part}
-use Rattle.messages_core.specs.Needs.{Offsets, Entries, Walks}
+use Rattle.messages_core.specs.Needs.{Offsets, Entries, Rises, RowsRise, Walks}
 
 -- where a row's part begins and ends, as the code reads it
 pub bounds : (rows n : ℕ) (off : List ℕ) (r a e : ℕ) → Offsets rows n off → r < rows → a ≡ getD off r 0 → e ≡ getD off (r + 1) 0 → (a ≤ e) × (e ≤ n)
@@ -33,3 +33,7 @@ walks-both rows rows′ n m entries off r e w = rw (r, e) at w
 -- the same of entries
 pub entries-along : (n m : ℕ) (xs : List ℕ) → n ≡ m → Entries n xs → Entries m xs
 entries-along n m xs e h = rw e at h
+
+-- the part of a row rises, as the code reads it
+pub part-rises : (rows : ℕ) (xs off : List ℕ) (r a e : ℕ) → RowsRise rows xs off → r < rows → a ≡ getD off r 0 → e ≡ getD off (r + 1) 0 → Rises (part a e xs)
+part-rises rows xs off r a e o h p q = rw (p, rw add-one at q) (o .row-rises r h)

@@ -3,15 +3,16 @@
 use refusals::Answer;
 use refusals::Refusal;
 ghost use mathlib.Core.Path.{_≡_};
+ghost use mathlib.Core.Bool.{cond};
 ghost use mathlib.Core.List.{map};
 ghost use Prim.Native.Nat.{_<_};
-ghost use lib.Ieee.{nan};
+ghost use lib.Ieee.{nan, lt};
 ghost use lib.ListN.{length, getD, replicate};
-ghost use Rattle.numbers.specs.Floats.{zero⁺, isFinite};
+ghost use Rattle.numbers.specs.Floats.{zero⁺, abs, isFinite};
 ghost use Rattle.refusals.specs.declared.Refusal.the-variants.{NonFinite};
 ghost use Rattle.refusals.specs.Tests.{unless, firstOf};
 ghost use Rattle.graph.specs.Messages.{total as totalOf, scanOf, startScan, valueFault};
-ghost use Rattle.messages_core.specs.Needs.{Entries};
+ghost use Rattle.messages_core.specs.Needs.{Entries, Ordered};
 
 // An entry of a list of indices.
 pub fn at(xs: &[u32], i: usize) -> usize
@@ -47,6 +48,64 @@ pub fn start_scan(odd: bool, nobody: usize) -> Scan
         min1: top,
         min2: top,
         least: nobody,
+    }
+}
+
+// The lesser of two, by one instruction and no branch.
+fn lesser(a: f64, b: f64) -> f64
+    ensures { λ r. ⌜ r ≡ cond (lt a b) a b ⌝ }
+{
+    if a < b {
+        return a;
+    }
+    b
+}
+
+// The greater of two.
+fn greater(a: f64, b: f64) -> f64
+    ensures { λ r. ⌜ r ≡ cond (lt b a) a b ⌝ }
+{
+    if b < a {
+        return a;
+    }
+    b
+}
+
+// Whose the least is, after one more magnitude.
+fn least_of(magnitude: f64, min1: f64, own: usize, least: usize) -> usize
+    ensures { λ r. ⌜ r ≡ cond (lt magnitude min1) own least ⌝ }
+{
+    if magnitude < min1 {
+        return own;
+    }
+    least
+}
+
+// The next least, after one more magnitude: not below the least, and else the lesser of the two. Branches would be mispredicted: there is no telling which message
+// is the least.
+fn next_least(message: f64, magnitude: f64, min1: f64, min2: f64) -> f64
+    requires { ⌜ (magnitude ≡ abs message) ⌝ }
+    requires { ⌜ Ordered min1 min2 ⌝ }
+    ensures { λ r. ⌜ r ≡ cond (lt magnitude min1) min1 (cond (lt magnitude min2) magnitude min2) ⌝ }
+{
+    greater(min1, lesser(magnitude, min2))
+}
+
+// The scan, one message further, with its total sign: strict comparison keeps the first minimum.
+pub fn lowered(s: Scan, sign: f64, own: usize, message: f64) -> Scan
+    requires { ⌜ Ordered (s .min1) (s .min2) ⌝ }
+    ensures scan { λ r. ⌜ scanOf (r .«total_sign») (r .min1) (r .min2) (r .least) ≡ scanOf sign (cond (lt (abs message) (s .min1)) (abs message) (s .min1)) (cond (lt (abs message) (s .min1)) (s .min1) (cond (lt (abs message) (s .min2)) (abs message) (s .min2))) (cond (lt (abs message) (s .min1)) own (s .least)) ⌝ }
+    ensures ordered { λ r. ⌜ Ordered (r .min1) (r .min2) ⌝ }
+{
+    let magnitude = numbers::magnitude(message);
+    let min1 = lesser(magnitude, s.min1);
+    let min2 = next_least(message, magnitude, s.min1, s.min2);
+    let least = least_of(magnitude, s.min1, own, s.least);
+    Scan {
+        total_sign: sign,
+        min1: min1,
+        min2: min2,
+        least: least,
     }
 }
 

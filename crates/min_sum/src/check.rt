@@ -1,12 +1,15 @@
 // One check, over its own messages: a pass that finds the total sign and the two least magnitudes, and a pass that sends.
 use messages_core::Scan;
+use messages_core::lowered;
 use messages_core::start_scan;
 ghost use mathlib.Core.Path.{_≡_};
 ghost use Prim.Native.Nat.{_≤_};
 ghost use lib.ListN.{length};
+ghost use Rattle.numbers.specs.Floats.{_*ᶠ_};
 ghost use Rattle.numbers.specs.Loops.{part, spliced};
 ghost use Rattle.graph.specs.Messages.{scanOf};
-ghost use Rattle.min_sum.specs.MinSum.{flippedBy, scanned as scannedOf, scan as scanTo, signWithout, sent as sentOf, checkMessages};
+ghost use Rattle.messages_core.specs.Needs.{Ordered};
+ghost use Rattle.min_sum.specs.MinSum.{flippedBy, scanned as scannedOf, scan as scanTo, signWithout, sentTo, checkMessages};
 
 // -sign below zero, else sign.
 fn flipped(sign: f64, message: f64) -> f64
@@ -20,32 +23,11 @@ fn flipped(sign: f64, message: f64) -> f64
 
 // The message at a position.
 fn scanned(s: Scan, position: usize, message: f64) -> Scan
-    ensures { λ r. ⌜ scanOf (r .«total_sign») (r .min1) (r .min2) (r .least) ≡ scannedOf (scanOf (s .«total_sign») (s .min1) (s .min2) (s .least)) position message ⌝ }
+    requires { ⌜ Ordered (s .min1) (s .min2) ⌝ }
+    ensures scan { λ r. ⌜ scanOf (r .«total_sign») (r .min1) (r .min2) (r .least) ≡ scannedOf (scanOf (s .«total_sign») (s .min1) (s .min2) (s .least)) position message ⌝ }
+    ensures ordered { λ r. ⌜ Ordered (r .min1) (r .min2) ⌝ }
 {
-    let sign = flipped(s.total_sign, message);
-    let magnitude = numbers::magnitude(message);
-    if magnitude < s.min1 {
-        return Scan {
-            total_sign: sign,
-            min1: magnitude,
-            min2: s.min1,
-            least: position,
-        };
-    }
-    if magnitude < s.min2 {
-        return Scan {
-            total_sign: sign,
-            min1: s.min1,
-            min2: magnitude,
-            least: s.least,
-        };
-    }
-    Scan {
-        total_sign: sign,
-        min1: s.min1,
-        min2: s.min2,
-        least: s.least,
-    }
+    lowered(s, flipped(s.total_sign, message), position, message)
 }
 
 // The first pass.
@@ -71,27 +53,35 @@ fn sign_without(total_sign: f64, message: f64) -> f64
     1.0
 }
 
-// The message sent at a position.
-fn sent(scale: f64, s: Scan, position: usize, message: f64) -> f64
-    ensures { λ r. ⌜ r ≡ sentOf scale (scanOf (s .«total_sign») (s .min1) (s .min2) (s .least)) position message ⌝ }
+// A message sent: (sign times minimum) times scale.
+fn sent(scale: f64, total_sign: f64, minimum: f64, message: f64) -> f64
+    ensures { λ r. ⌜ r ≡ signWithout «total_sign» message *ᶠ minimum *ᶠ scale ⌝ }
 {
-    let sign = sign_without(s.total_sign, message);
-    if position == s.least {
-        return sign * s.min2 * scale;
-    }
-    sign * s.min1 * scale
+    sign_without(total_sign, message) * minimum * scale
 }
 
-// All that a check of two entries or more sends, from all that came in.
+// One minimum sent at all positions.
+fn send(scale: f64, total_sign: f64, minimum: f64, v_to_c: &[f64], c_to_v: &mut [f64])
+    requires { ⌜ length (now «c_to_v») ≡ length (now «v_to_c») ⌝ }
+    ensures { λ _. ⌜ now («c_to_v» .exit) ≡ sentTo scale (scanOf «total_sign» minimum minimum 0) (now («v_to_c» .entry)) (length (now («v_to_c» .entry))) ⌝ }
+{
+    let mut i = 0;
+    while i < v_to_c.len() {
+        c_to_v[i] = sent(scale, total_sign, minimum, v_to_c[i]);
+        i += 1;
+    }
+}
+
+// All that a check of two entries or more sends, from all that came in: the least at all positions, and the next at the position of the least.
 fn update_check(scale: f64, odd: bool, v_to_c: &[f64], c_to_v: &mut [f64])
     requires { ⌜ length (now «c_to_v») ≡ length (now «v_to_c») ⌝ }
     ensures { λ _. ⌜ now («c_to_v» .exit) ≡ checkMessages scale odd (now («v_to_c» .entry)) ⌝ }
 {
     let s = scan_check(odd, v_to_c);
-    let mut i = 0;
-    while i < v_to_c.len() {
-        c_to_v[i] = sent(scale, s, i, v_to_c[i]);
-        i += 1;
+    send(scale, s.total_sign, s.min1, v_to_c, c_to_v);
+    let least = s.least;
+    if least < v_to_c.len() {
+        c_to_v[least] = sent(scale, s.total_sign, s.min2, v_to_c[least]);
     }
 }
 

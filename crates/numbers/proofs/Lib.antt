@@ -3,5 +3,6 @@ pub mod Tests
 pub mod Cases
 pub mod Floats
 pub mod Bits
+pub mod Order
 pub mod Loops
 pub mod Product

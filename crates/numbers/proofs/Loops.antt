@@ -8,9 +8,10 @@ use Prim.Native.Nat.{ℕ, zero, suc, _+_, _-_, _<_, _≤_}
 use native.Mathlib.Nat.{not-suc-le-zero, le-of-suc-le-suc}
 use native.Mathlib.Decide.{decLt}
 use native.Mathlib.Omega.{arith}
-use lib.ListN.{length, getD, take, drop, length-append, length-drop, List·getD-append}
-use lib.Seq.{length-take-le, getD-take, getD-drop, getD-append-add}
+use lib.ListN.{length, getD, take, drop, set, length-append, length-drop, length-set, List·getD-append}
+use lib.Seq.{length-take-le, getD-take, getD-drop, getD-append-add, ext-getD, getD-set-same, getD-set-other}
 use borrow.Author.Count.{below-more}
+use Rattle.numbers.proofs.Cases.{equal-or-not}
 use Rattle.numbers.proofs.Tests.{and-left, and-right}
 use Rattle.numbers.specs.Loops.{table, every, part, spliced}
 
@@ -54,6 +55,22 @@ module _ {ℓ} {A : Type ℓ} where
           let e : i ≡ length (table n f) + 0 = omega (arith, length-table n f) in
           let w : n ≡ i = omega arith in
           ap (λ m. getD (table (suc n) f) m d) e ∙ getD-append-add (table n f) (f n ∷ []) 0 d ∙ ap f w
+
+  -- tables that agree
+  pub tables-agree : (n : ℕ) (f h : ℕ → A) → ((i : ℕ) → i < n → h i ≡ f i) → table n h ≡ table n f
+  tables-agree zero f h e = refl
+  tables-agree (suc n) f h e = rw (tables-agree n f h (λ i l. e i (omega arith)), e n (omega arith))
+
+  -- tables that agree but at one place, where that is put right
+  pub but-one : (n : ℕ) (f h : ℕ → A) (l : ℕ) (d : A) → l < n → ((i : ℕ) → i < n → (i ≡ l → ⊥) → h i ≡ f i) → set (table n h) l (f l) ≡ table n f
+  but-one n f h l d k e = ext-getD d _ _ (length-set (table n h) l (f l) ∙ length-table n h ∙ sym (length-table n f)) (λ i m. at i (omega (arith, length-set (table n h) l (f l), length-table n h, m)))
+    where
+      at : (i : ℕ) → i < n → getD (set (table n h) l (f l)) i d ≡ getD (table n f) i d
+      at i m = by (equal-or-not i l)
+        where
+          by : (i ≡ l) ⊎ (i ≡ l → ⊥) → getD (set (table n h) l (f l)) i d ≡ getD (table n f) i d
+          by (inl q) = rw q (getD-set-same (table n h) l (f l) d (omega (arith, length-table n h)) ∙ sym (getD-table n f l d k))
+          by (inr q) = getD-set-other (table n h) l i (f l) d q ∙ getD-table n h i d m ∙ e i m q ∙ sym (getD-table n f i d m)
 
   -- ---- part
 

@@ -23,15 +23,15 @@ use Rattle.graph.proofs.GraphTests.{graph-told}
 use Rattle.messages_core.specs.Needs.{Entries, Walks, walked, ofVariables}
 use Rattle.messages_core.proofs.Parts.{walks-both}
 use Rattle.messages_core.proofs.Walks.{graph-walks}
-use Rattle.relay.specs.declared.Schedule.{Schedule}
-use Rattle.relay.specs.declared.Schedule.the-variants.{Flooding, CheckSerial}
+use Rattle.settings.specs.declared.Schedule.{Schedule}
+use Rattle.settings.specs.declared.Schedule.the-variants.{Flooding, CheckSerial}
 use Rattle.relay.specs.declared.LegRecord.{LegRecord}
 use Rattle.relay.specs.declared.LegRecord.the-variants as LegRecord
-use Rattle.relay.specs.Step.{State, state, updateCheck, updateVariable, checkPass, variablePass, floodingIteration, serialCheck, serialPass, checkSerialIteration, iteration}
-use Rattle.relay.specs.Order.{namesOnce, namesFault}
+use Rattle.relay_core.specs.Step.{State, state, updateCheck, updateVariable, checkPass, variablePass, floodingIteration, serialCheck, serialPass, checkSerialIteration, iteration}
+use Rattle.orders_core.specs.Order.{namesOnce, namesFault}
 use Rattle.relay.specs.Calls.{byteFault, syndromeFault, StepLists, stepLists, StepOutcome, stepOutcome, stepFits, finiteAt, stepFault, messageFinite, mechanismFinite, mechanismFault, stepEnd, stepped, afterStepTests, iterationCall, recordOf, legRecord}
-use Rattle.relay.proofs.All.{all-at}
-use Rattle.relay.proofs.Counts.{names-below, names-once-is}
+use Rattle.orders_core.proofs.All.{all-at}
+use Rattle.orders_core.proofs.Counts.{names-below, names-once-is}
 
 -- ---- one test after another
 

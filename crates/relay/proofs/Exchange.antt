@@ -17,10 +17,10 @@ use Rattle.graph.specs.Graph.{Graph, checkEntries, varEntries}
 use Rattle.graph.specs.Messages.{total}
 use Rattle.graph.specs.Sound.{Sound}
 use Rattle.graph.proofs.Cuts.{offsets-rise}
-use Rattle.relay.specs.Step.{State, state, sentTo, checkMessages, updateCheck, written, updateVariable, serialCheck}
-use Rattle.relay.specs.Order.{shares}
-use Rattle.relay.proofs.All.{All, nil, cons, all-map, all-places, all-at, all-head, all-tail, any-none, or-left, or-right}
-use Rattle.relay.proofs.Parts.{Stands, out, within, stands, part-set, spliced-swap}
+use Rattle.relay_core.specs.Step.{State, state, sentTo, checkMessages, updateCheck, written, updateVariable, serialCheck}
+use Rattle.orders_core.specs.Order.{shares}
+use Rattle.orders_core.proofs.All.{All, nil, cons, all-map, all-places, all-at, all-head, all-tail, any-none, or-left, or-right}
+use Rattle.relay_core.proofs.Parts.{Stands, out, within, stands, part-set, spliced-swap}
 
 -- ---- what the graph and the state are like
 

@@ -22,19 +22,19 @@ use Rattle.graph.proofs.GraphTests.{graph-told}
 use Rattle.messages_core.specs.Needs.{Offsets, Entries, ofChecks}
 use Rattle.messages_core.proofs.Parts.{walks-both, entries-along}
 use Rattle.messages_core.proofs.Walks.{graph-walks}
-use Rattle.relay.specs.declared.Schedule.{Schedule}
-use Rattle.relay.specs.declared.Schedule.the-variants.{Flooding, CheckSerial}
-use Rattle.relay.specs.declared.GammaSource.the-variants.{Explicit}
-use Rattle.relay.specs.declared.Settings.{Settings}
+use Rattle.settings.specs.declared.Schedule.{Schedule}
+use Rattle.settings.specs.declared.Schedule.the-variants.{Flooding, CheckSerial}
+use Rattle.settings.specs.declared.GammaSource.the-variants.{Explicit}
+use Rattle.settings.specs.declared.Settings.{Settings}
 use Rattle.relay.specs.declared.Decoded.the-variants as Decoded
-use Rattle.relay.specs.Settings.{preGood, legIterationsGood, setsGood, sourceFault, settingsFault}
-use Rattle.relay.specs.Order.{upto, namesOnce, namesFault, exchangeFault}
+use Rattle.settings.specs.Settings.{preGood, legIterationsGood, setsGood, sourceFault, settingsFault}
+use Rattle.orders_core.specs.Order.{upto, namesOnce, namesFault, exchangeFault}
 use Rattle.relay.specs.Decode.{Shot, decodeLegs}
 use Rattle.relay.specs.Calls.{syndromeFault, Lists, Outcome, outcome, listsFit, decodeFault, afterLegs, decodeInOrder, decode}
 use Rattle.relay.specs.Kept.{Reads, shotOf, shotFault}
-use Rattle.relay.proofs.All.{all-at}
-use Rattle.relay.proofs.Counts.{names-below, names-once-is}
-use Rattle.relay.proofs.OrderWords.{upto-names, index-taken}
+use Rattle.orders_core.proofs.All.{all-at}
+use Rattle.orders_core.proofs.Counts.{names-below, names-once-is}
+use Rattle.orders_core.proofs.OrderWords.{upto-names, index-taken}
 use Rattle.relay.proofs.WholeGraph.{whole, legs-read-four}
 
 -- ---- 22

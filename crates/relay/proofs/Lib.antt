@@ -1,16 +1,8 @@
-pub mod All
 pub mod Copies
 pub mod Rearrange
-pub mod Counts
 pub mod Witness
-pub mod Parts
 pub mod Exchange
 pub mod SameOutcome
-pub mod OrderTests
-pub mod OrderWords
-pub mod Variables
-pub mod Passes
-pub mod Legs
 pub mod AnyOrder
 pub mod Calls
 pub mod Records
@@ -18,5 +10,4 @@ pub mod Runs
 pub mod Shots
 pub mod WholeGraph
 pub mod Faults
-pub mod Draws
 pub mod Theorems

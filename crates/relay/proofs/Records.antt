@@ -15,14 +15,14 @@ use Rattle.numbers.specs.Loops.{spliced}
 use Rattle.numbers.proofs.Loops.{length-spliced, spliced-out, spliced-in}
 use Rattle.graph.specs.Messages.{fromVariables, cleared}
 use Rattle.messages_core.specs.Needs.{walked, ofChecks}
-use Rattle.relay.specs.declared.Settings.{Settings}
-use Rattle.relay.specs.declared.GammaSource.the-variants.{Explicit}
-use Rattle.relay.specs.Step.{State, state, iteration}
-use Rattle.relay.specs.Gammas.{gammaOf}
-use Rattle.relay.specs.Leg.{Leg, leg, startLeg, hardDecision, matches, satisfied, runLeg, correctionWeight}
+use Rattle.settings.specs.declared.Settings.{Settings}
+use Rattle.settings.specs.declared.GammaSource.the-variants.{Explicit}
+use Rattle.relay_core.specs.Step.{State, state, iteration}
+use Rattle.relay_core.specs.Gammas.{gammaOf}
+use Rattle.relay_core.specs.Leg.{Leg, leg, startLeg, hardDecision, matches, satisfied, runLeg, correctionWeight}
 use Rattle.relay.specs.Decode.{Shot, isNoneOr, iterationLimit, stepOf, executedLeg}
 use Rattle.relay.specs.Kept.{shotOf, Reads, bestOf, Kept, kept, bestAfter, corrected, keptWith, rowAfter, keptAfter, Blank}
-use Rattle.relay.proofs.Parts.{Stands, out, within, stands}
+use Rattle.relay_core.proofs.Parts.{Stands, out, within, stands}
 
 -- ---- the limit
 

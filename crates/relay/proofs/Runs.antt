@@ -15,7 +15,7 @@ use Rattle.refusals.specs.declared.Answer.the-variants.{Done, Refused}
 use Rattle.refusals.specs.Tests.{isDone, firstOf}
 use Rattle.graph.specs.Messages.{valueFault, posteriorFault}
 use Rattle.relay.specs.declared.Decoded.{Decoded}
-use Rattle.relay.specs.Leg.{Leg, hardDecision, correctionWeight}
+use Rattle.relay_core.specs.Leg.{Leg, hardDecision, correctionWeight}
 use Rattle.relay.specs.Decode.{Shot, Run, Ended, decoded, refused, Progress, running, finished, isNoneOr, executedLeg, startRun, recorded, judged, afterLeg, legs, decodeLegs, correctionOf}
 use Rattle.relay.specs.Calls.{answered}
 use Rattle.relay.specs.Kept.{Kept, kept, keptOf, corrected, keptWith, keptAfter, Blank, answerOf, isRefused, answerBy, Results, results, resultsOf, started}

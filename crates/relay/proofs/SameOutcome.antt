@@ -10,15 +10,15 @@ use Rattle.refusals.specs.declared.Answer.the-variants.{Done}
 use Rattle.graph.specs.Graph.{Graph, checkEntries}
 use Rattle.graph.specs.Messages.{fromVariables, cleared}
 use Rattle.graph.specs.Sound.{Sound}
-use Rattle.relay.specs.declared.Schedule.{Schedule}
-use Rattle.relay.specs.declared.Schedule.the-variants.{Flooding, CheckSerial}
-use Rattle.relay.specs.Step.{State, updateCheck, computeBias, checkPass, variablePass, floodingIteration, serialCheck, serialPass, checkSerialIteration, iteration}
-use Rattle.relay.specs.Order.{upto, NamesOnce, exchanged, exchangeFault}
-use Rattle.relay.specs.Leg.{startLeg, runLeg, satisfied}
-use Rattle.relay.specs.Gammas.{gammaOf}
+use Rattle.settings.specs.declared.Schedule.{Schedule}
+use Rattle.settings.specs.declared.Schedule.the-variants.{Flooding, CheckSerial}
+use Rattle.relay_core.specs.Step.{State, updateCheck, computeBias, checkPass, variablePass, floodingIteration, serialCheck, serialPass, checkSerialIteration, iteration}
+use Rattle.orders_core.specs.Order.{upto, NamesOnce, exchanged, exchangeFault}
+use Rattle.relay_core.specs.Leg.{startLeg, runLeg, satisfied}
+use Rattle.relay_core.specs.Gammas.{gammaOf}
 use Rattle.relay.specs.Decode.{Shot, Run, Progress, running, finished, iterationLimit, stepOf, executedLeg, startRun, recorded, afterLeg, legs, decodeLegs}
 use Rattle.relay.specs.Calls.{withOrder}
-use Rattle.relay.proofs.Counts.{names-below}
+use Rattle.orders_core.proofs.Counts.{names-below}
 use Rattle.relay.proofs.Rearrange.{keeps, same}
 use Rattle.relay.proofs.Witness.{FreeIf, orders, Apart, kept, kept-any}
 use Rattle.relay.proofs.Exchange.{Sized, keep-check, keep-variable, keep-serial, swap-checks, swap-serial}

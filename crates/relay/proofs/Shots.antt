@@ -14,9 +14,9 @@ use lib.Seq.{take-at, length-take-le}
 use borrow.Author.Tests.{not-true, not-false}
 use Rattle.numbers.specs.Floats.{zero⁺}
 use Rattle.numbers.proofs.Cases.{either}
-use Rattle.relay.specs.declared.Settings.{Settings}
+use Rattle.settings.specs.declared.Settings.{Settings}
 use Rattle.relay.specs.declared.Decoded.{Decoded}
-use Rattle.relay.specs.Order.{upto}
+use Rattle.orders_core.specs.Order.{upto}
 use Rattle.relay.specs.Decode.{Shot, Run, Ended, decoded, refused, decodeLegs, correctionOf}
 use Rattle.relay.specs.Calls.{Lists, Outcome, outcome, answered, leftBy, zeroed, afterLegs}
 use Rattle.relay.specs.Kept.{shotOf, Reads, answerOf, isRefused, Results, results, resultsOf, started}

@@ -8,12 +8,12 @@ use lib.ListN.{length}
 use Rattle.graph.specs.Graph.{graph}
 use Rattle.graph.specs.Messages.{fromVariables, cleared, posteriorFault}
 use Rattle.messages_core.specs.Needs.{walked}
-use Rattle.relay.specs.declared.Schedule.{Schedule}
-use Rattle.relay.specs.declared.Schedule.the-variants.{Flooding, CheckSerial}
-use Rattle.relay.specs.declared.Settings.{Settings}
-use Rattle.relay.specs.Step.{updateCheck, updateVariable, checkPass, variablePass, floodingIteration, serialCheck, serialPass, checkSerialIteration, iteration}
-use Rattle.relay.specs.Gammas.{gammaOf}
-use Rattle.relay.specs.Leg.{startLeg, runLeg, matches, satisfied}
+use Rattle.settings.specs.declared.Schedule.{Schedule}
+use Rattle.settings.specs.declared.Schedule.the-variants.{Flooding, CheckSerial}
+use Rattle.settings.specs.declared.Settings.{Settings}
+use Rattle.relay_core.specs.Step.{updateCheck, updateVariable, checkPass, variablePass, floodingIteration, serialCheck, serialPass, checkSerialIteration, iteration}
+use Rattle.relay_core.specs.Gammas.{gammaOf}
+use Rattle.relay_core.specs.Leg.{startLeg, runLeg, matches, satisfied}
 use Rattle.relay.specs.Decode.{Shot, Run, Ended, decoded, refused, Progress, running, finished, iterationLimit, stepOf, executedLeg, startRun, recorded, afterLeg, legs, decodeLegs}
 use Rattle.relay.specs.Calls.{Lists, Outcome, leftBy, zeroed, afterLegs}
 use Rattle.relay.specs.Kept.{shotOf}

@@ -10,9 +10,9 @@ use borrow.Author.Tests.{lt-ltb}
 use Rattle.refusals.specs.declared.Refusal.the-variants.{OrderExchanged}
 use Rattle.refusals.specs.declared.Answer.{Answer}
 use Rattle.refusals.specs.declared.Answer.the-variants.{Done, Refused}
-use Rattle.relay.specs.Order.{count, NamesOnce, shares, above, late, exchanged}
-use Rattle.relay.proofs.All.{All, nil, cons, all-map, all-zip, all-always, all-left, all-right, all-without, all-head, any-none}
-use Rattle.relay.proofs.Counts.{count-same, count-other, count-insert, found, names-below}
+use Rattle.orders_core.specs.Order.{count, NamesOnce, shares, above, late, exchanged}
+use Rattle.orders_core.proofs.All.{All, nil, cons, all-map, all-zip, all-always, all-left, all-right, all-without, all-head, any-none}
+use Rattle.orders_core.proofs.Counts.{count-same, count-other, count-insert, found, names-below}
 use Rattle.relay.proofs.Rearrange.{Orders}
 
 -- R of each two that stand the other way round: x before a lower y

@@ -15,14 +15,14 @@ use Rattle.refusals.specs.declared.Answer.the-variants.{Done, Refused}
 use Rattle.refusals.specs.Tests.{unless, orElse, firstOf, unlessRefused}
 use Rattle.graph.specs.Graph.{Graph, varEntries}
 use Rattle.graph.specs.Model.{graphFault}
-use Rattle.relay.specs.declared.Schedule.{Schedule}
+use Rattle.settings.specs.declared.Schedule.{Schedule}
 use Rattle.relay.specs.declared.Decoded.{Decoded}
 use Rattle.relay.specs.declared.Decoded.the-variants as Decoded
 use Rattle.relay.specs.declared.LegRecord.{LegRecord}
 use Rattle.relay.specs.declared.LegRecord.the-variants as LegRecord
-use Rattle.relay.specs.Settings.{alphaGood, settingsFault}
-use Rattle.relay.specs.Step.{State, state, iteration}
-use Rattle.relay.specs.Order.{upto, namesFault, exchangeFault}
+use Rattle.settings.specs.Settings.{alphaGood, settingsFault}
+use Rattle.relay_core.specs.Step.{State, state, iteration}
+use Rattle.orders_core.specs.Order.{upto, namesFault, exchangeFault}
 use Rattle.relay.specs.Decode.{Shot, Run, Ended, decoded, refused, decodeLegs, correctionOf}
 
 -- 21 for one check: its byte is 0 or 1

@@ -15,12 +15,12 @@ use Rattle.refusals.specs.declared.Refusal.the-variants.{LentListLength}
 use Rattle.refusals.specs.Tests.{unless, orElse}
 use Rattle.graph.specs.Model.{graphFault}
 use Rattle.messages_core.specs.Needs.{Entries, Walks, walked}
-use Rattle.relay.specs.declared.Settings.{Settings}
-use Rattle.relay.specs.declared.GammaSource.the-variants.{Explicit}
+use Rattle.settings.specs.declared.Settings.{Settings}
+use Rattle.settings.specs.declared.GammaSource.the-variants.{Explicit}
 use Rattle.relay.specs.declared.Decoded.{Decoded}
 use Rattle.relay.specs.declared.Decoded.the-variants as Decoded
-use Rattle.relay.specs.Settings.{settingsFault}
-use Rattle.relay.specs.Leg.{Leg, hardDecision, correctionWeight}
+use Rattle.settings.specs.Settings.{settingsFault}
+use Rattle.relay_core.specs.Leg.{Leg, hardDecision, correctionWeight}
 use Rattle.relay.specs.Decode.{Shot, Run, Ended, decoded, refused, isNoneOr, correctionOf}
 use Rattle.relay.specs.Calls.{Lists, syndromeFault, listsFit, answered}
 

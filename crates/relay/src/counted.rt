@@ -6,7 +6,7 @@ use crate::bytes::index;
 ghost use mathlib.Core.Path.{_≡_};
 ghost use Prim.Native.Nat.{suc, _*_, _≤_};
 ghost use lib.ListN.{length};
-ghost use Rattle.relay.specs.Order.{upto};
+ghost use Rattle.orders_core.specs.Order.{upto};
 ghost use Rattle.relay.specs.Decode.{decodeLegs};
 ghost use Rattle.relay.specs.Calls.{outcome, afterLegs};
 ghost use Rattle.relay.specs.Kept.{shotOf, Reads};

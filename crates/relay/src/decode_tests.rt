@@ -1,18 +1,18 @@
 // The tests before a decode, in document 01's order.
 use crate::Schedule;
 use crate::Settings;
-use crate::config::settings_fault;
-use crate::order::exchange_fault;
-use crate::order::is_index_order;
-use crate::order::names_fault;
 use crate::tests::syndrome_fault;
 use numbers::at_most;
 use numbers::both;
 use numbers::same_number;
+use orders_core::exchange_fault;
+use orders_core::is_index_order;
+use orders_core::names_fault;
 use refusals::Answer;
 use refusals::Refusal;
 use refusals::or_else;
 use refusals::unless;
+use settings::check_settings;
 ghost use mathlib.Core.Path.{_≡_};
 ghost use mathlib.Core.Bool.{_&&_};
 ghost use mathlib.Core.List.{[]};
@@ -22,7 +22,7 @@ ghost use lib.ListN.{length};
 ghost use Rattle.refusals.specs.Tests.{orElse};
 ghost use Rattle.graph.specs.Graph.{graph};
 ghost use Rattle.messages_core.specs.Needs.{Offsets, Entries, ofChecks};
-ghost use Rattle.relay.specs.Order.{namesFault, exchangeFault};
+ghost use Rattle.orders_core.specs.Order.{namesFault, exchangeFault};
 ghost use Rattle.relay.specs.Calls.{decodeFault};
 ghost use Rattle.relay.specs.Kept.{shotFault};
 
@@ -116,7 +116,7 @@ pub(crate) fn shot_fault(
     if !refusals::is_done(a) {
         return a;
     }
-    let b = settings_fault(t, size.mechanisms, gammas);
+    let b = check_settings(t, size.mechanisms, gammas);
     if !refusals::is_done(b) {
         return b;
     }

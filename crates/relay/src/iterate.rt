@@ -1,12 +1,12 @@
 // Past the tests of a single iteration: the step, 30 with the first mechanism that has a value that is not finite, and the lists that are zeroed.
 use crate::Schedule;
-use crate::step::step;
 use messages_core::at;
 use messages_core::clear;
 use numbers::both;
 use numbers::is_finite;
 use refusals::Answer;
 use refusals::Refusal;
+use relay_core::step::step;
 ghost use mathlib.Core.Path.{_≡_};
 ghost use mathlib.Core.List.{[]};
 ghost use Prim.Native.Nat.{_<_};
@@ -15,7 +15,7 @@ ghost use Rattle.numbers.specs.Floats.{zero⁺};
 ghost use Rattle.numbers.specs.Loops.{every};
 ghost use Rattle.refusals.specs.Tests.{unlessRefused};
 ghost use Rattle.messages_core.specs.Needs.{Entries, Walks, walked, ofVariables};
-ghost use Rattle.relay.specs.Step.{state, iteration};
+ghost use Rattle.relay_core.specs.Step.{state, iteration};
 ghost use Rattle.relay.specs.Calls.{messageFinite, mechanismFinite, stepEnd, stepLists, stepOutcome, stepped as steppedOf};
 
 // Both messages that each of these entries names are finite.

@@ -1,78 +1,27 @@
 // Relay-BP over a Tanner graph: its settings and its answers, one iteration in any order, and the reading of a leg's record. What they mean stands in specs/.
 mod all_legs;
 mod bytes;
-mod check;
-mod config;
 mod counted;
 mod decode_tests;
-mod gammas;
 mod iterate;
-mod leg;
 mod one_leg;
-mod order;
-mod step;
 mod tests;
-mod variable;
 
 use messages_core::at;
 use refusals::Answer;
 use refusals::Refusal;
 ghost use mathlib.Core.Path.{_≡_};
 ghost use Rattle.graph.specs.Graph.{graph};
-ghost use Rattle.relay.specs.Step.{state};
-ghost use Rattle.relay.specs.Settings.{published};
 ghost use mathlib.Core.List.{[]};
+ghost use Rattle.relay_core.specs.Step.{state};
 ghost use Rattle.relay.specs.Calls.{stepLists, stepOutcome, iterationCall, recordOf, legRecord, outcome, decodeInOrder, decode as decodeOf};
 
-// The order in which messages are passed within an iteration.
-pub enum Schedule {
-    // Every check, then every variable.
-    Flooding,
-    // Each check, and at once the variables that it touches.
-    CheckSerial,
-}
+// The settings' types, which `settings` declares.
+pub type Schedule = settings::Schedule;
 
-// Where the gammas of relayed legs come from.
-pub enum GammaSource {
-    // The given number of sets, one after the other in the flat list that is lent beside the settings.
-    Explicit(usize),
-    // SplitMix64, from the shot's seed and the leg.
-    Seeded,
-}
+pub type GammaSource = settings::GammaSource;
 
-// `RelayConfig`, with the interval's two ends and the gammas' source.
-pub struct Settings {
-    pub schedule: Schedule,
-    pub alpha: f64,
-    pub gamma0: f64,
-    pub pre_iterations: usize,
-    pub num_legs: usize,
-    pub leg_iterations: usize,
-    pub gamma_low: f64,
-    pub gamma_high: f64,
-    pub stop_after_converged: usize,
-    pub gamma_source: GammaSource,
-}
-
-impl Settings {
-    // `RelayConfig::default`: the published operating point.
-    pub fn published() -> Self
-        ensures { λ r. ⌜ r ≡ published ⌝ }
-    {
-        Self {
-            schedule: Schedule::Flooding,
-            alpha: 1.0,
-            gamma0: 0.1,
-            pre_iterations: 80,
-            num_legs: 40,
-            leg_iterations: 60,
-            gamma_low: -0.24,
-            gamma_high: 0.66,
-            stop_after_converged: 1,
-            gamma_source: GammaSource::Seeded,
-        }
-    }
-}
+pub type Settings = settings::Settings;
 
 // What a decode answers. The corrections, the posterior and the legs' records are in the lent lists.
 pub enum Decoded {

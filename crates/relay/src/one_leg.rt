@@ -2,12 +2,12 @@
 use crate::Settings;
 use crate::bytes::clear_bytes;
 use crate::bytes::copy_bytes;
-use crate::gammas::prepare_gamma;
-use crate::leg::Leg;
-use crate::leg::correction_weight;
-use crate::leg::run_leg;
 use messages_core::clear;
 use messages_core::from_variables;
+use relay_core::gammas::prepare_gamma;
+use relay_core::leg::Leg;
+use relay_core::leg::correction_weight;
+use relay_core::leg::run_leg;
 ghost use mathlib.Core.Path.{_≡_};
 ghost use mathlib.Core.Bool.{true, cond};
 ghost use mathlib.Core.List.{[]};
@@ -15,8 +15,8 @@ ghost use Prim.Native.Nat.{_+_, _*_, _<_, _≤_, suc};
 ghost use lib.ListN.{length, set, replicate};
 ghost use Rattle.numbers.specs.Floats.{zero⁺};
 ghost use Rattle.messages_core.specs.Needs.{Entries, walked};
-ghost use Rattle.relay.specs.Step.{state};
-ghost use Rattle.relay.specs.Leg.{leg as legOf, hardDecision, startLeg, correctionWeight};
+ghost use Rattle.relay_core.specs.Step.{state};
+ghost use Rattle.relay_core.specs.Leg.{leg as legOf, hardDecision, startLeg, correctionWeight};
 ghost use Rattle.relay.specs.Decode.{isNoneOr, iterationLimit, executedLeg};
 ghost use Rattle.relay.specs.Kept.{shotOf, Reads, bestOf, kept, bestAfter, corrected, keptWith, rowAfter, keptAfter, Blank};
 

@@ -1,13 +1,13 @@
 // The tests before a single iteration, in document 01's order, and those of a syndrome.
-use crate::config::alpha_good;
-use crate::order::names_fault;
 use numbers::both;
 use numbers::is_finite;
 use numbers::same_number;
+use orders_core::names_fault;
 use refusals::Answer;
 use refusals::Refusal;
 use refusals::or_else;
 use refusals::unless;
+use settings::alpha_good;
 ghost use mathlib.Core.Path.{_≡_};
 ghost use mathlib.Core.Bool.{_&&_};
 ghost use Prim.Native.Nat.{_≤_};
@@ -16,9 +16,9 @@ ghost use lib.ListN.{length};
 ghost use Rattle.refusals.specs.declared.Refusal.the-variants.{BadAlpha, LentListLength, StateNotFinite};
 ghost use Rattle.refusals.specs.Tests.{unless as unlessOf, orElse, firstOf};
 ghost use Rattle.graph.specs.Graph.{graph};
-ghost use Rattle.relay.specs.Settings.{alphaGood};
-ghost use Rattle.relay.specs.Step.{state};
-ghost use Rattle.relay.specs.Order.{namesFault};
+ghost use Rattle.settings.specs.Settings.{alphaGood};
+ghost use Rattle.relay_core.specs.Step.{state};
+ghost use Rattle.orders_core.specs.Order.{namesFault};
 ghost use Rattle.relay.specs.Calls.{byteFault, syndromeFault, allFinite, stateFinite, stepLists, stepFault};
 
 // A byte of a syndrome is 0 or 1.

@@ -10,11 +10,11 @@ use Rattle.graph.specs.Messages as Messages
 use Rattle.graph.specs.Model as Model
 use Rattle.min_sum.specs.MinSum as MinSum
 use Rattle.min_sum.specs.Beliefs as Beliefs
-use Rattle.relay.specs.Settings as Settings
-use Rattle.relay.specs.Step as Step
-use Rattle.relay.specs.Order as Order
-use Rattle.relay.specs.Leg as Leg
-use Rattle.relay.specs.Gammas as Gammas
+use Rattle.settings.specs.Settings as Settings
+use Rattle.relay_core.specs.Step as Step
+use Rattle.orders_core.specs.Order as Order
+use Rattle.relay_core.specs.Leg as Leg
+use Rattle.relay_core.specs.Gammas as Gammas
 use Rattle.relay.specs.Decode as Decode
 use Rattle.relay.specs.Calls as Calls
 use Rattle.runs.specs.Runs.{Table}

@@ -18,11 +18,11 @@ use Rattle.graph.specs.Graph.{Graph, graph, varEntries}
 use Rattle.graph.specs.Model as Model
 use Rattle.graph.specs.Model.{buildSparse}
 use Rattle.min_sum.specs.Beliefs as Beliefs
-use Rattle.relay.specs.declared.Settings.{Settings}
-use Rattle.relay.specs.declared.Schedule.{Schedule}
-use Rattle.relay.specs.declared.Schedule.the-variants.{Flooding, CheckSerial}
-use Rattle.relay.specs.declared.GammaSource.the-variants.{Seeded}
-use Rattle.relay.specs.Leg.{startLeg}
+use Rattle.settings.specs.declared.Settings.{Settings}
+use Rattle.settings.specs.declared.Schedule.{Schedule}
+use Rattle.settings.specs.declared.Schedule.the-variants.{Flooding, CheckSerial}
+use Rattle.settings.specs.declared.GammaSource.the-variants.{Seeded}
+use Rattle.relay_core.specs.Leg.{startLeg}
 use Rattle.relay.specs.Calls as Calls
 use Rattle.relay.specs.Calls.{iterationCall, decodeInOrder, stepLists, told, tellOf}
 

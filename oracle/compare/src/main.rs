@@ -1,4 +1,4 @@
-//! The proved code against the Rust, in one process, on fresh random inputs: `compare numbers|graphs|beliefs [COUNT [SEED]]`.
+//! The proved code against the Rust, in one process, on fresh random inputs: `compare numbers|graphs|beliefs|iterations [COUNT [SEED]]`.
 //! Every float is compared by its bits, but a NaN with any NaN. The last line says 'N passed, M failed'.
 
 mod beliefs;
@@ -7,20 +7,22 @@ mod damage;
 mod given;
 mod graphs;
 mod numbers;
+mod steps;
 mod table;
 
 use counts::Counts;
 use std::process::ExitCode;
 
-const USAGE: &str = "usage: compare numbers|graphs|beliefs [COUNT [SEED]]";
+const USAGE: &str = "usage: compare numbers|graphs|beliefs|iterations [COUNT [SEED]]";
 
 /// What is compared: its name, how often where no count is given, and how.
 type Subject = (&'static str, u64, fn(u64, u64) -> Counts);
 
-const SUBJECTS: [Subject; 3] = [
+const SUBJECTS: [Subject; 4] = [
     ("numbers", 1_000_000, numbers::run),
     ("graphs", 100_000, graphs::run),
     ("beliefs", 200_000, beliefs::run),
+    ("iterations", 300_000, steps::run),
 ];
 
 fn main() -> ExitCode {

@@ -109,6 +109,42 @@ mod raw {
             v_to_c: *mut f64,
             v_to_c_len: usize,
         ) -> u64;
+
+        pub unsafe fn chowderkite_iteration(
+            checks: usize,
+            mechanisms: usize,
+            edges: usize,
+            priors: *const f64,
+            priors_len: usize,
+            check_var: *const u32,
+            check_var_len: usize,
+            check_message: *const u32,
+            check_message_len: usize,
+            check_offset: *const u32,
+            check_offset_len: usize,
+            var_check: *const u32,
+            var_check_len: usize,
+            var_message: *const u32,
+            var_message_len: usize,
+            var_offset: *const u32,
+            var_offset_len: usize,
+            schedule: u8,
+            alpha: f64,
+            gamma: *const f64,
+            gamma_len: usize,
+            syndrome: *const u8,
+            syndrome_len: usize,
+            order: *const u32,
+            order_len: usize,
+            c_to_v: *mut f64,
+            c_to_v_len: usize,
+            v_to_c: *mut f64,
+            v_to_c_len: usize,
+            posterior: *mut f64,
+            posterior_len: usize,
+            bias: *mut f64,
+            bias_len: usize,
+        ) -> u64;
     }
 }
 
@@ -356,6 +392,83 @@ pub fn beliefs(
             beliefs.c_to_v.len(),
             beliefs.v_to_c.as_mut_ptr(),
             beliefs.v_to_c.len(),
+        )
+    })
+}
+
+/// The lists that `iteration` takes and gives back; the bias is for work.
+#[derive(Clone, Debug, Default)]
+pub struct Step {
+    pub c_to_v: Vec<f64>,
+    pub v_to_c: Vec<f64>,
+    pub posterior: Vec<f64>,
+    pub bias: Vec<f64>,
+}
+
+impl Step {
+    /// All four, in the order of the call.
+    pub fn each(&mut self) -> [&mut Vec<f64>; 4] {
+        [
+            &mut self.c_to_v,
+            &mut self.v_to_c,
+            &mut self.posterior,
+            &mut self.bias,
+        ]
+    }
+}
+
+/// A single iteration: what is asked for beside the graph.
+#[derive(Clone, Copy, Debug)]
+pub struct Iteration<'a> {
+    pub serial: bool,
+    pub alpha: f64,
+    pub gamma: &'a [f64],
+    pub syndrome: &'a [u8],
+    pub order: &'a [u32],
+}
+
+pub fn iteration(
+    size: Size,
+    priors: &[f64],
+    lists: &Lists,
+    iteration: Iteration,
+    step: &mut Step,
+) -> Answer {
+    answer(unsafe {
+        raw::chowderkite_iteration(
+            size.checks,
+            size.mechanisms,
+            size.edges,
+            priors.as_ptr(),
+            priors.len(),
+            lists.check_var.as_ptr(),
+            lists.check_var.len(),
+            lists.check_message.as_ptr(),
+            lists.check_message.len(),
+            lists.check_offset.as_ptr(),
+            lists.check_offset.len(),
+            lists.var_check.as_ptr(),
+            lists.var_check.len(),
+            lists.var_message.as_ptr(),
+            lists.var_message.len(),
+            lists.var_offset.as_ptr(),
+            lists.var_offset.len(),
+            u8::from(iteration.serial),
+            iteration.alpha,
+            iteration.gamma.as_ptr(),
+            iteration.gamma.len(),
+            iteration.syndrome.as_ptr(),
+            iteration.syndrome.len(),
+            iteration.order.as_ptr(),
+            iteration.order.len(),
+            step.c_to_v.as_mut_ptr(),
+            step.c_to_v.len(),
+            step.v_to_c.as_mut_ptr(),
+            step.v_to_c.len(),
+            step.posterior.as_mut_ptr(),
+            step.posterior.len(),
+            step.bias.as_mut_ptr(),
+            step.bias.len(),
         )
     })
 }

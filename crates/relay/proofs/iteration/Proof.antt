@@ -1,7 +1,7 @@
 -- `relay::iteration` meets its contract. A refused call leaves the lists; else the tests told all that the step asks, and the step reads no more of the graph
 -- than the four lists.
 -- Assumes nothing.
-use Rattle.relay.specs.Step.{state}
+use Rattle.relay_core.specs.Step.{state}
 use Rattle.relay.specs.Calls.{StepLists, stepLists}
 use Rattle.relay.proofs.Calls.{Told, told, iteration-refused, iteration-ran}
 use borrow.Author.Needs.{needs}

@@ -6,12 +6,14 @@ use native.Mathlib.Numerals.{add-one}
 use lib.ListN.{length}
 use borrow.Author.Needs.{needs}
 use Rattle.graph.specs.Messages.{scanOf}
+use Rattle.messages_core.specs.Needs.{Ordered}
+use Rattle.messages_core.proofs.Least.{start-ordered}
 use Rattle.min_sum.specs.MinSum.{scan}
 use Rattle.min_sum.proofs.check.scan_check.Statement.{statement}
 use Rattle.min_sum.proofs.check.scan_check.Tie as tie
 
 abbrev Inv-loop : tie.InvT-loop
-Inv-loop odd messages s₀ i₀ s i = (i ≤ length messages) × (scanOf (s .«total_sign») (s .min1) (s .min2) (s .least) ≡ scan odd messages i)
+Inv-loop odd messages s₀ i₀ s i = (i ≤ length messages) × (scanOf (s .«total_sign») (s .min1) (s .min2) (s .least) ≡ scan odd messages i) × Ordered (s .min1) (s .min2)
 
 abbrev μ-loop : tie.MeasureT-loop
 μ-loop odd messages s₀ i₀ s i = length messages - i
@@ -21,7 +23,7 @@ start-scan-requires c κs = search needs
 
 loop-holds : tie.Need-loop-holds Inv-loop μ-loop
 unfolding scan
-loop-holds c = (omega arith, c .start-scan .ensures)
+loop-holds c = (omega arith, c .start-scan .ensures, start-ordered _ _ _ _ 18446744073709551615 (c .before .before .args .odd) (c .start-scan .ensures))
 
 mul-scanned : tie.Need-mul-scanned Inv-loop μ-loop
 mul-scanned c = omega arith
@@ -30,7 +32,7 @@ shared-slice-read-scanned : tie.Need-shared-slice-read-scanned Inv-loop μ-loop
 shared-slice-read-scanned c = omega arith
 
 scanned-requires : tie.Need-scanned-requires Inv-loop μ-loop
-scanned-requires c κs = search needs
+scanned-requires c κs = c .before .before .loop .inv .2
 
 add-i : tie.Need-add-i Inv-loop μ-loop
 add-i c = omega arith
@@ -40,7 +42,7 @@ loop-less c = omega arith
 
 loop-again : tie.Need-loop-again Inv-loop μ-loop
 unfolding scan
-loop-again c = (omega arith, rw add-one (c .scanned .ensures ∙ rw (c .before .before .before .loop .inv .1)))
+loop-again c = (omega arith, rw add-one (c .scanned .ensures .0 ∙ rw (c .before .before .before .loop .inv .1)), c .scanned .ensures .1)
 
 returns : tie.Need-returns Inv-loop μ-loop
 returns c = c .before .loop .inv .1 ∙ ap (scan _ _) (omega arith)

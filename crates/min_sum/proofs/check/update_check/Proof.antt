@@ -1,83 +1,54 @@
--- `min_sum::check::update_check` meets its contract. The invariant: the messages passed are those sent. Assumes nothing.
-use mathlib.Core.Path.{_≡_, refl, sym, _∙_}
-use Prim.Native.Nat.{_≤_, _<_, _-_}
-use native.Mathlib.Omega.{arith}
-use native.Mathlib.Numerals.{add-one}
-use lib.ListN.{length, take, length-set}
-use lib.Seq.{take-suc-set, take-all}
+-- `min_sum::check::update_check` meets its contract: what is sent at all positions but the one of the least is right, and that one is put right. Assumes nothing.
+use Rattle.min_sum.proofs.Sends.{sends-next, sends-least}
 use borrow.Author.Needs.{needs}
-use Rattle.graph.specs.Messages.{scanOf}
-use Rattle.min_sum.specs.MinSum.{sentTo, checkMessages}
 use Rattle.min_sum.proofs.check.update_check.Statement.{statement}
 use Rattle.min_sum.proofs.check.update_check.Tie as tie
 
-abbrev Inv-loop : tie.InvT-loop
-Inv-loop scale odd v-to-c c-to-v₀ s i₀ c-to-v i =
-    (i ≤ length v-to-c) × (length c-to-v ≡ length v-to-c) × (take i c-to-v ≡ sentTo scale (scanOf (s .«total_sign») (s .min1) (s .min2) (s .least)) v-to-c i)
-
-abbrev μ-loop : tie.MeasureT-loop
-μ-loop scale odd v-to-c c-to-v₀ s i₀ c-to-v i = length v-to-c - i
-
-scan-check-requires : tie.Need-scan-check-requires Inv-loop μ-loop
+scan-check-requires : tie.Need-scan-check-requires
 scan-check-requires c κs = search needs
 
-loop-holds : tie.Need-loop-holds Inv-loop μ-loop
-unfolding sentTo
-loop-holds c = (omega arith, omega arith, refl)
+send-requires : tie.Need-send-requires
+send-requires c κs = search needs
 
-mul-sent : tie.Need-mul-sent Inv-loop μ-loop
-mul-sent c = omega arith
+mul-sent : tie.Need-mul-sent
+mul-sent c = search needs
 
-shared-slice-read-sent : tie.Need-shared-slice-read-sent Inv-loop μ-loop
-shared-slice-read-sent c = omega arith
+shared-slice-read-sent : tie.Need-shared-slice-read-sent
+shared-slice-read-sent c = search needs
 
-sent-requires : tie.Need-sent-requires Inv-loop μ-loop
+sent-requires : tie.Need-sent-requires
 sent-requires c κs = search needs
 
-mul-c-to-v : tie.Need-mul-c-to-v Inv-loop μ-loop
-mul-c-to-v c = omega arith
+mul-c-to-v : tie.Need-mul-c-to-v
+mul-c-to-v c = search needs
 
-slice-write-c-to-v : tie.Need-slice-write-c-to-v Inv-loop μ-loop
-slice-write-c-to-v c = omega arith
+slice-write-c-to-v : tie.Need-slice-write-c-to-v
+slice-write-c-to-v c = search needs
 
-add-i : tie.Need-add-i Inv-loop μ-loop
-add-i c = omega arith
+same-length : tie.Need-same-length
+same-length c = search needs
 
-loop-less : tie.Need-loop-less Inv-loop μ-loop
-loop-less c = omega arith
+returns : tie.Need-returns
+returns c = sends-next _ _ _ _ _ _ _ _ (c .before .before .before .before .before .before .before .scan-check .ensures) (c .before .before .before .before .before .send .ensures) _ (c .before .before .if1 .taken) (c .sent .ensures)
 
-loop-again : tie.Need-loop-again Inv-loop μ-loop
-unfolding sentTo
-loop-again c =
-    let l = c .before .before .before .loop in
-    let h : l .i < length (l .c-to-v) = omega arith in
-    (omega arith, simp length-set (omega arith), rw (add-one, take-suc-set, h, l .inv .2, c .sent .ensures))
+same-length-2 : tie.Need-same-length-2
+same-length-2 c = search needs
 
-same-length : tie.Need-same-length Inv-loop μ-loop
-same-length c = omega arith
-
-returns : tie.Need-returns Inv-loop μ-loop
-unfolding checkMessages
-returns c =
-    let l = c .before .loop in
-    let e : l .i ≡ length (c .before .before .before .before .before .args .v-to-c .now) = omega arith in
-    sym (take-all (l .i) (l .c-to-v) (omega arith)) ∙ l .inv .2 ∙ rw (e, c .before .before .scan-check .ensures)
+returns-2 : tie.Need-returns-2
+returns-2 c = sends-least _ _ _ _ _ _ _ _ (c .before .before .before .before .before .scan-check .ensures) (c .before .before .before .send .ensures) (c .if1 .left)
 
 pub update-check-spec : {M : Type 1} → statement M
 update-check-spec =
     tie.close
     (tie.spec
-    Inv-loop
-    μ-loop
     scan-check-requires
-    loop-holds
+    send-requires
     mul-sent
     shared-slice-read-sent
     sent-requires
     mul-c-to-v
     slice-write-c-to-v
-    add-i
-    loop-less
-    loop-again
     same-length
-    returns)
+    returns
+    same-length-2
+    returns-2)

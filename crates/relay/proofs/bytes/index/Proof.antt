@@ -4,7 +4,7 @@ use mathlib.Core.Path.{_≡_, refl}
 use Prim.Native.Nat.{ℕ, _≤_, _<_, _-_}
 use native.Mathlib.Omega.{arith}
 use lib.ListN.{length, getD, length-set}
-use Rattle.relay.proofs.OrderWords.{index-order}
+use Rattle.orders_core.proofs.OrderWords.{index-order}
 use Rattle.relay.proofs.Copies.{count-turn}
 use Rattle.relay.proofs.bytes.index.Statement.{statement}
 use Rattle.relay.proofs.bytes.index.Tie as tie

@@ -20,20 +20,20 @@ returns : tie.Need-returns
 unfolding shotFault
 returns c = or-refused _ _ _ _ (c .before .before .check-graph .ensures) (c .before .is-done .ensures) (c .if1 .taken)
 
-settings-fault-requires : tie.Need-settings-fault-requires
-settings-fault-requires c κs = let a = c .before .before .before .before .before .before .before .before .before .before .before .before .before .before .before .before .before .before .before .before .before .before .args in mechanisms-few (a .size .edges) (a .priors .now) (graph (a .size .checks) (a .size .mechanisms) (a .check-var .now) (a .check-message .now) (a .check-offset .now) (a .var-check .now) (a .var-message .now) (a .var-offset .now)) _ _ (c .before .before .check-graph .ensures) (c .before .is-done .ensures) (c .if1 .left)
+check-settings-requires : tie.Need-check-settings-requires
+check-settings-requires c κs = search needs
 
 is-done-requires-2 : tie.Need-is-done-requires-2
 is-done-requires-2 c κs = search needs
 
 returns-2 : tie.Need-returns-2
 unfolding shotFault
-returns-2 c = or-passed _ _ _ _ _ (c .before .before .before .before .before .check-graph .ensures) (c .before .before .before .before .is-done .ensures) (c .before .before .before .if1 .left) (or-refused _ _ _ _ (c .before .before .settings-fault .ensures) (c .before .is-done2 .ensures) (c .if2 .taken))
+returns-2 c = or-passed _ _ _ _ _ (c .before .before .before .before .before .check-graph .ensures) (c .before .before .before .before .is-done .ensures) (c .before .before .before .if1 .left) (or-refused _ _ _ _ (c .before .before .check-settings .ensures) (c .before .is-done2 .ensures) (c .if2 .taken))
 
 legs-fit-requires : tie.Need-legs-fit-requires
 legs-fit-requires c κs =
     let a = c .before .before .before .before .before .before .before .before .before .before .before .before .before .before .before .before .before .before .before .before .before .before .before .before .before .args in
-    (settings-passed (a .t) (a .size .mechanisms) (a .gammas .now) _ _ (c .before .before .settings-fault .ensures) (c .before .is-done2 .ensures) (c .if2 .left), mechanisms-few (a .size .edges) (a .priors .now) (graph (a .size .checks) (a .size .mechanisms) (a .check-var .now) (a .check-message .now) (a .check-offset .now) (a .var-check .now) (a .var-message .now) (a .var-offset .now)) _ _ (c .before .before .before .before .before .check-graph .ensures) (c .before .before .before .before .is-done .ensures) (c .before .before .before .if1 .left))
+    (settings-passed (a .t) (a .size .mechanisms) (a .gammas .now) _ _ (c .before .before .check-settings .ensures) (c .before .is-done2 .ensures) (c .if2 .left), mechanisms-few (a .size .edges) (a .priors .now) (graph (a .size .checks) (a .size .mechanisms) (a .check-var .now) (a .check-message .now) (a .check-offset .now) (a .var-check .now) (a .var-message .now) (a .var-offset .now)) _ _ (c .before .before .before .before .before .check-graph .ensures) (c .before .before .before .before .is-done .ensures) (c .before .before .before .if1 .left))
 
 work-fits-requires : tie.Need-work-fits-requires
 work-fits-requires c κs = search needs
@@ -54,7 +54,7 @@ returns-3 : tie.Need-returns-3
 unfolding shotFault
 returns-3 c =
     let a = c .before .before .before .before .before .before .before .before .before .before .before .before .before .before .before .before .before .before .before .before .before .before .before .before .before .before .before .before .before .before .before .args in
-    or-passed _ _ _ _ _ (c .before .before .before .before .before .before .before .before .before .before .before .check-graph .ensures) (c .before .before .before .before .before .before .before .before .before .before .is-done .ensures) (c .before .before .before .before .before .before .before .before .before .if1 .left) (or-passed _ _ _ _ _ (c .before .before .before .before .before .before .before .before .settings-fault .ensures) (c .before .before .before .before .before .before .before .is-done2 .ensures) (c .before .before .before .before .before .before .if2 .left) (lists-fault (a .size .edges) (whole (a .t) (a .gammas .now) 0 (a .syndrome .now) (a .priors .now) (a .check-var .now) (a .check-message .now) (a .check-offset .now) (a .var-check .now) (a .var-message .now) (a .var-offset .now) [] (a .size .checks) (a .size .mechanisms)) (record { legState = a .leg-state .now; legIterations = a .leg-iterations .now; legWeight = a .leg-weight .now; rows = a .rows .now; correction = a .correction .now; posterior = a .posterior .now; gamma = a .gamma .now; bias = a .bias .now; cToV = a .c-to-v .now; vToC = a .v-to-c .now }) _ _ (c .before .before .before .before .before .legs-fit .ensures) (c .before .before .before .before .work-fits .ensures) _ _ _ _ (c .before .before .both .ensures) (c .before .before .before .syndrome-fault .ensures) (c .before .unless .ensures) (c .or-else .ensures)))
+    or-passed _ _ _ _ _ (c .before .before .before .before .before .before .before .before .before .before .before .check-graph .ensures) (c .before .before .before .before .before .before .before .before .before .before .is-done .ensures) (c .before .before .before .before .before .before .before .before .before .if1 .left) (or-passed _ _ _ _ _ (c .before .before .before .before .before .before .before .before .check-settings .ensures) (c .before .before .before .before .before .before .before .is-done2 .ensures) (c .before .before .before .before .before .before .if2 .left) (lists-fault (a .size .edges) (whole (a .t) (a .gammas .now) 0 (a .syndrome .now) (a .priors .now) (a .check-var .now) (a .check-message .now) (a .check-offset .now) (a .var-check .now) (a .var-message .now) (a .var-offset .now) [] (a .size .checks) (a .size .mechanisms)) (record { legState = a .leg-state .now; legIterations = a .leg-iterations .now; legWeight = a .leg-weight .now; rows = a .rows .now; correction = a .correction .now; posterior = a .posterior .now; gamma = a .gamma .now; bias = a .bias .now; cToV = a .c-to-v .now; vToC = a .v-to-c .now }) _ _ (c .before .before .before .before .before .legs-fit .ensures) (c .before .before .before .before .work-fits .ensures) _ _ _ _ (c .before .before .both .ensures) (c .before .before .before .syndrome-fault .ensures) (c .before .unless .ensures) (c .or-else .ensures)))
 
 pub shot-fault-spec : {M : Type 1} → statement M
 shot-fault-spec =
@@ -63,7 +63,7 @@ shot-fault-spec =
     check-graph-requires
     is-done-requires
     returns
-    settings-fault-requires
+    check-settings-requires
     is-done-requires-2
     returns-2
     legs-fit-requires

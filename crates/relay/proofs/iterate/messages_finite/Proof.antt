@@ -9,7 +9,7 @@ use lib.ListN.{length}
 use borrow.Author.Needs.{needs}
 use Rattle.numbers.specs.Loops.{every}
 use Rattle.numbers.proofs.Cases.{every-refuse, every-go}
-use Rattle.relay.specs.Step.{state}
+use Rattle.relay_core.specs.Step.{state}
 use Rattle.relay.specs.Calls.{messageFinite}
 use Rattle.relay.proofs.Calls.{message-is}
 use Rattle.relay.proofs.iterate.messages_finite.Statement.{statement}

@@ -9,7 +9,7 @@ use Rattle.refusals.specs.declared.Answer.the-variants.{Done}
 use Rattle.refusals.specs.declared.Refusal.the-variants.{NonFinite}
 use Rattle.refusals.proofs.Tests.{unless-refuse, unless-go}
 use Rattle.messages_core.specs.Needs.{ofVariables}
-use Rattle.relay.specs.Step.{state}
+use Rattle.relay_core.specs.Step.{state}
 use Rattle.relay.specs.Calls.{mechanismFault, stepEnd}
 use Rattle.relay.proofs.iterate.step_end.Statement.{statement}
 use Rattle.relay.proofs.iterate.step_end.Tie as tie

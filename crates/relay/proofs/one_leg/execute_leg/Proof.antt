@@ -2,8 +2,8 @@
 -- Assumes nothing.
 use mathlib.Core.Path.{ap, _∙_}
 use native.Mathlib.Omega.{arith}
-use Rattle.relay.specs.Leg.{leg}
-use Rattle.relay.specs.Gammas.{gammaOf}
+use Rattle.relay_core.specs.Leg.{leg}
+use Rattle.relay_core.specs.Gammas.{gammaOf}
 use Rattle.relay.proofs.Records.{limit-some, limit-few, sets-along, executed-is}
 use borrow.Author.Needs.{needs}
 use Rattle.relay.proofs.one_leg.execute_leg.Statement.{statement}

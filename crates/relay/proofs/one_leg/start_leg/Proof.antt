@@ -1,7 +1,7 @@
 -- `relay::one_leg::start_leg` meets its contract. Each list is written as the definition says.
 -- Assumes nothing.
 use Rattle.graph.specs.Messages.{fromVariables, cleared}
-use Rattle.relay.specs.Leg.{startLeg}
+use Rattle.relay_core.specs.Leg.{startLeg}
 use borrow.Author.Needs.{needs}
 use Rattle.relay.proofs.one_leg.start_leg.Statement.{statement}
 use Rattle.relay.proofs.one_leg.start_leg.Tie as tie

@@ -1,0 +1,4 @@
+pub mod Step
+pub mod Leg
+pub mod Gammas
+pub mod Places

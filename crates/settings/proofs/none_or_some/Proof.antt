@@ -1,0 +1,14 @@
+-- `settings::none_or_some` meets its contract. Each arm answers by the comparison that led there.
+-- Assumes nothing.
+use borrow.Author.Tests.{le-leb, lt-leb}
+use Rattle.settings.proofs.none_or_some.Statement.{statement}
+use Rattle.settings.proofs.none_or_some.Tie as tie
+
+returns : tie.Need-returns
+returns c = simp (le-leb _ _ (c .if1 .taken))
+
+returns-2 : tie.Need-returns-2
+returns-2 c = simp (lt-leb _ _ (c .if1 .left))
+
+pub none-or-some-spec : {M : Type 1} → statement M
+none-or-some-spec = tie.close (tie.spec returns returns-2)

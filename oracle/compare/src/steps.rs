@@ -1,0 +1,305 @@
+//! The single iteration against the published updates, run in the same order from the same state, every bit of what it leaves.
+
+use crate::counts::Counts;
+use crate::damage::{damage_lists, nudge_length};
+use crate::given::Given;
+use crate::table::wanted_lists;
+use oracle::graph_cases::GraphCase;
+use oracle::model::{Model, random_model};
+use oracle::splitmix::SplitMix64;
+use pecos_bp_open::{BpGraph, RelayBp, RelayConfig, Schedule, State};
+use pecos_decoder_core::dem::SparseDem;
+use proved::{Answer, Iteration, Size, Step};
+
+const ALPHAS: [f64; 6] = [1.0, 0.5, 0.9, 1e-300, 1e200, 1e308];
+
+pub fn run(count: u64, seed: u64) -> Counts {
+    let mut random = SplitMix64::new(seed);
+    let mut all = Counts::default();
+    all.add("iterations", good(count, &mut random));
+    all.add("damaged", damaged(count / 4, &mut random));
+    all
+}
+
+pub fn bits(list: &[f64]) -> Vec<u64> {
+    list.iter().map(|value| value.to_bits()).collect()
+}
+
+pub fn is_zero(list: &[f64]) -> bool {
+    list.iter().all(|value| value.to_bits() == 0)
+}
+
+/// The numbers below `count`, now and then in their own order.
+pub fn random_order(random: &mut SplitMix64, count: usize) -> Vec<u32> {
+    let mut order: Vec<u32> = (0..count as u32).collect();
+    if !random.once_in(5) {
+        for place in (1..count).rev() {
+            order.swap(place, random.below(place + 1));
+        }
+    }
+    order
+}
+
+fn value(random: &mut SplitMix64) -> f64 {
+    match random.below(16) {
+        0 => 0.0,
+        1 => -0.0,
+        2 => random.pick(&[30.0, -30.0, 1e300, -1e300, 5e-324]),
+        3 => random.pick(&[2.0, -2.0]),
+        _ => random.unit() * 8.0 - 4.0,
+    }
+}
+
+fn values(random: &mut SplitMix64, count: usize) -> Vec<f64> {
+    (0..count).map(|_| value(random)).collect()
+}
+
+/// What a case is of, beside its graph.
+struct Case {
+    serial: bool,
+    alpha: f64,
+    gamma: Vec<f64>,
+    syndrome: Vec<u8>,
+    order: Vec<u32>,
+    step: Step,
+}
+
+impl Case {
+    fn of(model: &Model, size: Size, random: &mut SplitMix64) -> Self {
+        Self {
+            serial: random.once_in(2),
+            alpha: random.pick(&ALPHAS),
+            gamma: values(random, size.mechanisms),
+            syndrome: (0..size.checks).map(|_| random.below(2) as u8).collect(),
+            order: random_order(random, model.checks),
+            step: Step {
+                c_to_v: values(random, size.edges),
+                v_to_c: values(random, size.edges),
+                posterior: values(random, size.mechanisms),
+                bias: vec![1.5; size.mechanisms],
+            },
+        }
+    }
+
+    fn iteration(&self) -> Iteration<'_> {
+        Iteration {
+            serial: self.serial,
+            alpha: self.alpha,
+            gamma: &self.gamma,
+            syndrome: &self.syndrome,
+            order: &self.order,
+        }
+    }
+}
+
+/// The Rust's state after it.
+fn rust(model: &Model, case: &Case) -> State {
+    let mechanisms = model.probabilities.iter().zip(&model.detectors);
+    let graph = BpGraph::from_sparse_dem(&SparseDem {
+        mechanisms: mechanisms
+            .map(|(&probability, detectors)| (probability, detectors.clone(), Vec::new()))
+            .collect(),
+        num_detectors: model.checks,
+    })
+    .expect("the model builds");
+    let config = RelayConfig {
+        schedule: if case.serial {
+            Schedule::CheckSerial
+        } else {
+            Schedule::Flooding
+        },
+        alpha: case.alpha,
+        num_legs: 0,
+        ..RelayConfig::default()
+    };
+    let mut decoder = RelayBp::new(graph, config).expect("the settings are good");
+    let mut state = State {
+        c_to_v: case.step.c_to_v.clone(),
+        v_to_c: case.step.v_to_c.clone(),
+        posterior: case.step.posterior.clone(),
+    };
+    pecos_bp_open::iteration(
+        &mut decoder,
+        &case.gamma,
+        &case.syndrome,
+        &case.order,
+        &mut state,
+    );
+    state
+}
+
+/// The first mechanism with a posterior or a message that is not finite.
+fn not_finite(given: &Given, state: &State) -> Option<usize> {
+    (0..given.size.mechanisms).find(|&mechanism| {
+        let part = given.lists.var_offset[mechanism] as usize
+            ..given.lists.var_offset[mechanism + 1] as usize;
+        let bad = |&message: &u32| {
+            let at = message as usize;
+            !state.c_to_v[at].is_finite() || !state.v_to_c[at].is_finite()
+        };
+        !state.posterior[mechanism].is_finite() || given.lists.var_message[part].iter().any(bad)
+    })
+}
+
+fn good(count: u64, random: &mut SplitMix64) -> Counts {
+    let mut counts = Counts::default();
+    for _ in 0..count {
+        let most = random.pick(&[2, 4, 6, 9, 14, 24]);
+        let model = random_model(random, most, most * 3 / 2);
+        let mut given = Given::of(&GraphCase::sparse(model.clone()), random);
+        let built = given.build_sparse();
+        let case = Case::of(&model, given.size, random);
+        let mut left = case.step.clone();
+        let answer = proved::iteration(
+            given.size,
+            &given.priors,
+            &given.lists,
+            case.iteration(),
+            &mut left,
+        );
+        let state = rust(&model, &case);
+        let wanted = match not_finite(&given, &state) {
+            Some(mechanism) => Err((30, mechanism as u64)),
+            None => Ok(()),
+        };
+        let same = if wanted.is_ok() {
+            bits(&left.c_to_v) == bits(&state.c_to_v)
+                && bits(&left.v_to_c) == bits(&state.v_to_c)
+                && bits(&left.posterior) == bits(&state.posterior)
+        } else {
+            is_zero(&left.c_to_v) && is_zero(&left.v_to_c) && is_zero(&left.posterior)
+        };
+        counts.wanted(wanted);
+        counts.check(
+            built == Ok(()) && answer == wanted && same && is_zero(&left.bias),
+            || {
+                format!(
+                    "{answer:?}, {left:?} for {wanted:?}, {state:?}: {model:?}, {:?}",
+                    case.iteration()
+                )
+            },
+        );
+    }
+    counts
+}
+
+/// 23: as many as there are checks, each once.
+pub fn names_each_once(order: &[u32], checks: usize) -> bool {
+    let mut sorted = order.to_vec();
+    sorted.sort_unstable();
+    sorted == (0..checks as u32).collect::<Vec<_>>()
+}
+
+/// What document 01's table says before the step: 1, 2, 4, 7, 10, 20, 21, 22, 23, 25.
+fn wanted_before(given: &Given, case: &Case) -> Answer {
+    wanted_lists(given)?;
+    let Size {
+        checks,
+        mechanisms,
+        edges,
+    } = given.size;
+    if !(case.alpha.is_finite() && case.alpha > 0.0) {
+        return Err((10, 0));
+    }
+    if case.syndrome.len() != checks {
+        return Err((20, 0));
+    }
+    if let Some(check) = case.syndrome.iter().position(|&byte| byte > 1) {
+        return Err((21, check as u64));
+    }
+    let step = &case.step;
+    let by_mechanism = [&case.gamma, &step.posterior, &step.bias];
+    if by_mechanism.iter().any(|list| list.len() != mechanisms)
+        || step.c_to_v.len() != edges
+        || step.v_to_c.len() != edges
+    {
+        return Err((22, 0));
+    }
+    if !names_each_once(&case.order, checks) {
+        return Err((23, 0));
+    }
+    let tested = [&step.c_to_v, &step.v_to_c, &step.posterior, &case.gamma];
+    if tested
+        .iter()
+        .any(|list| list.iter().any(|value| !value.is_finite()))
+    {
+        return Err((25, 0));
+    }
+    Ok(())
+}
+
+fn damaged(count: u64, random: &mut SplitMix64) -> Counts {
+    let mut counts = Counts::default();
+    for _ in 0..count {
+        let most = random.pick(&[1, 2, 3, 8]);
+        let model = random_model(random, most, most);
+        let mut given = Given::of(&GraphCase::sparse(model.clone()), random);
+        let built = given.build_sparse();
+        let mut case = Case::of(&model, given.size, random);
+        for _ in 0..random.between(1, 2) {
+            match random.below(9) {
+                0 => nudge_length(random, &mut case.syndrome, 1),
+                1 => {
+                    let bad = [0.0, -0.0, -1.0, f64::NAN, f64::INFINITY, f64::NEG_INFINITY];
+                    case.alpha = random.pick(&bad);
+                }
+                2 if !case.syndrome.is_empty() => {
+                    let at = random.below(case.syndrome.len());
+                    case.syndrome[at] = random.pick(&[2, 3, 255]);
+                }
+                3 => {
+                    let which = random.below(5);
+                    match which {
+                        4 => nudge_length(random, &mut case.gamma, 0.5),
+                        _ => nudge_length(random, case.step.each()[which], 2.5),
+                    }
+                }
+                4 => nudge_length(random, &mut case.order, 0),
+                5 if !case.order.is_empty() => {
+                    let at = random.below(case.order.len());
+                    case.order[at] = random.pick(&[0, 1, 65_535, 65_536, u32::MAX]);
+                }
+                6 => {
+                    let which = random.below(4);
+                    let list = match which {
+                        3 => &mut case.gamma,
+                        _ => &mut *case.step.each()[which],
+                    };
+                    if !list.is_empty() {
+                        let at = random.below(list.len());
+                        list[at] =
+                            random.pick(&[f64::NAN, -f64::NAN, f64::INFINITY, f64::NEG_INFINITY]);
+                    }
+                }
+                _ => damage_lists(random, &mut given),
+            }
+        }
+        let wanted = wanted_before(&given, &case);
+        let mut left = case.step.clone();
+        let answer = proved::iteration(
+            given.size,
+            &given.priors,
+            &given.lists,
+            case.iteration(),
+            &mut left,
+        );
+        let kept = left
+            .each()
+            .iter()
+            .zip(case.step.each())
+            .all(|(now, before)| bits(now) == bits(before));
+        counts.wanted(wanted);
+        let good = match wanted {
+            // What the step leaves is what the others show.
+            Ok(()) => answer.is_ok() || answer.is_err_and(|(number, _)| number == 30),
+            Err(_) => answer == wanted && kept,
+        };
+        counts.check(good && built == Ok(()), || {
+            format!(
+                "{answer:?} for {wanted:?}: {given:?}, {:?}",
+                case.iteration()
+            )
+        });
+    }
+    counts
+}
