@@ -18,7 +18,7 @@ use Rattle.refusals.specs.Refusal.{numberOf, placeOf}
 use Rattle.graph.specs.Graph.{Graph}
 use Rattle.graph.specs.Model.{Outcome, outcome}
 use Rattle.min_sum.specs.Beliefs.{Lists, Outcome as BeliefsOutcome, outcome as beliefsOutcome}
-use Rattle.relay.specs.Calls.{StepLists, StepOutcome, stepOutcome}
+use Rattle.calls_core.specs.Calls.{StepLists, StepOutcome, stepOutcome}
 use Rattle.exports.specs.Answers.{placeCode, codeOf, sent, sentOf, left, leftBy, stepLeft, stepLeftBy}
 
 -- a refusal's number is far below 65,536

@@ -9,7 +9,7 @@ ghost use Rattle.numbers.specs.Floats.{zero⁺};
 ghost use Rattle.refusals.specs.Refusal.{numberOf};
 ghost use Rattle.refusals.specs.declared.Answer.the-variants.{Refused};
 ghost use Rattle.graph.specs.Graph.{graph as graphOf};
-ghost use Rattle.relay.specs.Calls.{decode as decodeOf, decodeInOrder};
+ghost use Rattle.calls_core.specs.Calls.{decode as decodeOf, decodeInOrder};
 ghost use Rattle.exports.specs.Answers.{sourceOf, listsOf, settingsOf, codeOf, decodedCode, countsOf, weightOf, decodeLeft, decodeLeftBy};
 use crate::answers::code;
 use crate::steps::schedule_of;
