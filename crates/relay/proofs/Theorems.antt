@@ -1,6 +1,8 @@
--- What a reader may rely on: the contracts of `iteration` and of `leg_record` leave no choice, and an order of checks that is taken changes nothing.
+-- What a reader may rely on: the contracts of the calls leave no choice, decode repeats the step of the single iteration, and an order of checks that is
+-- taken changes nothing.
 -- Assumes nothing.
 use mathlib.Core.Path.{_≡_, sym, ap, _∙_}
+use mathlib.Core.Bool.{false}
 use mathlib.Core.List.{List, []}
 use mathlib.Core.Logic.{_↔_}
 use Prim.Native.Nat.{ℕ}
@@ -13,8 +15,12 @@ use Rattle.settings.specs.declared.Schedule.{Schedule}
 use Rattle.settings.specs.declared.Schedule.the-variants.{Flooding, CheckSerial}
 use Rattle.relay.specs.declared.LegRecord.{LegRecord}
 use Rattle.orders_core.specs.Order.{NamesOnce, KeepsOrder, FirstLate, namesFault, exchangeFault, exchanged}
-use Rattle.relay.specs.Decode.{Shot}
-use Rattle.relay.specs.Calls.{StepLists, StepOutcome, stepOutcome, iterationCall, legRecord, Lists, decodeInOrder, decode}
+use Rattle.relay.specs.declared.Decoded.{Decoded}
+use Rattle.relay_core.specs.Step.{State, iteration}
+use Rattle.relay_core.specs.Leg.{startLeg, runLeg, satisfied}
+use Rattle.relay_core.specs.Gammas.{gammaOf}
+use Rattle.relay.specs.Decode.{Shot, iterationLimit, stepOf, executedLeg}
+use Rattle.relay.specs.Calls.{StepLists, StepOutcome, stepOutcome, stepFault, stepped, iterationCall, legRecord, Lists, Outcome, outcome, decodeInOrder, decode}
 use Rattle.orders_core.proofs.OrderWords.{exchanged-is}
 use Rattle.relay.proofs.AnyOrder.{order-free, flooding-takes, serial-takes}
 
@@ -31,6 +37,31 @@ one-step edges prior g schedule alpha gamma syndrome order l a b p q h k =
 pub one-record : (legState legIterations : List ℕ) (legWeight : List Float) (r : ℕ) (x y : LegRecord) → x ≡ legRecord legState legIterations legWeight r
     → y ≡ legRecord legState legIterations legWeight r → x ≡ y
 one-record legState legIterations legWeight r x y h k = h ∙ sym k
+
+-- two results that the contract of `decode_in_order` allows for one input coincide: the answer, and each lent list
+pub one-decode-in-order : (edges : ℕ) (x : Shot) (l : Lists) (a b : Decoded) (p q : Lists) → outcome a p ≡ decodeInOrder edges x l → outcome b q ≡ decodeInOrder edges x l
+    → (a ≡ b) × (p ≡ q)
+one-decode-in-order edges x l a b p q h k = let e = h ∙ sym k in (ap (λ (o : Outcome). o .answer) e, ap (λ (o : Outcome). o .left) e)
+
+-- and so do two that the contract of `decode` allows
+pub one-decode : (edges : ℕ) (x : Shot) (l : Lists) (a b : Decoded) (p q : Lists) → outcome a p ≡ decode edges x l → outcome b q ≡ decode edges x l → (a ≡ b) × (p ≡ q)
+one-decode edges x l a b p q h k = let e = h ∙ sym k in (ap (λ (o : Outcome). o .answer) e, ap (λ (o : Outcome). o .left) e)
+
+-- ---- "Decode's definition repeats this step in the order handed in"
+
+-- a leg of a decode repeats the step that a single iteration takes, with the leg's gammas, until the test is passed or the limit reached
+pub decode-repeats : (x : Shot) (r : ℕ) (posterior : List Float) (step : State → State)
+    → step ≡ iteration (x .settings .schedule) (x .graph) (x .settings .alpha) (x .syndrome) (x .prior) (gammaOf (x .settings) (x .gammas) (x .graph .mechanisms) (x .seed) r) (x .order)
+    → executedLeg x r posterior ≡ runLeg step (satisfied (x .graph) (x .syndrome)) (iterationLimit (x .settings) r) false 0 (startLeg (x .graph) (x .prior) posterior)
+unfolding executedLeg stepOf
+decode-repeats x r posterior step e = rw e
+
+-- and that is the step of the single iteration's call, past its tests
+pub iteration-steps : (edges : ℕ) (prior : List Float) (g : Graph) (schedule : Schedule) (alpha : Float) (gamma : List Float) (syndrome order : List ℕ) (l : StepLists)
+    → stepFault edges prior g alpha gamma syndrome order l ≡ Done
+    → iterationCall edges prior g schedule alpha gamma syndrome order l ≡ stepped edges g (iteration schedule g alpha syndrome prior gamma order (l .now))
+unfolding iterationCall
+iteration-steps edges prior g schedule alpha gamma syndrome order l h = rw h
 
 -- ---- "Every order it takes gives the index order's outcome, bit for bit"
 

@@ -1,5 +1,10 @@
 // Relay-BP over a Tanner graph: its settings and its answers, one iteration in any order, and the reading of a leg's record. What they mean stands in specs/.
+mod all_legs;
+mod bytes;
+mod counted;
+mod decode_tests;
 mod iterate;
+mod one_leg;
 mod tests;
 
 use messages_core::at;
@@ -7,8 +12,9 @@ use refusals::Answer;
 use refusals::Refusal;
 ghost use mathlib.Core.Path.{_≡_};
 ghost use Rattle.graph.specs.Graph.{graph};
+ghost use mathlib.Core.List.{[]};
 ghost use Rattle.relay_core.specs.Step.{state};
-ghost use Rattle.relay.specs.Calls.{stepLists, stepOutcome, iterationCall, recordOf, legRecord};
+ghost use Rattle.relay.specs.Calls.{stepLists, stepOutcome, iterationCall, recordOf, legRecord, outcome, decodeInOrder, decode as decodeOf};
 
 // The settings' types, which `settings` declares.
 pub type Schedule = settings::Schedule;
@@ -137,4 +143,160 @@ pub fn iteration(
         v_to_c,
         posterior,
     )
+}
+
+// All legs, with the checks in the order given: the legs' records, the correction and the posterior are results, and the other lists are for work, zero after any
+// call past its tests. A call that its tests refuse writes nothing; refusal 30 zeroes the results. Leg lists may be longer, and keep their surplus.
+pub fn decode_in_order(
+    size: graph::Size,
+    priors: &[f64],
+    check_var: &[u32],
+    check_message: &[u32],
+    check_offset: &[u32],
+    var_check: &[u32],
+    var_message: &[u32],
+    var_offset: &[u32],
+    settings: Settings,
+    gammas: &[f64],
+    syndrome: &[u8],
+    seed: u64,
+    order: &[u32],
+    leg_state: &mut [u8],
+    leg_iterations: &mut [u32],
+    leg_weight: &mut [f64],
+    rows: &mut [u8],
+    correction: &mut [u8],
+    posterior: &mut [f64],
+    gamma: &mut [f64],
+    bias: &mut [f64],
+    c_to_v: &mut [f64],
+    v_to_c: &mut [f64],
+) -> Decoded
+    ensures { λ r. ⌜ outcome r (record { legState = now («leg_state» .exit); legIterations = now («leg_iterations» .exit); legWeight = now («leg_weight» .exit); rows = now (rows .exit); correction = now (correction .exit); posterior = now (posterior .exit); gamma = now (gamma .exit); bias = now (bias .exit); cToV = now («c_to_v» .exit); vToC = now («v_to_c» .exit) }) ≡ decodeInOrder (size .edges) (record { graph = graph (size .checks) (size .mechanisms) (now («check_var» .entry)) (now («check_message» .entry)) (now («check_offset» .entry)) (now («var_check» .entry)) (now («var_message» .entry)) (now («var_offset» .entry)); prior = now (priors .entry); settings = settings; gammas = now (gammas .entry); order = now (order .entry); syndrome = now (syndrome .entry); seed = seed }) (record { legState = now («leg_state» .entry); legIterations = now («leg_iterations» .entry); legWeight = now («leg_weight» .entry); rows = now (rows .entry); correction = now (correction .entry); posterior = now (posterior .entry); gamma = now (gamma .entry); bias = now (bias .entry); cToV = now («c_to_v» .entry); vToC = now («v_to_c» .entry) }) ⌝ }
+{
+    let a = decode_tests::decode_fault(
+        size,
+        priors,
+        check_var,
+        check_message,
+        check_offset,
+        var_check,
+        var_message,
+        var_offset,
+        settings,
+        gammas,
+        syndrome,
+        order,
+        leg_state,
+        leg_iterations,
+        leg_weight,
+        rows,
+        correction,
+        posterior,
+        gamma,
+        bias,
+        c_to_v,
+        v_to_c,
+    );
+    match a {
+        Answer::Refused(r) => Decoded::Refused(r),
+        Answer::Done => all_legs::decode_shot(
+            settings,
+            gammas,
+            seed,
+            syndrome,
+            priors,
+            check_var,
+            check_offset,
+            var_message,
+            var_offset,
+            order,
+            leg_state,
+            leg_iterations,
+            leg_weight,
+            rows,
+            correction,
+            posterior,
+            gamma,
+            bias,
+            c_to_v,
+            v_to_c,
+        ),
+    }
+}
+
+// `RelayBp::decode`: that, with the checks in index order.
+pub fn decode(
+    size: graph::Size,
+    priors: &[f64],
+    check_var: &[u32],
+    check_message: &[u32],
+    check_offset: &[u32],
+    var_check: &[u32],
+    var_message: &[u32],
+    var_offset: &[u32],
+    settings: Settings,
+    gammas: &[f64],
+    syndrome: &[u8],
+    seed: u64,
+    leg_state: &mut [u8],
+    leg_iterations: &mut [u32],
+    leg_weight: &mut [f64],
+    rows: &mut [u8],
+    correction: &mut [u8],
+    posterior: &mut [f64],
+    gamma: &mut [f64],
+    bias: &mut [f64],
+    c_to_v: &mut [f64],
+    v_to_c: &mut [f64],
+) -> Decoded
+    ensures { λ r. ⌜ outcome r (record { legState = now («leg_state» .exit); legIterations = now («leg_iterations» .exit); legWeight = now («leg_weight» .exit); rows = now (rows .exit); correction = now (correction .exit); posterior = now (posterior .exit); gamma = now (gamma .exit); bias = now (bias .exit); cToV = now («c_to_v» .exit); vToC = now («v_to_c» .exit) }) ≡ decodeOf (size .edges) (record { graph = graph (size .checks) (size .mechanisms) (now («check_var» .entry)) (now («check_message» .entry)) (now («check_offset» .entry)) (now («var_check» .entry)) (now («var_message» .entry)) (now («var_offset» .entry)); prior = now (priors .entry); settings = settings; gammas = now (gammas .entry); order = []; syndrome = now (syndrome .entry); seed = seed }) (record { legState = now («leg_state» .entry); legIterations = now («leg_iterations» .entry); legWeight = now («leg_weight» .entry); rows = now (rows .entry); correction = now (correction .entry); posterior = now (posterior .entry); gamma = now (gamma .entry); bias = now (bias .entry); cToV = now («c_to_v» .entry); vToC = now («v_to_c» .entry) }) ⌝ }
+{
+    let a = decode_tests::shot_fault(
+        size,
+        priors,
+        check_var,
+        check_message,
+        check_offset,
+        var_check,
+        var_message,
+        var_offset,
+        settings,
+        gammas,
+        syndrome,
+        leg_state,
+        leg_iterations,
+        leg_weight,
+        rows,
+        correction,
+        posterior,
+        gamma,
+        bias,
+        c_to_v,
+        v_to_c,
+    );
+    match a {
+        Answer::Refused(r) => Decoded::Refused(r),
+        Answer::Done => counted::decode_counted(
+            settings,
+            gammas,
+            seed,
+            syndrome,
+            priors,
+            check_var,
+            check_offset,
+            var_message,
+            var_offset,
+            leg_state,
+            leg_iterations,
+            leg_weight,
+            rows,
+            correction,
+            posterior,
+            gamma,
+            bias,
+            c_to_v,
+            v_to_c,
+        ),
+    }
 }
