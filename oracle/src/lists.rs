@@ -14,13 +14,10 @@ use std::path::PathBuf;
 /// The lists are committed, so all three together stay below this many bytes.
 const MOST_BYTES: usize = 1_500_000;
 
-/// Where a list stands: it is the standard input of the program that replays it. Decodes have none yet.
+/// Where a list stands: it is the standard input of the program that replays it.
 pub fn path(name: &str) -> PathBuf {
     let oracle = PathBuf::from(env!("CARGO_MANIFEST_DIR"));
-    match name {
-        "decodes" => oracle.join("cases/decodes.txt"),
-        _ => oracle.join(format!("../crates/replay_{name}/stdin")),
-    }
+    oracle.join(format!("../crates/replay_{name}/stdin"))
 }
 
 /// The listed belief cases, and what was left out of them.

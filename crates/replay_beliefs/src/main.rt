@@ -1,19 +1,22 @@
 // Replays the oracle's list of belief cases: builds each model's graph, runs min-sum on it and compares answer and posterior with the
 // Rust's. It reads the list from standard input, which the file stdin holds. Room: 63 checks and mechanisms, 128 edges.
 use graph::Size;
-use libc::STDOUT_FILENO;
 use numbers::both;
 use refusals::Answer;
 use refusals::is_done;
+use replay_core::Counts;
 use replay_core::Same;
+use replay_core::count;
 use replay_core::float;
 use replay_core::is_answer;
 use replay_core::is_cleared;
 use replay_core::line_end;
 use replay_core::read_bytes;
-use replay_core::read_floats;
-use replay_core::read_numbers;
+use replay_core::read_graph;
+use replay_core::read_sizes;
+use replay_core::report;
 use replay_core::same_floats;
+use replay_core::text_room;
 use replay_core::word_at;
 
 // Whether the line goes on with this answer and, where the run took place, with this posterior, and then ends.
@@ -198,9 +201,9 @@ fn built(
     line: &[u8],
     at: usize,
     size: Size,
-    priors: &[f64],
-    offsets: &[u32],
-    detectors: &[u32],
+    priors: &mut [f64],
+    offsets: &mut [u32],
+    detectors: &mut [u32],
     check_var: &mut [u32],
     check_message: &mut [u32],
     check_offset: &mut [u32],
@@ -208,7 +211,9 @@ fn built(
     var_message: &mut [u32],
     var_offset: &mut [u32],
 ) -> bool {
-    let a = graph::build_sparse(
+    let b = read_graph(
+        line,
+        at,
         size,
         priors,
         offsets,
@@ -220,12 +225,13 @@ fn built(
         var_message,
         var_offset,
     );
+    let a = b.answer;
     if !is_done(a) {
         return false;
     }
     with_syndrome(
         line,
-        at,
+        b.next,
         size,
         priors,
         check_var,
@@ -237,15 +243,8 @@ fn built(
     )
 }
 
-// With room for the graph.
-fn with_graph(
-    line: &[u8],
-    at: usize,
-    size: Size,
-    priors: &[f64],
-    offsets: &[u32],
-    detectors: &[u32],
-) -> bool {
+// With room for the model and its graph.
+fn with_graph(line: &[u8], at: usize, size: Size) -> bool {
     let checks = size.checks;
     let mechanisms = size.mechanisms;
     let edges = size.edges;
@@ -258,6 +257,9 @@ fn with_graph(
     if edges > 128 {
         return false;
     }
+    let mut priors = [0.0; 64];
+    let mut offsets = [0u32; 64];
+    let mut detectors = [0u32; 128];
     let mut check_var = [0u32; 128];
     let mut check_message = [0u32; 128];
     let mut check_offset = [0u32; 64];
@@ -268,9 +270,9 @@ fn with_graph(
         line,
         at,
         size,
-        priors,
-        offsets,
-        detectors,
+        &mut priors[..mechanisms],
+        &mut offsets[..mechanisms + 1],
+        &mut detectors[..edges],
         &mut check_var[..edges],
         &mut check_message[..edges],
         &mut check_offset[..checks + 1],
@@ -280,98 +282,31 @@ fn with_graph(
     )
 }
 
-// Read into lists of its sizes.
-fn model_read(
-    line: &[u8],
-    at: usize,
-    size: Size,
-    priors: &mut [f64],
-    offsets: &mut [u32],
-    detectors: &mut [u32],
-) -> bool {
-    let after_priors = read_floats(line, at, priors);
-    let after_offsets = read_numbers(line, after_priors, offsets);
-    let after_detectors = read_numbers(line, after_offsets, detectors);
-    with_graph(line, after_detectors, size, priors, offsets, detectors)
-}
-
-// With room for the model.
-fn model(line: &[u8], at: usize, size: Size) -> bool {
-    let mechanisms = size.mechanisms;
-    let edges = size.edges;
-    if mechanisms > 63 {
-        return false;
-    }
-    if edges > 128 {
-        return false;
-    }
-    let mut priors = [0.0; 64];
-    let mut offsets = [0u32; 64];
-    let mut detectors = [0u32; 128];
-    model_read(
-        line,
-        at,
-        size,
-        &mut priors[..mechanisms],
-        &mut offsets[..mechanisms + 1],
-        &mut detectors[..edges],
-    )
-}
-
 // A case: whether the code answers as the line says.
 fn case(line: &[u8]) -> bool {
-    let checks = word_at(line, 0);
-    let mechanisms = word_at(line, checks.next);
-    let edges = word_at(line, mechanisms.next);
-    let size = Size {
-        checks: checks.value as usize,
-        mechanisms: mechanisms.value as usize,
-        edges: edges.value as usize,
-    };
-    model(line, edges.next, size)
-}
-
-// How many cases came out the same, and how many not.
-struct Counts {
-    same: u64,
-    other: u64,
+    let sizes = read_sizes(line, 0);
+    let size = sizes.size;
+    with_graph(line, sizes.next, size)
 }
 
 // Every case, from the second line on: the first has their number.
 fn replay(text: &[u8]) -> Counts {
-    let mut same: u64 = 0;
-    let mut other: u64 = 0;
+    let mut counts = Counts { same: 0, other: 0 };
     let mut at = line_end(text, 0);
     while at < text.len() {
         // `at` is at the end of the line before.
         let start = at + 1;
         let end = line_end(text, start);
         if start < end {
-            if case(&text[start..end]) {
-                same += 1;
-            } else {
-                other += 1;
-            }
+            counts = count(counts, case(&text[start..end]));
         }
         at = end;
     }
-    Counts {
-        same: same,
-        other: other,
-    }
-}
-
-fn room() -> [u8; 262144] {
-    [0u8; 262144]
+    counts
 }
 
 fn main() {
-    let mut text = room();
+    let mut text = text_room();
     let n = io::read_full(0, &mut text);
-    let counts = replay(&text[..n]);
-    io::write_all(STDOUT_FILENO, b"beliefs ");
-    io::print_decimal(STDOUT_FILENO, counts.same);
-    io::write_all(STDOUT_FILENO, b" same, ");
-    io::print_decimal(STDOUT_FILENO, counts.other);
-    io::write_all(STDOUT_FILENO, b" other\n");
+    report(b"beliefs", replay(&text[..n]));
 }

@@ -1,12 +1,15 @@
 // Reads the oracle's lists of cases: a case a line, words of hexadecimal digits, one space between. For the replay programs alone.
 ghost use Prim.Native.Nat.{_≤_};
 ghost use lib.ListN.{length};
+use graph::Size;
+use libc::STDOUT_FILENO;
 use numbers::both;
 use numbers::is_negative;
 use refusals::Answer;
 use refusals::Place;
 use refusals::number_of;
 use refusals::place_of;
+use std::num::wrapping_add_u64;
 
 // What a byte is worth as a digit; 16 where it is none.
 fn digit(b: u8) -> u64
@@ -107,6 +110,70 @@ pub fn read_bytes(line: &[u8], at: usize, list: &mut [u8]) -> usize {
     next
 }
 
+// A model's sizes, and where its priors begin.
+pub struct Sizes {
+    pub size: Size,
+    pub next: usize,
+}
+
+// The three numbers that begin a model.
+pub fn read_sizes(line: &[u8], at: usize) -> Sizes {
+    let checks = word_at(line, at);
+    let mechanisms = word_at(line, checks.next);
+    let edges = word_at(line, mechanisms.next);
+    let size = Size {
+        checks: checks.value as usize,
+        mechanisms: mechanisms.value as usize,
+        edges: edges.value as usize,
+    };
+    Sizes {
+        size: size,
+        next: edges.next,
+    }
+}
+
+// What building a graph answered, and where the next word begins.
+pub struct Built {
+    pub answer: Answer,
+    pub next: usize,
+}
+
+// Reads a sparse model into lists of its sizes, and builds its graph.
+pub fn read_graph(
+    line: &[u8],
+    at: usize,
+    size: Size,
+    priors: &mut [f64],
+    offsets: &mut [u32],
+    detectors: &mut [u32],
+    check_var: &mut [u32],
+    check_message: &mut [u32],
+    check_offset: &mut [u32],
+    var_check: &mut [u32],
+    var_message: &mut [u32],
+    var_offset: &mut [u32],
+) -> Built {
+    let after_priors = read_floats(line, at, priors);
+    let after_offsets = read_numbers(line, after_priors, offsets);
+    let after_detectors = read_numbers(line, after_offsets, detectors);
+    let a = graph::build_sparse(
+        size,
+        priors,
+        offsets,
+        detectors,
+        check_var,
+        check_message,
+        check_offset,
+        var_check,
+        var_message,
+        var_offset,
+    );
+    Built {
+        answer: a,
+        next: after_detectors,
+    }
+}
+
 // Whether all was the same so far, and where the next word begins.
 pub struct Same {
     pub same: bool,
@@ -131,17 +198,62 @@ pub fn same_numbers(line: &[u8], before: Same, list: &[u32]) -> Same {
 }
 
 // Whether two floats have the same bits, where neither is a NaN.
-fn same_float(a: f64, b: f64) -> bool {
+pub fn same_float(a: f64, b: f64) -> bool {
     both(a == b, is_negative(a) == is_negative(b))
 }
 
-// Whether the next words are the floats of the list.
-pub fn same_floats(line: &[u8], before: Same, list: &[f64]) -> Same {
+// What a call must have left in a list: the line's words in the first `written` elements, zeros up to `cleared`, and behind them what was lent.
+pub struct Left {
+    pub written: usize,
+    pub cleared: usize,
+}
+
+// The word for the i-th element of such a list, where `kept` was lent. Only a word that is written takes room on the line.
+pub fn left_at(line: &[u8], next: usize, left: Left, i: usize, kept: u64) -> Word {
+    if i < left.written {
+        return word_at(line, next);
+    }
+    if i < left.cleared {
+        return Word {
+            value: 0,
+            next: next,
+        };
+    }
+    Word {
+        value: kept,
+        next: next,
+    }
+}
+
+// A byte as a word has it.
+pub fn wide(b: u8) -> u64 {
+    b as u64
+}
+
+// Whether that was left in a list of bytes.
+pub fn left_bytes(line: &[u8], before: Same, left: Left, kept: u64, list: &[u8]) -> Same {
     let mut same = before.same;
     let mut next = before.next;
     let mut i = 0;
     while i < list.len() {
-        let w = word_at(line, next);
+        let w = left_at(line, next, left, i, kept);
+        same = both(same, w.value == wide(list[i]));
+        next = w.next;
+        i += 1;
+    }
+    Same {
+        same: same,
+        next: next,
+    }
+}
+
+// Whether that was left in a list of floats; `kept` is a float's bits.
+pub fn left_floats(line: &[u8], before: Same, left: Left, kept: u64, list: &[f64]) -> Same {
+    let mut same = before.same;
+    let mut next = before.next;
+    let mut i = 0;
+    while i < list.len() {
+        let w = left_at(line, next, left, i, kept);
         same = both(same, same_float(float(w.value), list[i]));
         next = w.next;
         i += 1;
@@ -152,15 +264,27 @@ pub fn same_floats(line: &[u8], before: Same, list: &[f64]) -> Same {
     }
 }
 
+// Whether the next words are the floats of the list.
+pub fn same_floats(line: &[u8], before: Same, list: &[f64]) -> Same {
+    let all = Left {
+        written: list.len(),
+        cleared: 0,
+    };
+    left_floats(line, before, all, 0, list)
+}
+
 // Whether every float of the list is +0.0.
 pub fn is_cleared(list: &[f64]) -> bool {
-    let mut same = true;
-    let mut i = 0;
-    while i < list.len() {
-        same = both(same, same_float(list[i], 0.0));
-        i += 1;
-    }
-    same
+    let nothing = Left {
+        written: 0,
+        cleared: 0,
+    };
+    let start = Same {
+        same: true,
+        next: 0,
+    };
+    let s = left_floats(b"", start, nothing, 0, list);
+    s.same
 }
 
 // The place of a refusal as the lists have it: 0 where there is none.
@@ -195,4 +319,39 @@ pub fn line_end(text: &[u8], from: usize) -> usize
         i += 1;
     }
     i
+}
+
+// How many cases came out the same, and how many not.
+pub struct Counts {
+    pub same: u64,
+    pub other: u64,
+}
+
+// One case more.
+pub fn count(counts: Counts, same: bool) -> Counts {
+    if same {
+        return Counts {
+            same: wrapping_add_u64(counts.same, 1),
+            other: counts.other,
+        };
+    }
+    Counts {
+        same: counts.same,
+        other: wrapping_add_u64(counts.other, 1),
+    }
+}
+
+// Room for the longest list.
+pub fn text_room() -> [u8; 524288] {
+    [0u8; 524288]
+}
+
+// What a replay program writes.
+pub fn report(name: &[u8], counts: Counts) {
+    io::write_all(STDOUT_FILENO, name);
+    io::write_all(STDOUT_FILENO, b" ");
+    io::print_decimal(STDOUT_FILENO, counts.same);
+    io::write_all(STDOUT_FILENO, b" same, ");
+    io::print_decimal(STDOUT_FILENO, counts.other);
+    io::write_all(STDOUT_FILENO, b" other\n");
 }

@@ -1,18 +1,24 @@
--- `replay_core::is_cleared` is safe and ends. The invariant: the counter is within the list. Assumes nothing.
+-- `replay_core::left_floats` is safe and ends. The invariant: the counter is within the list. Assumes nothing.
 use Prim.Native.Nat.{_≤_, _-_}
 use lib.ListN.{length}
 use borrow.Author.Needs.{needs}
-use Rattle.replay_core.proofs.is_cleared.Statement.{statement}
-use Rattle.replay_core.proofs.is_cleared.Tie as tie
+use Rattle.replay_core.proofs.left_floats.Statement.{statement}
+use Rattle.replay_core.proofs.left_floats.Tie as tie
 
 abbrev Inv-loop : tie.InvT-loop
-Inv-loop list same₀ i₀ same i = i ≤ length list
+Inv-loop line left kept list same₀ next₀ i₀ same next i = i ≤ length list
 
 abbrev μ-loop : tie.MeasureT-loop
-μ-loop list same₀ i₀ same i = length list - i
+μ-loop line left kept list same₀ next₀ i₀ same next i = length list - i
 
 loop-holds : tie.Need-loop-holds Inv-loop μ-loop
 loop-holds c = search needs
+
+left-at-requires : tie.Need-left-at-requires Inv-loop μ-loop
+left-at-requires c κs = search needs
+
+float-requires : tie.Need-float-requires Inv-loop μ-loop
+float-requires c κs = search needs
 
 mul-same-float : tie.Need-mul-same-float Inv-loop μ-loop
 mul-same-float c = search needs
@@ -38,13 +44,15 @@ loop-again c = search needs
 returns : tie.Need-returns Inv-loop μ-loop
 returns c = search needs
 
-pub is-cleared-spec : {M : Type 1} → statement M
-is-cleared-spec =
+pub left-floats-spec : {M : Type 1} → statement M
+left-floats-spec =
     tie.close
     (tie.spec
     Inv-loop
     μ-loop
     loop-holds
+    left-at-requires
+    float-requires
     mul-same-float
     shared-slice-read-same-float
     same-float-requires

@@ -1,0 +1,428 @@
+// Replays the oracle's list of decodes: builds each model's graph, decodes the shot and compares the answer and every lent list with the Rust's. It reads the list
+// from standard input, which the file stdin holds. Room: 63 checks and mechanisms, 128 edges, 128 gammas, 64 legs, 512 bytes of rows.
+mod compare;
+
+use graph::Size;
+use numbers::wrapping_mul;
+use refusals::is_done;
+use replay_core::Counts;
+use replay_core::count;
+use replay_core::float;
+use replay_core::line_end;
+use replay_core::read_bytes;
+use replay_core::read_floats;
+use replay_core::read_graph;
+use replay_core::read_sizes;
+use replay_core::report;
+use replay_core::text_room;
+use replay_core::word_at;
+use settings::GammaSource;
+use settings::Schedule;
+use settings::Settings;
+
+fn schedule_of(number: u64) -> Schedule {
+    if number == 1 {
+        return Schedule::CheckSerial;
+    }
+    Schedule::Flooding
+}
+
+fn source_of(number: u64, sets: usize) -> GammaSource {
+    if number == 1 {
+        return GammaSource::Explicit(sets);
+    }
+    GammaSource::Seeded
+}
+
+// Settings that were read, with the number of sets of gammas, and where the first of these begins.
+struct Read {
+    settings: Settings,
+    sets: u64,
+    next: usize,
+}
+
+fn read_settings(line: &[u8], at: usize) -> Read {
+    let schedule = word_at(line, at);
+    let alpha = word_at(line, schedule.next);
+    let gamma0 = word_at(line, alpha.next);
+    let pre_iterations = word_at(line, gamma0.next);
+    let num_legs = word_at(line, pre_iterations.next);
+    let leg_iterations = word_at(line, num_legs.next);
+    let low = word_at(line, leg_iterations.next);
+    let high = word_at(line, low.next);
+    let stop = word_at(line, high.next);
+    let source = word_at(line, stop.next);
+    let sets = word_at(line, source.next);
+    let settings = Settings {
+        schedule: schedule_of(schedule.value),
+        alpha: float(alpha.value),
+        gamma0: float(gamma0.value),
+        pre_iterations: pre_iterations.value as usize,
+        num_legs: num_legs.value as usize,
+        leg_iterations: leg_iterations.value as usize,
+        gamma_low: float(low.value),
+        gamma_high: float(high.value),
+        stop_after_converged: stop.value as usize,
+        gamma_source: source_of(source.value, sets.value as usize),
+    };
+    Read {
+        settings: settings,
+        sets: sets.value,
+        next: sets.next,
+    }
+}
+
+// The decode, in lists that fit.
+fn decoded(
+    line: &[u8],
+    at: usize,
+    size: Size,
+    priors: &[f64],
+    check_var: &[u32],
+    check_message: &[u32],
+    check_offset: &[u32],
+    var_check: &[u32],
+    var_message: &[u32],
+    var_offset: &[u32],
+    settings: Settings,
+    gammas: &[f64],
+    syndrome: &[u8],
+    leg_state: &mut [u8],
+    leg_iterations: &mut [u32],
+    leg_weight: &mut [f64],
+    rows: &mut [u8],
+    correction: &mut [u8],
+    posterior: &mut [f64],
+    gamma: &mut [f64],
+    bias: &mut [f64],
+    c_to_v: &mut [f64],
+    v_to_c: &mut [f64],
+) -> bool {
+    let seed = word_at(line, at);
+    let d = relay::decode(
+        size,
+        priors,
+        check_var,
+        check_message,
+        check_offset,
+        var_check,
+        var_message,
+        var_offset,
+        settings,
+        gammas,
+        syndrome,
+        seed.value,
+        leg_state,
+        leg_iterations,
+        leg_weight,
+        rows,
+        correction,
+        posterior,
+        gamma,
+        bias,
+        c_to_v,
+        v_to_c,
+    );
+    compare::same_decode(
+        line,
+        seed.next,
+        d,
+        settings.num_legs,
+        size.mechanisms,
+        leg_state,
+        leg_iterations,
+        leg_weight,
+        rows,
+        correction,
+        posterior,
+        gamma,
+        bias,
+        c_to_v,
+        v_to_c,
+    )
+}
+
+// With room for the decode's lists.
+fn with_lists(
+    line: &[u8],
+    at: usize,
+    size: Size,
+    priors: &[f64],
+    check_var: &[u32],
+    check_message: &[u32],
+    check_offset: &[u32],
+    var_check: &[u32],
+    var_message: &[u32],
+    var_offset: &[u32],
+    settings: Settings,
+    gammas: &[f64],
+    syndrome: &[u8],
+) -> bool {
+    let mechanisms = size.mechanisms;
+    let edges = size.edges;
+    if mechanisms > 63 {
+        return false;
+    }
+    if edges > 128 {
+        return false;
+    }
+    let mut leg_state = [7u8; 64];
+    let mut leg_iterations = [7u32; 64];
+    let mut leg_weight = [7.0; 64];
+    let mut rows = [7u8; 512];
+    let mut correction = [7u8; 64];
+    let mut posterior = [7.0; 64];
+    let mut gamma = [7.0; 64];
+    let mut bias = [7.0; 64];
+    let mut c_to_v = [7.0; 128];
+    let mut v_to_c = [7.0; 128];
+    decoded(
+        line,
+        at,
+        size,
+        priors,
+        check_var,
+        check_message,
+        check_offset,
+        var_check,
+        var_message,
+        var_offset,
+        settings,
+        gammas,
+        syndrome,
+        &mut leg_state,
+        &mut leg_iterations,
+        &mut leg_weight,
+        &mut rows,
+        &mut correction[..mechanisms],
+        &mut posterior[..mechanisms],
+        &mut gamma[..mechanisms],
+        &mut bias[..mechanisms],
+        &mut c_to_v[..edges],
+        &mut v_to_c[..edges],
+    )
+}
+
+// The syndrome read into a list of its length.
+fn syndrome_read(
+    line: &[u8],
+    at: usize,
+    size: Size,
+    priors: &[f64],
+    check_var: &[u32],
+    check_message: &[u32],
+    check_offset: &[u32],
+    var_check: &[u32],
+    var_message: &[u32],
+    var_offset: &[u32],
+    settings: Settings,
+    gammas: &[f64],
+    syndrome: &mut [u8],
+) -> bool {
+    let next = read_bytes(line, at, syndrome);
+    with_lists(
+        line,
+        next,
+        size,
+        priors,
+        check_var,
+        check_message,
+        check_offset,
+        var_check,
+        var_message,
+        var_offset,
+        settings,
+        gammas,
+        syndrome,
+    )
+}
+
+// The gammas read into a list of their number, and room for the syndrome.
+fn gammas_read(
+    line: &[u8],
+    at: usize,
+    size: Size,
+    priors: &[f64],
+    check_var: &[u32],
+    check_message: &[u32],
+    check_offset: &[u32],
+    var_check: &[u32],
+    var_message: &[u32],
+    var_offset: &[u32],
+    settings: Settings,
+    gammas: &mut [f64],
+) -> bool {
+    let next = read_floats(line, at, gammas);
+    let length = word_at(line, next);
+    let bytes = length.value as usize;
+    if bytes > 64 {
+        return false;
+    }
+    let mut syndrome = [0u8; 64];
+    syndrome_read(
+        line,
+        length.next,
+        size,
+        priors,
+        check_var,
+        check_message,
+        check_offset,
+        var_check,
+        var_message,
+        var_offset,
+        settings,
+        gammas,
+        &mut syndrome[..bytes],
+    )
+}
+
+// With room for the gammas.
+fn with_gammas(
+    line: &[u8],
+    at: usize,
+    size: Size,
+    priors: &[f64],
+    check_var: &[u32],
+    check_message: &[u32],
+    check_offset: &[u32],
+    var_check: &[u32],
+    var_message: &[u32],
+    var_offset: &[u32],
+) -> bool {
+    let read = read_settings(line, at);
+    let settings = read.settings;
+    let floats = wrapping_mul(read.sets, size.mechanisms as u64) as usize;
+    if floats > 128 {
+        return false;
+    }
+    let mut gammas = [0.0; 128];
+    gammas_read(
+        line,
+        read.next,
+        size,
+        priors,
+        check_var,
+        check_message,
+        check_offset,
+        var_check,
+        var_message,
+        var_offset,
+        settings,
+        &mut gammas[..floats],
+    )
+}
+
+// The graph built into lists that fit.
+fn built(
+    line: &[u8],
+    at: usize,
+    size: Size,
+    priors: &mut [f64],
+    offsets: &mut [u32],
+    detectors: &mut [u32],
+    check_var: &mut [u32],
+    check_message: &mut [u32],
+    check_offset: &mut [u32],
+    var_check: &mut [u32],
+    var_message: &mut [u32],
+    var_offset: &mut [u32],
+) -> bool {
+    let b = read_graph(
+        line,
+        at,
+        size,
+        priors,
+        offsets,
+        detectors,
+        check_var,
+        check_message,
+        check_offset,
+        var_check,
+        var_message,
+        var_offset,
+    );
+    let a = b.answer;
+    if !is_done(a) {
+        return false;
+    }
+    with_gammas(
+        line,
+        b.next,
+        size,
+        priors,
+        check_var,
+        check_message,
+        check_offset,
+        var_check,
+        var_message,
+        var_offset,
+    )
+}
+
+// With room for the model and its graph.
+fn with_graph(line: &[u8], at: usize, size: Size) -> bool {
+    let checks = size.checks;
+    let mechanisms = size.mechanisms;
+    let edges = size.edges;
+    if checks > 63 {
+        return false;
+    }
+    if mechanisms > 63 {
+        return false;
+    }
+    if edges > 128 {
+        return false;
+    }
+    let mut priors = [0.0; 64];
+    let mut offsets = [0u32; 64];
+    let mut detectors = [0u32; 128];
+    let mut check_var = [0u32; 128];
+    let mut check_message = [0u32; 128];
+    let mut check_offset = [0u32; 64];
+    let mut var_check = [0u32; 128];
+    let mut var_message = [0u32; 128];
+    let mut var_offset = [0u32; 64];
+    built(
+        line,
+        at,
+        size,
+        &mut priors[..mechanisms],
+        &mut offsets[..mechanisms + 1],
+        &mut detectors[..edges],
+        &mut check_var[..edges],
+        &mut check_message[..edges],
+        &mut check_offset[..checks + 1],
+        &mut var_check[..edges],
+        &mut var_message[..edges],
+        &mut var_offset[..mechanisms + 1],
+    )
+}
+
+// A case: whether the code answers as the line says.
+fn case(line: &[u8]) -> bool {
+    let sizes = read_sizes(line, 0);
+    let size = sizes.size;
+    with_graph(line, sizes.next, size)
+}
+
+// Every case, from the second line on: the first has their number.
+fn replay(text: &[u8]) -> Counts {
+    let mut counts = Counts { same: 0, other: 0 };
+    let mut at = line_end(text, 0);
+    while at < text.len() {
+        // `at` is at the end of the line before.
+        let start = at + 1;
+        let end = line_end(text, start);
+        if start < end {
+            counts = count(counts, case(&text[start..end]));
+        }
+        at = end;
+    }
+    counts
+}
+
+fn main() {
+    let mut text = text_room();
+    let n = io::read_full(0, &mut text);
+    report(b"decodes", replay(&text[..n]));
+}
