@@ -298,7 +298,7 @@ fn place_number(p: Place) -> usize {
 // Whether the answer is the refusal of this number and place, and done where the number is 0.
 pub fn is_answer(a: Answer, number: u64, place: u64) -> bool {
     match a {
-        Answer::Done => number == 0,
+        Answer::Done => both(number == 0, place == 0),
         Answer::Refused(r) => both(
             number_of(r) as u64 == number,
             place_number(place_of(r)) as u64 == place,

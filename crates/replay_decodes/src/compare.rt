@@ -27,7 +27,7 @@ const ALL: usize = 18446744073709551615;
 // A decode's answer, with zeros for what it does not tell.
 struct Outcome {
     answer: Answer,
-    converged: bool,
+    converged: u64,
     executed: usize,
     total: usize,
     weight: f64,
@@ -41,7 +41,7 @@ fn told(d: Decoded) -> Outcome {
             weight,
         } => Outcome {
             answer: Answer::Done,
-            converged: true,
+            converged: 1,
             executed: executed_legs,
             total: total_iterations,
             weight: weight,
@@ -51,14 +51,14 @@ fn told(d: Decoded) -> Outcome {
             total_iterations,
         } => Outcome {
             answer: Answer::Done,
-            converged: false,
+            converged: 0,
             executed: executed_legs,
             total: total_iterations,
             weight: 0.0,
         },
         Decoded::Refused(r) => Outcome {
             answer: Answer::Refused(r),
-            converged: false,
+            converged: 0,
             executed: 0,
             total: 0,
             weight: 0.0,
@@ -81,7 +81,7 @@ fn same_answer(line: &[u8], before: Same, t: Outcome) -> Same {
     let total = word_at(line, executed.next);
     let weight = word_at(line, total.next);
     let found = both(
-        (converged.value == 1) == t.converged,
+        converged.value == t.converged,
         same_float(float(weight.value), t.weight),
     );
     let counted = both(

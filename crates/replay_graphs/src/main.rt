@@ -1,17 +1,21 @@
 // Replays the oracle's list of graph cases: builds each model and compares answer and lists with the Rust's. It reads the list from
 // standard input, which the file stdin holds.
 use graph::Size;
-use libc::STDOUT_FILENO;
 use numbers::wrapping_mul;
 use refusals::Answer;
 use refusals::is_done;
+use replay_core::Counts;
 use replay_core::Same;
+use replay_core::count;
 use replay_core::is_answer;
 use replay_core::line_end;
 use replay_core::read_bytes;
 use replay_core::read_floats;
-use replay_core::read_numbers;
+use replay_core::read_graph;
+use replay_core::read_sizes;
+use replay_core::report;
 use replay_core::same_numbers;
+use replay_core::text_room;
 use replay_core::word_at;
 
 // Whether the line goes on with this answer and, where nothing is refused, with these lists, and then ends.
@@ -52,14 +56,14 @@ fn answered(
 
 // ---- a sparse model: 63 checks and mechanisms and 128 edges at most
 
-// Built into lists that fit, and compared.
+// Read and built into lists that fit, and compared.
 fn sparse_built(
     line: &[u8],
     at: usize,
     size: Size,
-    priors: &[f64],
-    offsets: &[u32],
-    detectors: &[u32],
+    priors: &mut [f64],
+    offsets: &mut [u32],
+    detectors: &mut [u32],
     check_var: &mut [u32],
     check_message: &mut [u32],
     check_offset: &mut [u32],
@@ -67,7 +71,9 @@ fn sparse_built(
     var_message: &mut [u32],
     var_offset: &mut [u32],
 ) -> bool {
-    let a = graph::build_sparse(
+    let b = read_graph(
+        line,
+        at,
         size,
         priors,
         offsets,
@@ -79,9 +85,10 @@ fn sparse_built(
         var_message,
         var_offset,
     );
+    let a = b.answer;
     answered(
         line,
-        at,
+        b.next,
         a,
         check_var,
         check_message,
@@ -92,15 +99,8 @@ fn sparse_built(
     )
 }
 
-// With room for the graph.
-fn sparse_graph(
-    line: &[u8],
-    at: usize,
-    size: Size,
-    priors: &[f64],
-    offsets: &[u32],
-    detectors: &[u32],
-) -> bool {
+// With room for the model and its graph.
+fn sparse(line: &[u8], at: usize, size: Size) -> bool {
     let checks = size.checks;
     let mechanisms = size.mechanisms;
     let edges = size.edges;
@@ -113,6 +113,9 @@ fn sparse_graph(
     if edges > 128 {
         return false;
     }
+    let mut priors = [0.0; 64];
+    let mut offsets = [0u32; 64];
+    let mut detectors = [0u32; 128];
     let mut check_var = [0u32; 128];
     let mut check_message = [0u32; 128];
     let mut check_offset = [0u32; 64];
@@ -123,53 +126,15 @@ fn sparse_graph(
         line,
         at,
         size,
-        priors,
-        offsets,
-        detectors,
+        &mut priors[..mechanisms],
+        &mut offsets[..mechanisms + 1],
+        &mut detectors[..edges],
         &mut check_var[..edges],
         &mut check_message[..edges],
         &mut check_offset[..checks + 1],
         &mut var_check[..edges],
         &mut var_message[..edges],
         &mut var_offset[..mechanisms + 1],
-    )
-}
-
-// Read into lists of its sizes.
-fn sparse_read(
-    line: &[u8],
-    at: usize,
-    size: Size,
-    priors: &mut [f64],
-    offsets: &mut [u32],
-    detectors: &mut [u32],
-) -> bool {
-    let after_priors = read_floats(line, at, priors);
-    let after_offsets = read_numbers(line, after_priors, offsets);
-    let after_detectors = read_numbers(line, after_offsets, detectors);
-    sparse_graph(line, after_detectors, size, priors, offsets, detectors)
-}
-
-// With room for the model.
-fn sparse(line: &[u8], at: usize, size: Size) -> bool {
-    let mechanisms = size.mechanisms;
-    let edges = size.edges;
-    if mechanisms > 63 {
-        return false;
-    }
-    if edges > 128 {
-        return false;
-    }
-    let mut priors = [0.0; 64];
-    let mut offsets = [0u32; 64];
-    let mut detectors = [0u32; 128];
-    sparse_read(
-        line,
-        at,
-        size,
-        &mut priors[..mechanisms],
-        &mut offsets[..mechanisms + 1],
-        &mut detectors[..edges],
     )
 }
 
@@ -282,61 +247,32 @@ fn dense(line: &[u8], at: usize, size: Size) -> bool {
 // A case: whether the code answers as the line says.
 fn case(line: &[u8]) -> bool {
     let kind = word_at(line, 0);
-    let checks = word_at(line, kind.next);
-    let mechanisms = word_at(line, checks.next);
-    let edges = word_at(line, mechanisms.next);
-    let size = Size {
-        checks: checks.value as usize,
-        mechanisms: mechanisms.value as usize,
-        edges: edges.value as usize,
-    };
+    let sizes = read_sizes(line, kind.next);
+    let size = sizes.size;
     if kind.value == 1 {
-        return dense(line, edges.next, size);
+        return dense(line, sizes.next, size);
     }
-    sparse(line, edges.next, size)
-}
-
-// How many cases came out the same, and how many not.
-struct Counts {
-    same: u64,
-    other: u64,
+    sparse(line, sizes.next, size)
 }
 
 // Every case, from the second line on: the first has their number.
 fn replay(text: &[u8]) -> Counts {
-    let mut same: u64 = 0;
-    let mut other: u64 = 0;
+    let mut counts = Counts { same: 0, other: 0 };
     let mut at = line_end(text, 0);
     while at < text.len() {
         // `at` is at the end of the line before.
         let start = at + 1;
         let end = line_end(text, start);
         if start < end {
-            if case(&text[start..end]) {
-                same += 1;
-            } else {
-                other += 1;
-            }
+            counts = count(counts, case(&text[start..end]));
         }
         at = end;
     }
-    Counts {
-        same: same,
-        other: other,
-    }
-}
-
-fn room() -> [u8; 262144] {
-    [0u8; 262144]
+    counts
 }
 
 fn main() {
-    let mut text = room();
+    let mut text = text_room();
     let n = io::read_full(0, &mut text);
-    let counts = replay(&text[..n]);
-    io::write_all(STDOUT_FILENO, b"graphs ");
-    io::print_decimal(STDOUT_FILENO, counts.same);
-    io::write_all(STDOUT_FILENO, b" same, ");
-    io::print_decimal(STDOUT_FILENO, counts.other);
-    io::write_all(STDOUT_FILENO, b" other\n");
+    report(b"graphs", replay(&text[..n]));
 }

@@ -1,22 +1,22 @@
--- `replay_graphs::replay` is safe and ends. The invariant: the place is within the text, and no more cases are counted than bytes passed. Assumes nothing.
-use Prim.Native.Nat.{_≤_, _+_, _-_}
+-- `replay_graphs::replay` is safe and ends. The invariant: the place is within the text. Assumes nothing.
+use Prim.Native.Nat.{_≤_, _-_}
 use lib.ListN.{length}
-use borrow.Author.Needs.{needs}
 use native.Mathlib.Omega.{arith}
+use borrow.Author.Needs.{needs}
 use Rattle.replay_graphs.proofs.replay.Statement.{statement}
 use Rattle.replay_graphs.proofs.replay.Tie as tie
 
 abbrev Inv-loop : tie.InvT-loop
-Inv-loop text same₀ other₀ at₀ same other at = (at ≤ length text) × (same + other ≤ at)
+Inv-loop text counts₀ at₀ counts at = at ≤ length text
 
 abbrev μ-loop : tie.MeasureT-loop
-μ-loop text same₀ other₀ at₀ same other at = length text - at
+μ-loop text counts₀ at₀ counts at = length text - at
 
 line-end-requires : tie.Need-line-end-requires Inv-loop μ-loop
 line-end-requires c κs = omega arith
 
 loop-holds : tie.Need-loop-holds Inv-loop μ-loop
-loop-holds c = (omega arith, omega arith)
+loop-holds c = omega arith
 
 add-start : tie.Need-add-start Inv-loop μ-loop
 add-start c = omega arith
@@ -36,29 +36,20 @@ part-case-end c = omega arith
 case-requires : tie.Need-case-requires Inv-loop μ-loop
 case-requires c κs = search needs
 
-add-same : tie.Need-add-same Inv-loop μ-loop
-add-same c = omega arith
-
-add-other : tie.Need-add-other Inv-loop μ-loop
-add-other c = omega arith
+count-requires : tie.Need-count-requires Inv-loop μ-loop
+count-requires c κs = search needs
 
 loop-less : tie.Need-loop-less Inv-loop μ-loop
 loop-less c = omega arith
 
 loop-again : tie.Need-loop-again Inv-loop μ-loop
-loop-again c = (omega arith, omega arith)
+loop-again c = omega arith
 
 loop-less-2 : tie.Need-loop-less-2 Inv-loop μ-loop
 loop-less-2 c = omega arith
 
 loop-again-2 : tie.Need-loop-again-2 Inv-loop μ-loop
-loop-again-2 c = (omega arith, omega arith)
-
-loop-less-3 : tie.Need-loop-less-3 Inv-loop μ-loop
-loop-less-3 c = omega arith
-
-loop-again-3 : tie.Need-loop-again-3 Inv-loop μ-loop
-loop-again-3 c = (omega arith, omega arith)
+loop-again-2 c = omega arith
 
 returns : tie.Need-returns Inv-loop μ-loop
 returns c = search needs
@@ -77,12 +68,9 @@ replay-spec =
     part-case-start
     part-case-end
     case-requires
-    add-same
-    add-other
+    count-requires
     loop-less
     loop-again
     loop-less-2
     loop-again-2
-    loop-less-3
-    loop-again-3
     returns)

@@ -11,11 +11,14 @@ returns c = search needs
 returns-2 : tie.Need-returns-2
 returns-2 c = search needs
 
+returns-3 : tie.Need-returns-3
+returns-3 c = search needs
+
 array-borrow-prefix-priors : tie.Need-array-borrow-prefix-priors
 array-borrow-prefix-priors c = search needs
 
-slice-aggregate-sparse-read : tie.Need-slice-aggregate-sparse-read
-slice-aggregate-sparse-read c = part-length _ _ 64 (omega arith)
+slice-aggregate-sparse-built : tie.Need-slice-aggregate-sparse-built
+slice-aggregate-sparse-built c = part-length _ _ 64 (omega arith)
 
 add-offsets : tie.Need-add-offsets
 add-offsets c = search needs
@@ -23,20 +26,62 @@ add-offsets c = search needs
 array-borrow-prefix-offsets : tie.Need-array-borrow-prefix-offsets
 array-borrow-prefix-offsets c = search needs
 
-slice-aggregate-sparse-read-2 : tie.Need-slice-aggregate-sparse-read-2
-slice-aggregate-sparse-read-2 c = part-length _ _ 64 (omega arith)
+slice-aggregate-sparse-built-2 : tie.Need-slice-aggregate-sparse-built-2
+slice-aggregate-sparse-built-2 c = part-length _ _ 64 (omega arith)
 
 array-borrow-prefix-detectors : tie.Need-array-borrow-prefix-detectors
 array-borrow-prefix-detectors c = search needs
 
-slice-aggregate-sparse-read-3 : tie.Need-slice-aggregate-sparse-read-3
-slice-aggregate-sparse-read-3 c = part-length _ _ 128 (omega arith)
+slice-aggregate-sparse-built-3 : tie.Need-slice-aggregate-sparse-built-3
+slice-aggregate-sparse-built-3 c = part-length _ _ 128 (omega arith)
 
-sparse-read-requires : tie.Need-sparse-read-requires
-sparse-read-requires c κs = search needs
+array-borrow-prefix-check-var : tie.Need-array-borrow-prefix-check-var
+array-borrow-prefix-check-var c = search needs
 
-returns-3 : tie.Need-returns-3
-returns-3 c = search needs
+slice-aggregate-sparse-built-4 : tie.Need-slice-aggregate-sparse-built-4
+slice-aggregate-sparse-built-4 c = part-length _ _ 128 (omega arith)
+
+array-borrow-prefix-check-message : tie.Need-array-borrow-prefix-check-message
+array-borrow-prefix-check-message c = search needs
+
+slice-aggregate-sparse-built-5 : tie.Need-slice-aggregate-sparse-built-5
+slice-aggregate-sparse-built-5 c = part-length _ _ 128 (omega arith)
+
+add-check-offset : tie.Need-add-check-offset
+add-check-offset c = search needs
+
+array-borrow-prefix-check-offset : tie.Need-array-borrow-prefix-check-offset
+array-borrow-prefix-check-offset c = search needs
+
+slice-aggregate-sparse-built-6 : tie.Need-slice-aggregate-sparse-built-6
+slice-aggregate-sparse-built-6 c = part-length _ _ 64 (omega arith)
+
+array-borrow-prefix-var-check : tie.Need-array-borrow-prefix-var-check
+array-borrow-prefix-var-check c = search needs
+
+slice-aggregate-sparse-built-7 : tie.Need-slice-aggregate-sparse-built-7
+slice-aggregate-sparse-built-7 c = part-length _ _ 128 (omega arith)
+
+array-borrow-prefix-var-message : tie.Need-array-borrow-prefix-var-message
+array-borrow-prefix-var-message c = search needs
+
+slice-aggregate-sparse-built-8 : tie.Need-slice-aggregate-sparse-built-8
+slice-aggregate-sparse-built-8 c = part-length _ _ 128 (omega arith)
+
+add-var-offset : tie.Need-add-var-offset
+add-var-offset c = search needs
+
+array-borrow-prefix-var-offset : tie.Need-array-borrow-prefix-var-offset
+array-borrow-prefix-var-offset c = search needs
+
+slice-aggregate-sparse-built-9 : tie.Need-slice-aggregate-sparse-built-9
+slice-aggregate-sparse-built-9 c = part-length _ _ 64 (omega arith)
+
+sparse-built-requires : tie.Need-sparse-built-requires
+sparse-built-requires c κs = search needs
+
+returns-4 : tie.Need-returns-4
+returns-4 c = search needs
 
 pub sparse-spec : {M : Type 1} → statement M
 sparse-spec =
@@ -44,12 +89,27 @@ sparse-spec =
     (tie.spec
     returns
     returns-2
+    returns-3
     array-borrow-prefix-priors
-    slice-aggregate-sparse-read
+    slice-aggregate-sparse-built
     add-offsets
     array-borrow-prefix-offsets
-    slice-aggregate-sparse-read-2
+    slice-aggregate-sparse-built-2
     array-borrow-prefix-detectors
-    slice-aggregate-sparse-read-3
-    sparse-read-requires
-    returns-3)
+    slice-aggregate-sparse-built-3
+    array-borrow-prefix-check-var
+    slice-aggregate-sparse-built-4
+    array-borrow-prefix-check-message
+    slice-aggregate-sparse-built-5
+    add-check-offset
+    array-borrow-prefix-check-offset
+    slice-aggregate-sparse-built-6
+    array-borrow-prefix-var-check
+    slice-aggregate-sparse-built-7
+    array-borrow-prefix-var-message
+    slice-aggregate-sparse-built-8
+    add-var-offset
+    array-borrow-prefix-var-offset
+    slice-aggregate-sparse-built-9
+    sparse-built-requires
+    returns-4)
