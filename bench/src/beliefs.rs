@@ -21,7 +21,7 @@ pub fn run() {
 
 fn beliefs(edges: usize, serial: bool) {
     let sized = sized(edges);
-    let syndromes = sized.syndromes();
+    let syndromes = sized.syndromes(100);
     let graph = drive::sparse_graph(&sized.model).expect("the model builds");
     let mut scratch = BpScratch::new(&graph);
     let mut posterior = vec![0.0; sized.size.mechanisms];

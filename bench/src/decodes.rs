@@ -31,6 +31,16 @@ fn sets(mechanisms: usize) -> Vec<Vec<f64>> {
     (0..2).map(set).collect()
 }
 
+/// Few enough mechanisms happened that the decode converges at once.
+fn rare(sized: &Sized) -> Vec<Vec<u8>> {
+    let rarity = if sized.size.edges > 100_000 {
+        10_000
+    } else {
+        100
+    };
+    sized.syndromes(rarity)
+}
+
 /// Checks drawn at random: nothing makes such a syndrome, or nothing that a few iterations find.
 fn drawn(sized: &Sized, count: usize) -> Vec<Vec<u8>> {
     let mut random = SplitMix64::new(11);
@@ -46,9 +56,9 @@ fn drawn(sized: &Sized, count: usize) -> Vec<Vec<u8>> {
 fn decodes(edges: usize, serial: bool, early: bool) {
     let sized = sized(edges);
     let syndromes = if early {
-        sized.syndromes()
+        rare(&sized)
     } else {
-        drawn(&sized, sized.syndromes().len().div_ceil(4))
+        drawn(&sized, rare(&sized).len().div_ceil(4))
     };
     let sets = sets(sized.size.mechanisms);
     let flat = sets.concat();

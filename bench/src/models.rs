@@ -60,14 +60,14 @@ pub fn sized(edges: usize) -> Sized {
 }
 
 impl Sized {
-    /// What a turn runs, one after the other: in each some hundredth of the mechanisms happened. A processor learns the branches of
+    /// What a turn runs, one after the other: in each one mechanism in `rarity` happened, more or less. A processor learns the branches of
     /// one small run by heart, and a lab's shots differ; so a turn has several where they are small.
-    pub fn syndromes(&self) -> Vec<Vec<u8>> {
+    pub fn syndromes(&self, rarity: usize) -> Vec<Vec<u8>> {
         let count = (100_000 / self.size.edges).clamp(1, 64) as u64;
         let syndrome = |seed: u64| {
             let mut random = SplitMix64::new(seed);
             let happened: Vec<bool> = (0..self.size.mechanisms)
-                .map(|_| random.once_in(100))
+                .map(|_| random.once_in(rarity))
                 .collect();
             self.model.syndrome_of(&happened)
         };
