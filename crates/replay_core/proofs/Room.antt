@@ -1,5 +1,5 @@
 -- The length of a part of an array that was just made, and of the same part after a call wrote into it. Assumes nothing.
-use Prim.Native.Nat.{ℕ, _≤_}
+use Prim.Native.Nat.{ℕ, _≤_, _+_}
 use mathlib.Core.Path.{_≡_, sym, subst}
 use mathlib.Core.List.{List, _++_}
 use native.Mathlib.Omega.{arith}
@@ -17,3 +17,10 @@ again-fits x new n room kept h = omega (arith, kept, part-length x n room h, len
 -- and its first n are n again
 pub again-length : {A : Type 0} (x : A) (new : List A) (n room : ℕ) → length new ≡ length (take n (replicate room x)) → n ≤ room → n ≡ length (take n (new ++ drop n (replicate room x)))
 again-length x new n room kept h = sym (length-take-le n (new ++ drop n (replicate room x)) (again-fits x new n room kept h))
+
+-- room for one more than a test allows
+pub spare : (n k : ℕ) → n ≤ k → n ≤ k + 1
+spare n k h = omega (arith, h)
+
+pub one-more : (n k : ℕ) → n ≤ k → n + 1 ≤ k + 1
+one-more n k h = omega (arith, h)
