@@ -18,8 +18,9 @@ use Rattle.refusals.specs.Refusal.{numberOf, placeOf}
 use Rattle.graph.specs.Graph.{Graph}
 use Rattle.graph.specs.Model.{Outcome, outcome}
 use Rattle.min_sum.specs.Beliefs.{Lists, Outcome as BeliefsOutcome, outcome as beliefsOutcome}
-use Rattle.relay.specs.Calls.{StepLists, StepOutcome, stepOutcome}
-use Rattle.exports.specs.Answers.{placeCode, codeOf, sent, sentOf, left, leftBy, stepLeft, stepLeftBy}
+use Rattle.calls_core.specs.declared.Decoded.{Decoded}
+use Rattle.calls_core.specs.Calls.{StepLists, StepOutcome, stepOutcome, Lists as DecodeLists, Outcome as DecodeOutcome, outcome as decodeOutcome}
+use Rattle.exports.specs.Answers.{placeCode, codeOf, sent, sentOf, left, leftBy, stepLeft, stepLeftBy, decodedCode, countsOf, weightOf, decodeLeft, decodeLeftBy}
 
 -- a refusal's number is far below 65,536
 pub number-small : (r : Refusal) → numberOf r < 65536
@@ -75,6 +76,11 @@ left-as code a l o is-code is-outcome = ap (λ k. left k l) is-code ∙ ap leftB
 -- and of `iteration`
 pub step-left-as : (code : ℕ) (a : Answer) (l : StepLists) (o : StepOutcome) → code ≡ codeOf a → stepOutcome a l ≡ o → stepLeft code l ≡ stepLeftBy o
 step-left-as code a l o is-code is-outcome = ap (λ k. stepLeft k l) is-code ∙ ap stepLeftBy is-outcome
+
+-- and of a decode
+pub decode-left-as : (code : ℕ) (counts old : List ℕ) (weight was : List Float) (d : Decoded) (l : DecodeLists) (o : DecodeOutcome) → code ≡ decodedCode d
+    → counts ≡ countsOf d old → weight ≡ weightOf d was → decodeOutcome d l ≡ o → decodeLeft code counts weight l ≡ decodeLeftBy o old was
+decode-left-as code counts old weight was d l o p q r e = rw (p, q, r) (ap (λ (x : DecodeOutcome). decodeLeftBy x old was) e)
 
 -- ---- lists of fixed length, written whole
 

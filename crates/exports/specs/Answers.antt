@@ -17,9 +17,9 @@ use Rattle.settings.specs.declared.Schedule.the-variants.{Flooding, CheckSerial
 use Rattle.settings.specs.declared.GammaSource.{GammaSource}
 use Rattle.settings.specs.declared.GammaSource.the-variants.{Explicit, Seeded}
 use Rattle.settings.specs.declared.Settings.{Settings}
-use Rattle.relay.specs.declared.Decoded.{Decoded}
-use Rattle.relay.specs.declared.Decoded.the-variants as Decoded
-use Rattle.relay.specs.Calls.{StepLists, StepOutcome, Lists as DecodeLists, Outcome as DecodeOutcome}
+use Rattle.calls_core.specs.declared.Decoded.{Decoded}
+use Rattle.calls_core.specs.declared.Decoded.the-variants as Decoded
+use Rattle.calls_core.specs.Calls.{StepLists, StepOutcome, Lists as DecodeLists, Outcome as DecodeOutcome}
 use Rattle.min_sum.specs.Beliefs.{Lists, Outcome as BeliefsOutcome}
 
 -- 1 for true, 0 for false

@@ -2,7 +2,7 @@
 ghost use mathlib.Core.Path.{_≡_};
 ghost use Rattle.graph.specs.Graph.{graph as graphOf};
 ghost use Rattle.relay_core.specs.Step.{state};
-ghost use Rattle.relay.specs.Calls.{stepLists, iterationCall};
+ghost use Rattle.calls_core.specs.Calls.{stepLists, iterationCall};
 ghost use Rattle.exports.specs.Answers.{scheduleOf, stepLeft, stepLeftBy};
 use crate::answers::code;
 use graph::Size;

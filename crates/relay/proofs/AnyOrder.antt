@@ -13,8 +13,8 @@ use Rattle.graph.proofs.Sound.{passes-sound}
 use Rattle.graph.proofs.GraphTests.{graph-told}
 use Rattle.settings.specs.declared.Schedule.the-variants.{Flooding, CheckSerial}
 use Rattle.orders_core.specs.Order.{upto, NamesOnce, KeepsOrder, namesFault, exchangeFault}
-use Rattle.relay.specs.Decode.{Shot, Ended, decoded, refused, decodeLegs}
-use Rattle.relay.specs.Calls.{Lists, listsFit, decodeFault, leftBy, zeroed, afterLegs, afterTests, decodeInOrder, decode}
+use Rattle.calls_core.specs.Decode.{Shot, Ended, decoded, refused, decodeLegs}
+use Rattle.calls_core.specs.Calls.{Lists, listsFit, decodeFault, leftBy, zeroed, afterLegs, afterTests, decodeInOrder, decode}
 use Rattle.orders_core.proofs.Counts.{names-once-is}
 use Rattle.orders_core.proofs.OrderWords.{upto-names, index-taken, none-exchanged-is}
 use Rattle.relay.proofs.SameOutcome.{inIndexOrder, decode-same}

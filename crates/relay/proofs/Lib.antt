@@ -1,13 +1,6 @@
-pub mod Copies
 pub mod Rearrange
 pub mod Witness
 pub mod Exchange
 pub mod SameOutcome
 pub mod AnyOrder
-pub mod Calls
-pub mod Records
-pub mod Runs
-pub mod Shots
-pub mod WholeGraph
-pub mod Faults
 pub mod Theorems

@@ -16,8 +16,8 @@ use Rattle.relay_core.specs.Step.{State, updateCheck, computeBias, checkPass, v
 use Rattle.orders_core.specs.Order.{upto, NamesOnce, exchanged, exchangeFault}
 use Rattle.relay_core.specs.Leg.{startLeg, runLeg, satisfied}
 use Rattle.relay_core.specs.Gammas.{gammaOf}
-use Rattle.relay.specs.Decode.{Shot, Run, Progress, running, finished, iterationLimit, stepOf, executedLeg, startRun, recorded, afterLeg, legs, decodeLegs}
-use Rattle.relay.specs.Calls.{withOrder}
+use Rattle.calls_core.specs.Decode.{Shot, Run, Progress, running, finished, iterationLimit, stepOf, executedLeg, startRun, recorded, afterLeg, legs, decodeLegs}
+use Rattle.calls_core.specs.Calls.{withOrder}
 use Rattle.orders_core.proofs.Counts.{names-below}
 use Rattle.relay.proofs.Rearrange.{keeps, same}
 use Rattle.relay.proofs.Witness.{FreeIf, orders, Apart, kept, kept-any}

@@ -13,14 +13,14 @@ use Rattle.refusals.specs.declared.Answer.the-variants.{Done, Refused}
 use Rattle.graph.specs.Graph.{Graph, checkEntries}
 use Rattle.settings.specs.declared.Schedule.{Schedule}
 use Rattle.settings.specs.declared.Schedule.the-variants.{Flooding, CheckSerial}
-use Rattle.relay.specs.declared.LegRecord.{LegRecord}
+use Rattle.calls_core.specs.declared.LegRecord.{LegRecord}
 use Rattle.orders_core.specs.Order.{NamesOnce, KeepsOrder, FirstLate, namesFault, exchangeFault, exchanged}
-use Rattle.relay.specs.declared.Decoded.{Decoded}
+use Rattle.calls_core.specs.declared.Decoded.{Decoded}
 use Rattle.relay_core.specs.Step.{State, iteration}
 use Rattle.relay_core.specs.Leg.{startLeg, runLeg, satisfied}
 use Rattle.relay_core.specs.Gammas.{gammaOf}
-use Rattle.relay.specs.Decode.{Shot, iterationLimit, stepOf, executedLeg}
-use Rattle.relay.specs.Calls.{StepLists, StepOutcome, stepOutcome, stepFault, stepped, iterationCall, legRecord, Lists, Outcome, outcome, decodeInOrder, decode}
+use Rattle.calls_core.specs.Decode.{Shot, iterationLimit, stepOf, executedLeg}
+use Rattle.calls_core.specs.Calls.{StepLists, StepOutcome, stepOutcome, stepFault, stepped, iterationCall, legRecord, Lists, Outcome, outcome, decodeInOrder, decode}
 use Rattle.orders_core.proofs.OrderWords.{exchanged-is}
 use Rattle.relay.proofs.AnyOrder.{order-free, flooding-takes, serial-takes}
 

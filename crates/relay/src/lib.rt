@@ -1,20 +1,11 @@
 // Relay-BP over a Tanner graph: its settings and its answers, one iteration in any order, and the reading of a leg's record. What they mean stands in specs/.
-mod all_legs;
-mod bytes;
-mod counted;
-mod decode_tests;
-mod iterate;
-mod one_leg;
-mod tests;
-
 use messages_core::at;
 use refusals::Answer;
-use refusals::Refusal;
 ghost use mathlib.Core.Path.{_≡_};
 ghost use Rattle.graph.specs.Graph.{graph};
 ghost use mathlib.Core.List.{[]};
 ghost use Rattle.relay_core.specs.Step.{state};
-ghost use Rattle.relay.specs.Calls.{stepLists, stepOutcome, iterationCall, recordOf, legRecord, outcome, decodeInOrder, decode as decodeOf};
+ghost use Rattle.calls_core.specs.Calls.{stepLists, stepOutcome, iterationCall, legRecord, outcome, decodeInOrder, decode as decodeOf};
 
 // The settings' types, which `settings` declares.
 pub type Schedule = settings::Schedule;
@@ -23,44 +14,10 @@ pub type GammaSource = settings::GammaSource;
 
 pub type Settings = settings::Settings;
 
-// What a decode answers. The corrections, the posterior and the legs' records are in the lent lists.
-pub enum Decoded {
-    Converged {
-        executed_legs: usize,
-        total_iterations: usize,
-        weight: f64,
-    },
-    NotConverged {
-        executed_legs: usize,
-        total_iterations: usize,
-    },
-    Refused(Refusal),
-}
+// What a decode answers, and a leg's record, which `calls_core` declares.
+pub type Decoded = calls_core::Decoded;
 
-// A leg's record, read out of the leg lists.
-pub enum LegRecord {
-    Converged { weight: f64, iterations: usize },
-    RanOut { iterations: usize },
-    NotExecuted,
-}
-
-// What a leg's state, iterations and weight say.
-fn record_of(state: u8, iterations: usize, weight: f64) -> LegRecord
-    ensures { λ x. ⌜ x ≡ recordOf state iterations weight ⌝ }
-{
-    if state == 1 {
-        return LegRecord::RanOut {
-            iterations: iterations,
-        };
-    }
-    if state == 2 {
-        return LegRecord::Converged {
-            weight: weight,
-            iterations: iterations,
-        };
-    }
-    LegRecord::NotExecuted
-}
+pub type LegRecord = calls_core::LegRecord;
 
 // The record of the leg r, out of the leg lists of a decode; outside one of them it was not executed.
 pub fn leg_record(
@@ -80,7 +37,7 @@ pub fn leg_record(
     if r >= leg_weight.len() {
         return LegRecord::NotExecuted;
     }
-    record_of(leg_state[r], at(leg_iterations, r), leg_weight[r])
+    calls_core::record_of(leg_state[r], at(leg_iterations, r), leg_weight[r])
 }
 
 // One iteration of the schedule in the order given. The messages and the posterior go in and come back; the bias is for work, and is zero after any call past
@@ -106,7 +63,7 @@ pub fn iteration(
 ) -> Answer
     ensures { λ r. ⌜ stepOutcome r (stepLists (state (now («c_to_v» .exit)) (now («v_to_c» .exit)) (now (posterior .exit))) (now (bias .exit))) ≡ iterationCall (size .edges) (now (priors .entry)) (graph (size .checks) (size .mechanisms) (now («check_var» .entry)) (now («check_message» .entry)) (now («check_offset» .entry)) (now («var_check» .entry)) (now («var_message» .entry)) (now («var_offset» .entry))) schedule alpha (now (gamma .entry)) (now (syndrome .entry)) (now (order .entry)) (stepLists (state (now («c_to_v» .entry)) (now («v_to_c» .entry)) (now (posterior .entry))) (now (bias .entry))) ⌝ }
 {
-    let a = tests::fault(
+    let a = calls_core::tests::fault(
         size,
         priors,
         check_var,
@@ -127,7 +84,7 @@ pub fn iteration(
     if !refusals::is_done(a) {
         return a;
     }
-    iterate::stepped(
+    calls_core::iterate::stepped(
         schedule,
         alpha,
         syndrome,
@@ -174,7 +131,7 @@ pub fn decode_in_order(
 ) -> Decoded
     ensures { λ r. ⌜ outcome r (record { legState = now («leg_state» .exit); legIterations = now («leg_iterations» .exit); legWeight = now («leg_weight» .exit); rows = now (rows .exit); correction = now (correction .exit); posterior = now (posterior .exit); gamma = now (gamma .exit); bias = now (bias .exit); cToV = now («c_to_v» .exit); vToC = now («v_to_c» .exit) }) ≡ decodeInOrder (size .edges) (record { graph = graph (size .checks) (size .mechanisms) (now («check_var» .entry)) (now («check_message» .entry)) (now («check_offset» .entry)) (now («var_check» .entry)) (now («var_message» .entry)) (now («var_offset» .entry)); prior = now (priors .entry); settings = settings; gammas = now (gammas .entry); order = now (order .entry); syndrome = now (syndrome .entry); seed = seed }) (record { legState = now («leg_state» .entry); legIterations = now («leg_iterations» .entry); legWeight = now («leg_weight» .entry); rows = now (rows .entry); correction = now (correction .entry); posterior = now (posterior .entry); gamma = now (gamma .entry); bias = now (bias .entry); cToV = now («c_to_v» .entry); vToC = now («v_to_c» .entry) }) ⌝ }
 {
-    let a = decode_tests::decode_fault(
+    let a = decode_core::decode_tests::decode_fault(
         size,
         priors,
         check_var,
@@ -200,7 +157,7 @@ pub fn decode_in_order(
     );
     match a {
         Answer::Refused(r) => Decoded::Refused(r),
-        Answer::Done => all_legs::decode_shot(
+        Answer::Done => decode_core::all_legs::decode_shot(
             settings,
             gammas,
             seed,
@@ -252,7 +209,7 @@ pub fn decode(
 ) -> Decoded
     ensures { λ r. ⌜ outcome r (record { legState = now («leg_state» .exit); legIterations = now («leg_iterations» .exit); legWeight = now («leg_weight» .exit); rows = now (rows .exit); correction = now (correction .exit); posterior = now (posterior .exit); gamma = now (gamma .exit); bias = now (bias .exit); cToV = now («c_to_v» .exit); vToC = now («v_to_c» .exit) }) ≡ decodeOf (size .edges) (record { graph = graph (size .checks) (size .mechanisms) (now («check_var» .entry)) (now («check_message» .entry)) (now («check_offset» .entry)) (now («var_check» .entry)) (now («var_message» .entry)) (now («var_offset» .entry)); prior = now (priors .entry); settings = settings; gammas = now (gammas .entry); order = []; syndrome = now (syndrome .entry); seed = seed }) (record { legState = now («leg_state» .entry); legIterations = now («leg_iterations» .entry); legWeight = now («leg_weight» .entry); rows = now (rows .entry); correction = now (correction .entry); posterior = now (posterior .entry); gamma = now (gamma .entry); bias = now (bias .entry); cToV = now («c_to_v» .entry); vToC = now («v_to_c» .entry) }) ⌝ }
 {
-    let a = decode_tests::shot_fault(
+    let a = decode_core::decode_tests::shot_fault(
         size,
         priors,
         check_var,
@@ -277,7 +234,7 @@ pub fn decode(
     );
     match a {
         Answer::Refused(r) => Decoded::Refused(r),
-        Answer::Done => counted::decode_counted(
+        Answer::Done => decode_core::counted::decode_counted(
             settings,
             gammas,
             seed,

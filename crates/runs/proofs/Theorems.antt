@@ -15,8 +15,8 @@ use Rattle.relay_core.specs.Step as Step
 use Rattle.orders_core.specs.Order as Order
 use Rattle.relay_core.specs.Leg as Leg
 use Rattle.relay_core.specs.Gammas as Gammas
-use Rattle.relay.specs.Decode as Decode
-use Rattle.relay.specs.Calls as Calls
+use Rattle.calls_core.specs.Decode as Decode
+use Rattle.calls_core.specs.Calls as Calls
 use Rattle.runs.specs.Runs.{Table}
 
 -- the twelve runs

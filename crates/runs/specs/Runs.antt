@@ -23,8 +23,8 @@ use Rattle.settings.specs.declared.Schedule.{Schedule}
 use Rattle.settings.specs.declared.Schedule.the-variants.{Flooding, CheckSerial}
 use Rattle.settings.specs.declared.GammaSource.the-variants.{Seeded}
 use Rattle.relay_core.specs.Leg.{startLeg}
-use Rattle.relay.specs.Calls as Calls
-use Rattle.relay.specs.Calls.{iterationCall, decodeInOrder, stepLists, told, tellOf}
+use Rattle.calls_core.specs.Calls as Calls
+use Rattle.calls_core.specs.Calls.{iterationCall, decodeInOrder, stepLists, told, tellOf}
 
 -- ---- numbers
 

@@ -2,8 +2,8 @@
 -- than the four lists.
 -- Assumes nothing.
 use Rattle.relay_core.specs.Step.{state}
-use Rattle.relay.specs.Calls.{StepLists, stepLists}
-use Rattle.relay.proofs.Calls.{Told, told, iteration-refused, iteration-ran}
+use Rattle.calls_core.specs.Calls.{StepLists, stepLists}
+use Rattle.calls_core.proofs.Calls.{Told, told, iteration-refused, iteration-ran}
 use borrow.Author.Needs.{needs}
 use Rattle.relay.proofs.iteration.Statement.{statement}
 use Rattle.relay.proofs.iteration.Tie as tie

@@ -1,0 +1,4 @@
+pub mod WholeGraph
+pub mod Runs
+pub mod Shots
+pub mod Faults

@@ -1,0 +1,408 @@
+// One leg of a decode: its gammas, its start, its iterations, and its record. The hard decision is taken in the leg's own row.
+use crate::bytes::clear_bytes;
+use crate::bytes::copy_bytes;
+use calls_core::Decoded;
+use messages_core::clear;
+use messages_core::from_variables;
+use refusals::Answer;
+use relay_core::gammas::prepare_gamma;
+use relay_core::leg::Leg;
+use relay_core::leg::correction_weight;
+use relay_core::leg::run_leg;
+use settings::Settings;
+ghost use mathlib.Core.Path.{_≡_};
+ghost use mathlib.Core.Bool.{true, _||_, not, cond};
+ghost use mathlib.Core.List.{[]};
+ghost use Prim.Native.Nat.{_+_, _*_, _<_, _≤_, suc};
+ghost use lib.Dec.{leb};
+ghost use lib.ListN.{length, set, replicate};
+ghost use Rattle.numbers.specs.Floats.{zero⁺};
+ghost use Rattle.refusals.specs.declared.Answer.the-variants.{Done};
+ghost use Rattle.refusals.specs.Tests.{isDone};
+ghost use Rattle.messages_core.specs.Needs.{Entries, walked};
+ghost use Rattle.relay_core.specs.Step.{state};
+ghost use Rattle.relay_core.specs.Leg.{leg as legOf, hardDecision, startLeg, correctionWeight};
+ghost use Rattle.calls_core.specs.Decode.{isNoneOr, iterationLimit, executedLeg};
+ghost use Rattle.legs_core.specs.Kept.{shotOf, Reads, bestOf, kept, bestAfter, corrected, keptWith, rowAfter, keptAfter, Blank, answerBy};
+
+// `iteration_limit`.
+fn iteration_limit(t: Settings, leg: usize) -> usize
+    ensures { λ r. ⌜ r ≡ iterationLimit t leg ⌝ }
+{
+    if leg == 0 {
+        return t.pre_iterations;
+    }
+    t.leg_iterations
+}
+
+// `start_leg`: check messages cleared, variable messages at the priors.
+fn start_leg(check_var: &[u32], priors: &[f64], c_to_v: &mut [f64], v_to_c: &mut [f64])
+    requires { ⌜ Entries (length (now priors)) (now «check_var») ⌝ }
+    requires { ⌜ (length (now «c_to_v») ≡ length (now «check_var»)) × (length (now «v_to_c») ≡ length (now «check_var»)) ⌝ }
+    ensures { λ _. ⌜ state (now («c_to_v» .exit)) (now («v_to_c» .exit)) [] ≡ startLeg (walked 0 0 (now («check_var» .entry)) [] [] []) (now (priors .entry)) [] ⌝ }
+{
+    clear(c_to_v);
+    from_variables(check_var, priors, v_to_c);
+}
+
+// One executed leg, from the posterior that the legs before it left.
+fn execute_leg(
+    leg: usize,
+    t: Settings,
+    gammas: &[f64],
+    seed: u64,
+    syndrome: &[u8],
+    priors: &[f64],
+    check_var: &[u32],
+    check_offset: &[u32],
+    var_message: &[u32],
+    var_offset: &[u32],
+    order: &[u32],
+    gamma: &mut [f64],
+    bias: &mut [f64],
+    c_to_v: &mut [f64],
+    v_to_c: &mut [f64],
+    posterior: &mut [f64],
+    bits: &mut [u8],
+) -> Leg
+    requires { ⌜ Reads t (now gammas) (now syndrome) (now priors) (now «check_var») (now «check_offset») (now «var_message») (now «var_offset») (now order) ⌝ }
+    requires { ⌜ leg ≤ t .«num_legs» ⌝ }
+    requires { ⌜ (length (now gamma) ≡ length (now priors)) × (length (now bias) ≡ length (now priors)) × (length (now posterior) ≡ length (now priors)) × (length (now bits) ≡ length (now priors)) ⌝ }
+    requires { ⌜ (length (now «c_to_v») ≡ length (now «check_var»)) × (length (now «v_to_c») ≡ length (now «check_var»)) ⌝ }
+    ensures ran { λ r. ⌜ legOf (r .converged) (r .iterations) (state (now («c_to_v» .exit)) (now («v_to_c» .exit)) (now (posterior .exit))) ≡ executedLeg (shotOf t (now (gammas .entry)) seed (now (syndrome .entry)) (now (priors .entry)) (now («check_var» .entry)) (now («check_offset» .entry)) (now («var_message» .entry)) (now («var_offset» .entry)) (now (order .entry))) leg (now (posterior .entry)) ⌝ }
+    ensures bits { λ _. ⌜ now (bits .exit) ≡ hardDecision (now (posterior .exit)) ⌝ }
+    ensures few { λ r. ⌜ r .iterations ≤ 65535 ⌝ }
+{
+    let schedule = t.schedule;
+    let alpha = t.alpha;
+    let limit = iteration_limit(t, leg);
+    prepare_gamma(t, gammas, seed, leg, gamma);
+    start_leg(check_var, priors, c_to_v, v_to_c);
+    run_leg(
+        limit,
+        schedule,
+        alpha,
+        syndrome,
+        priors,
+        gamma,
+        check_var,
+        check_offset,
+        var_message,
+        var_offset,
+        order,
+        bias,
+        c_to_v,
+        v_to_c,
+        posterior,
+        bits,
+    )
+}
+
+// What is kept between legs beside the lists: the least weight of a leg that converged, once there is one, and the counts.
+pub struct Tally {
+    pub found: bool,
+    pub weight: f64,
+    pub num_converged: usize,
+    pub total_iterations: usize,
+}
+
+// `best_weight.is_none_or(|current| weight < current)`.
+fn is_better(found: bool, current: f64, weight: f64) -> bool
+    ensures { λ r. ⌜ r ≡ isNoneOr (bestOf found current) weight ⌝ }
+{
+    if found {
+        return weight < current;
+    }
+    true
+}
+
+// A leg that converged with this weight: the least weight wins, the earlier leg on ties.
+fn keep_least(
+    tally: Tally,
+    iterations: usize,
+    weight: f64,
+    row: &[u8],
+    correction: &mut [u8],
+) -> Tally
+    requires { ⌜ (tally .«num_converged» ≤ 65536) × (tally .«total_iterations» ≤ 65536 * 65535) × (iterations ≤ 65535) ⌝ }
+    requires { ⌜ length (now correction) ≡ length (now row) ⌝ }
+    ensures best { λ r. ⌜ bestOf (r .found) (r .weight) ≡ bestAfter true (bestOf (tally .found) (tally .weight)) weight ⌝ }
+    ensures counts { λ r. ⌜ (r .«num_converged» ≡ tally .«num_converged» + 1) × (r .«total_iterations» ≡ tally .«total_iterations» + iterations) ⌝ }
+    ensures correction { λ _. ⌜ now (correction .exit) ≡ corrected true (bestOf (tally .found) (tally .weight)) weight (now (row .entry)) (now (correction .entry)) ⌝ }
+{
+    let converged = tally.num_converged + 1;
+    let total = tally.total_iterations + iterations;
+    if is_better(tally.found, tally.weight, weight) {
+        copy_bytes(row, correction);
+        return Tally {
+            found: true,
+            weight: weight,
+            num_converged: converged,
+            total_iterations: total,
+        };
+    }
+    Tally {
+        found: tally.found,
+        weight: tally.weight,
+        num_converged: converged,
+        total_iterations: total,
+    }
+}
+
+// Without convergence so far the last hard decision is the correction.
+fn keep_last(found: bool, row: &[u8], correction: &mut [u8])
+    requires { ⌜ length (now correction) ≡ length (now row) ⌝ }
+    ensures { λ _. ⌜ now (correction .exit) ≡ cond found (now (correction .entry)) (now (row .entry)) ⌝ }
+{
+    if found {
+        return;
+    }
+    copy_bytes(row, correction);
+}
+
+// A leg's entries in the leg lists.
+fn write_leg(
+    leg: usize,
+    state: u8,
+    iterations: usize,
+    weight: f64,
+    leg_state: &mut [u8],
+    leg_iterations: &mut [u32],
+    leg_weight: &mut [f64],
+)
+    requires { ⌜ (leg < length (now «leg_state»)) × (leg < length (now «leg_iterations»)) × (leg < length (now «leg_weight»)) × (iterations ≤ 65535) ⌝ }
+    ensures { λ _. ⌜ (now («leg_state» .exit) ≡ set (now («leg_state» .entry)) leg state) × (now («leg_iterations» .exit) ≡ set (now («leg_iterations» .entry)) leg iterations) × (now («leg_weight» .exit) ≡ set (now («leg_weight» .entry)) leg weight) ⌝ }
+{
+    leg_state[leg] = state;
+    leg_iterations[leg] = iterations as u32;
+    leg_weight[leg] = weight;
+}
+
+// A leg that has run, its hard decision in its row: what it adds to the records. The row of one that ran out is zero.
+fn record_leg(
+    leg: usize,
+    l: Leg,
+    tally: Tally,
+    priors: &[f64],
+    row: &mut [u8],
+    correction: &mut [u8],
+    leg_state: &mut [u8],
+    leg_iterations: &mut [u32],
+    leg_weight: &mut [f64],
+) -> Tally
+    requires { ⌜ (tally .«num_converged» ≤ 65536) × (tally .«total_iterations» ≤ 65536 * 65535) × (l .iterations ≤ 65535) ⌝ }
+    requires { ⌜ (length (now row) ≡ length (now priors)) × (length (now correction) ≡ length (now priors)) ⌝ }
+    requires { ⌜ (leg < length (now «leg_state»)) × (leg < length (now «leg_iterations»)) × (leg < length (now «leg_weight»)) ⌝ }
+    ensures best { λ r. ⌜ bestOf (r .found) (r .weight) ≡ bestAfter (l .converged) (bestOf (tally .found) (tally .weight)) (correctionWeight (now (priors .entry)) (now (row .entry)) (length (now (priors .entry)))) ⌝ }
+    ensures counts { λ r. ⌜ (r .«num_converged» ≡ tally .«num_converged» + cond (l .converged) 1 0) × (r .«total_iterations» ≡ tally .«total_iterations» + l .iterations) ⌝ }
+    ensures entries { λ _. ⌜ (now («leg_state» .exit) ≡ set (now («leg_state» .entry)) leg (cond (l .converged) 2 1)) × (now («leg_iterations» .exit) ≡ set (now («leg_iterations» .entry)) leg (l .iterations)) × (now («leg_weight» .exit) ≡ set (now («leg_weight» .entry)) leg (cond (l .converged) (correctionWeight (now (priors .entry)) (now (row .entry)) (length (now (priors .entry)))) zero⁺)) ⌝ }
+    ensures row { λ _. ⌜ now (row .exit) ≡ cond (l .converged) (now (row .entry)) (replicate (length (now (row .entry))) 0) ⌝ }
+    ensures correction { λ _. ⌜ now (correction .exit) ≡ corrected (l .converged) (bestOf (tally .found) (tally .weight)) (correctionWeight (now (priors .entry)) (now (row .entry)) (length (now (priors .entry)))) (now (row .entry)) (now (correction .entry)) ⌝ }
+{
+    if l.converged {
+        let weight = correction_weight(priors, row);
+        write_leg(
+            leg,
+            2,
+            l.iterations,
+            weight,
+            leg_state,
+            leg_iterations,
+            leg_weight,
+        );
+        return keep_least(tally, l.iterations, weight, row, correction);
+    }
+    write_leg(
+        leg,
+        1,
+        l.iterations,
+        0.0,
+        leg_state,
+        leg_iterations,
+        leg_weight,
+    );
+    keep_last(tally.found, row, correction);
+    clear_bytes(row);
+    Tally {
+        found: tally.found,
+        weight: tally.weight,
+        num_converged: tally.num_converged,
+        total_iterations: tally.total_iterations + l.iterations,
+    }
+}
+
+// A leg, run and recorded, with its hard decision in the row lent to it.
+fn leg_in_row(
+    leg: usize,
+    tally: Tally,
+    t: Settings,
+    gammas: &[f64],
+    seed: u64,
+    syndrome: &[u8],
+    priors: &[f64],
+    check_var: &[u32],
+    check_offset: &[u32],
+    var_message: &[u32],
+    var_offset: &[u32],
+    order: &[u32],
+    leg_state: &mut [u8],
+    leg_iterations: &mut [u32],
+    leg_weight: &mut [f64],
+    row: &mut [u8],
+    correction: &mut [u8],
+    posterior: &mut [f64],
+    gamma: &mut [f64],
+    bias: &mut [f64],
+    c_to_v: &mut [f64],
+    v_to_c: &mut [f64],
+) -> Tally
+    requires { ⌜ Reads t (now gammas) (now syndrome) (now priors) (now «check_var») (now «check_offset») (now «var_message») (now «var_offset») (now order) ⌝ }
+    requires { ⌜ (leg ≤ t .«num_legs») × (tally .«num_converged» ≤ 65536) × (tally .«total_iterations» ≤ 65536 * 65535) ⌝ }
+    requires { ⌜ (leg < length (now «leg_state»)) × (leg < length (now «leg_iterations»)) × (leg < length (now «leg_weight»)) ⌝ }
+    requires { ⌜ (length (now row) ≡ length (now priors)) × (length (now correction) ≡ length (now priors)) × (length (now posterior) ≡ length (now priors)) × (length (now gamma) ≡ length (now priors)) × (length (now bias) ≡ length (now priors)) ⌝ }
+    requires { ⌜ (length (now «c_to_v») ≡ length (now «check_var»)) × (length (now «v_to_c») ≡ length (now «check_var»)) ⌝ }
+    ensures turn { λ r. ⌜ kept (bestOf (r .found) (r .weight)) (r .«num_converged») (r .«total_iterations») (suc leg) (now («leg_state» .exit)) (now («leg_iterations» .exit)) (now («leg_weight» .exit)) (now (row .exit)) (now (correction .exit)) (now (posterior .exit)) ≡ keptWith (shotOf t (now (gammas .entry)) seed (now (syndrome .entry)) (now (priors .entry)) (now («check_var» .entry)) (now («check_offset» .entry)) (now («var_message» .entry)) (now («var_offset» .entry)) (now (order .entry))) (kept (bestOf (tally .found) (tally .weight)) (tally .«num_converged») (tally .«total_iterations») leg (now («leg_state» .entry)) (now («leg_iterations» .entry)) (now («leg_weight» .entry)) [] (now (correction .entry)) []) leg (executedLeg (shotOf t (now (gammas .entry)) seed (now (syndrome .entry)) (now (priors .entry)) (now («check_var» .entry)) (now («check_offset» .entry)) (now («var_message» .entry)) (now («var_offset» .entry)) (now (order .entry))) leg (now (posterior .entry))) (rowAfter (shotOf t (now (gammas .entry)) seed (now (syndrome .entry)) (now (priors .entry)) (now («check_var» .entry)) (now («check_offset» .entry)) (now («var_message» .entry)) (now («var_offset» .entry)) (now (order .entry))) (executedLeg (shotOf t (now (gammas .entry)) seed (now (syndrome .entry)) (now (priors .entry)) (now («check_var» .entry)) (now («check_offset» .entry)) (now («var_message» .entry)) (now («var_offset» .entry)) (now (order .entry))) leg (now (posterior .entry)))) ⌝ }
+    ensures few { λ r. ⌜ (r .«num_converged» ≤ tally .«num_converged» + 1) × (r .«total_iterations» ≤ tally .«total_iterations» + 65535) ⌝ }
+{
+    let l = execute_leg(
+        leg,
+        t,
+        gammas,
+        seed,
+        syndrome,
+        priors,
+        check_var,
+        check_offset,
+        var_message,
+        var_offset,
+        order,
+        gamma,
+        bias,
+        c_to_v,
+        v_to_c,
+        posterior,
+        row,
+    );
+    record_leg(
+        leg,
+        l,
+        tally,
+        priors,
+        row,
+        correction,
+        leg_state,
+        leg_iterations,
+        leg_weight,
+    )
+}
+
+// The leg's row, lent on from its place in the flat list.
+pub fn next_leg(
+    leg: usize,
+    tally: Tally,
+    t: Settings,
+    gammas: &[f64],
+    seed: u64,
+    syndrome: &[u8],
+    priors: &[f64],
+    check_var: &[u32],
+    check_offset: &[u32],
+    var_message: &[u32],
+    var_offset: &[u32],
+    order: &[u32],
+    leg_state: &mut [u8],
+    leg_iterations: &mut [u32],
+    leg_weight: &mut [f64],
+    rows: &mut [u8],
+    correction: &mut [u8],
+    posterior: &mut [f64],
+    gamma: &mut [f64],
+    bias: &mut [f64],
+    c_to_v: &mut [f64],
+    v_to_c: &mut [f64],
+) -> Tally
+    requires { ⌜ Reads t (now gammas) (now syndrome) (now priors) (now «check_var») (now «check_offset») (now «var_message») (now «var_offset») (now order) ⌝ }
+    requires { ⌜ (leg ≤ t .«num_legs») × (tally .«num_converged» ≤ 65536) × (tally .«total_iterations» ≤ 65536 * 65535) ⌝ }
+    requires { ⌜ (length (now «leg_state») ≡ suc (t .«num_legs»)) × (length (now «leg_iterations») ≡ suc (t .«num_legs»)) × (length (now «leg_weight») ≡ suc (t .«num_legs»)) × (length (now rows) ≡ suc (t .«num_legs») * length (now priors)) ⌝ }
+    requires { ⌜ Blank (leg * length (now priors)) (now rows) ⌝ }
+    requires { ⌜ (length (now correction) ≡ length (now priors)) × (length (now posterior) ≡ length (now priors)) × (length (now gamma) ≡ length (now priors)) × (length (now bias) ≡ length (now priors)) ⌝ }
+    requires { ⌜ (length (now «c_to_v») ≡ length (now «check_var»)) × (length (now «v_to_c») ≡ length (now «check_var»)) ⌝ }
+    ensures turn { λ r. ⌜ kept (bestOf (r .found) (r .weight)) (r .«num_converged») (r .«total_iterations») (suc leg) (now («leg_state» .exit)) (now («leg_iterations» .exit)) (now («leg_weight» .exit)) (now (rows .exit)) (now (correction .exit)) (now (posterior .exit)) ≡ keptAfter (shotOf t (now (gammas .entry)) seed (now (syndrome .entry)) (now (priors .entry)) (now («check_var» .entry)) (now («check_offset» .entry)) (now («var_message» .entry)) (now («var_offset» .entry)) (now (order .entry))) (kept (bestOf (tally .found) (tally .weight)) (tally .«num_converged») (tally .«total_iterations») leg (now («leg_state» .entry)) (now («leg_iterations» .entry)) (now («leg_weight» .entry)) (now (rows .entry)) (now (correction .entry)) (now (posterior .entry))) leg (executedLeg (shotOf t (now (gammas .entry)) seed (now (syndrome .entry)) (now (priors .entry)) (now («check_var» .entry)) (now («check_offset» .entry)) (now («var_message» .entry)) (now («var_offset» .entry)) (now (order .entry))) leg (now (posterior .entry))) ⌝ }
+    ensures blank { λ _. ⌜ Blank (leg * length (now (priors .entry)) + length (now (priors .entry))) (now (rows .exit)) ⌝ }
+    ensures few { λ r. ⌜ (r .«num_converged» ≤ tally .«num_converged» + 1) × (r .«total_iterations» ≤ tally .«total_iterations» + 65535) ⌝ }
+{
+    let start = leg * priors.len();
+    let end = start + priors.len();
+    leg_in_row(
+        leg,
+        tally,
+        t,
+        gammas,
+        seed,
+        syndrome,
+        priors,
+        check_var,
+        check_offset,
+        var_message,
+        var_offset,
+        order,
+        leg_state,
+        leg_iterations,
+        leg_weight,
+        &mut rows[start..end],
+        correction,
+        posterior,
+        gamma,
+        bias,
+        c_to_v,
+        v_to_c,
+    )
+}
+
+// What a run answers: its counts, with the weight where a leg converged.
+pub fn answer_run(
+    found: bool,
+    weight: f64,
+    executed_legs: usize,
+    total_iterations: usize,
+) -> Decoded
+    ensures { λ r. ⌜ r ≡ answerBy Done (bestOf found weight) «executed_legs» «total_iterations» ⌝ }
+{
+    if found {
+        return Decoded::Converged {
+            executed_legs: executed_legs,
+            total_iterations: total_iterations,
+            weight: weight,
+        };
+    }
+    Decoded::NotConverged {
+        executed_legs: executed_legs,
+        total_iterations: total_iterations,
+    }
+}
+
+// What is answered after a leg that is the last: 30, or the run.
+pub fn answer(
+    a: Answer,
+    found: bool,
+    weight: f64,
+    executed_legs: usize,
+    total_iterations: usize,
+) -> Decoded
+    ensures { λ r. ⌜ r ≡ answerBy a (bestOf found weight) «executed_legs» «total_iterations» ⌝ }
+{
+    match a {
+        Answer::Refused(r) => Decoded::Refused(r),
+        Answer::Done => answer_run(found, weight, executed_legs, total_iterations),
+    }
+}
+
+// No leg follows: 30, or enough have converged.
+pub fn ends(a: Answer, stop: usize, num_converged: usize) -> bool
+    ensures { λ r. ⌜ r ≡ (not (isDone a) || leb stop «num_converged») ⌝ }
+{
+    if !refusals::is_done(a) {
+        return true;
+    }
+    stop <= num_converged
+}

@@ -1,3 +1,0 @@
-pub mod Decode
-pub mod Calls
-pub mod Kept
