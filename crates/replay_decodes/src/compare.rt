@@ -1,5 +1,6 @@
 // Compares what a decode answered, and what it left in every lent list, with what the line says. The lists of bytes and numbers were lent full of 7, those of floats
-// full of 7.0, so that what was not written shows; those of legs are longer than the legs, and keep the rest.
+// full of 7.0, so that what was not written shows, in the lists and in what the arrays have behind them.
+use graph::Size;
 use numbers::both;
 use numbers::wrapping_mul;
 use refusals::Answer;
@@ -20,9 +21,6 @@ use std::num::wrapping_add_usize;
 const LENT: u64 = 7;
 
 const LENT_FLOAT: u64 = 4619567317775286272;
-
-// More elements than any list has.
-const ALL: usize = 18446744073709551615;
 
 // A decode's answer, with zeros for what it does not tell.
 struct Outcome {
@@ -66,12 +64,54 @@ fn told(d: Decoded) -> Outcome {
     }
 }
 
-// What the lists must hold: of each leg list and of the rows this many legs, of the other results and of the work lists this much.
+// The product of two numbers, which are small.
+fn product(a: usize, b: usize) -> usize {
+    wrapping_mul(a as u64, b as u64) as usize
+}
+
+// Where the lists begin on the line, and how much of each must be written and cleared: of the leg lists, of the rows, of the other results, and of the work lists of
+// mechanisms and of edges.
 struct Expected {
     start: Same,
     legs: Left,
+    rows: Left,
     results: Left,
     work: Left,
+    messages: Left,
+}
+
+// How much of every list is written, and cleared, where that many legs, mechanisms and edges are.
+fn expected_at(
+    start: Same,
+    executed: usize,
+    written: usize,
+    legs: usize,
+    mechanisms: usize,
+    edges: usize,
+) -> Expected {
+    Expected {
+        start: start,
+        legs: Left {
+            written: executed,
+            cleared: legs,
+        },
+        rows: Left {
+            written: product(executed, mechanisms),
+            cleared: product(legs, mechanisms),
+        },
+        results: Left {
+            written: written,
+            cleared: mechanisms,
+        },
+        work: Left {
+            written: 0,
+            cleared: mechanisms,
+        },
+        messages: Left {
+            written: 0,
+            cleared: edges,
+        },
+    }
 }
 
 // Whether the next words are this answer, where nothing was refused.
@@ -95,7 +135,7 @@ fn same_answer(line: &[u8], before: Same, t: Outcome) -> Same {
 }
 
 // A decode that ran to its end writes every list; 30 zeroes every list; any other refusal leaves them.
-fn expects(line: &[u8], at: usize, t: Outcome, num_legs: usize) -> Expected {
+fn expects(line: &[u8], at: usize, t: Outcome, num_legs: usize, size: Size) -> Expected {
     let number = word_at(line, at);
     let place = word_at(line, number.next);
     let a = t.answer;
@@ -105,49 +145,20 @@ fn expects(line: &[u8], at: usize, t: Outcome, num_legs: usize) -> Expected {
     };
     let legs = wrapping_add_usize(num_legs, 1);
     if number.value == 0 {
-        return Expected {
-            start: same_answer(line, start, t),
-            legs: Left {
-                written: t.executed,
-                cleared: legs,
-            },
-            results: Left {
-                written: ALL,
-                cleared: ALL,
-            },
-            work: Left {
-                written: 0,
-                cleared: ALL,
-            },
-        };
+        let answered = same_answer(line, start, t);
+        return expected_at(
+            answered,
+            t.executed,
+            size.mechanisms,
+            legs,
+            size.mechanisms,
+            size.edges,
+        );
     }
     if number.value == 30 {
-        return Expected {
-            start: start,
-            legs: Left {
-                written: 0,
-                cleared: legs,
-            },
-            results: Left {
-                written: 0,
-                cleared: ALL,
-            },
-            work: Left {
-                written: 0,
-                cleared: ALL,
-            },
-        };
+        return expected_at(start, 0, 0, legs, size.mechanisms, size.edges);
     }
-    let nothing = Left {
-        written: 0,
-        cleared: 0,
-    };
-    Expected {
-        start: start,
-        legs: nothing,
-        results: nothing,
-        work: nothing,
-    }
+    expected_at(start, 0, 0, 0, 0, 0)
 }
 
 // A list's element, and one that no list holds outside it.
@@ -223,40 +234,32 @@ fn same_legs(
     legs
 }
 
-// As many elements for each leg.
-fn times(left: Left, mechanisms: usize) -> Left {
-    Left {
-        written: wrapping_mul(left.written as u64, mechanisms as u64) as usize,
-        cleared: wrapping_mul(left.cleared as u64, mechanisms as u64) as usize,
-    }
-}
-
 // Whether the line goes on with this answer and these lists, and then ends.
 pub(crate) fn same_decode(
     line: &[u8],
     at: usize,
     d: Decoded,
     num_legs: usize,
-    mechanisms: usize,
-    leg_state: &[u8],
-    leg_iterations: &[u32],
-    leg_weight: &[f64],
-    rows: &[u8],
-    correction: &[u8],
-    posterior: &[f64],
-    gamma: &[f64],
-    bias: &[f64],
-    c_to_v: &[f64],
-    v_to_c: &[f64],
+    size: Size,
+    leg_state: &[u8; 64],
+    leg_iterations: &[u32; 64],
+    leg_weight: &[f64; 64],
+    rows: &[u8; 512],
+    correction: &[u8; 64],
+    posterior: &[f64; 64],
+    gamma: &[f64; 64],
+    bias: &[f64; 64],
+    c_to_v: &[f64; 128],
+    v_to_c: &[f64; 128],
 ) -> bool {
-    let e = expects(line, at, told(d), num_legs);
+    let e = expects(line, at, told(d), num_legs, size);
     let legs = same_legs(line, e.start, e.legs, leg_state, leg_iterations, leg_weight);
-    let row = left_bytes(line, legs, times(e.legs, mechanisms), LENT, rows);
+    let row = left_bytes(line, legs, e.rows, LENT, rows);
     let corrected = left_bytes(line, row, e.results, LENT, correction);
     let believed = left_floats(line, corrected, e.results, LENT_FLOAT, posterior);
     let g = left_floats(line, believed, e.work, LENT_FLOAT, gamma);
     let b = left_floats(line, g, e.work, LENT_FLOAT, bias);
-    let c = left_floats(line, b, e.work, LENT_FLOAT, c_to_v);
-    let v = left_floats(line, c, e.work, LENT_FLOAT, v_to_c);
+    let c = left_floats(line, b, e.messages, LENT_FLOAT, c_to_v);
+    let v = left_floats(line, c, e.messages, LENT_FLOAT, v_to_c);
     both(v.same, v.next == line.len())
 }

@@ -2,6 +2,7 @@
 // from standard input, which the file stdin holds. Room: 63 checks and mechanisms, 128 edges, 128 gammas, 64 legs, 512 bytes of rows.
 mod compare;
 
+use compare::same_decode;
 use graph::Size;
 use numbers::wrapping_mul;
 use refusals::is_done;
@@ -72,78 +73,8 @@ fn read_settings(line: &[u8], at: usize) -> Read {
     }
 }
 
-// The decode, in lists that fit.
+// The decode, with room for its lists.
 fn decoded(
-    line: &[u8],
-    at: usize,
-    size: Size,
-    priors: &[f64],
-    check_var: &[u32],
-    check_message: &[u32],
-    check_offset: &[u32],
-    var_check: &[u32],
-    var_message: &[u32],
-    var_offset: &[u32],
-    settings: Settings,
-    gammas: &[f64],
-    syndrome: &[u8],
-    leg_state: &mut [u8],
-    leg_iterations: &mut [u32],
-    leg_weight: &mut [f64],
-    rows: &mut [u8],
-    correction: &mut [u8],
-    posterior: &mut [f64],
-    gamma: &mut [f64],
-    bias: &mut [f64],
-    c_to_v: &mut [f64],
-    v_to_c: &mut [f64],
-) -> bool {
-    let seed = word_at(line, at);
-    let d = relay::decode(
-        size,
-        priors,
-        check_var,
-        check_message,
-        check_offset,
-        var_check,
-        var_message,
-        var_offset,
-        settings,
-        gammas,
-        syndrome,
-        seed.value,
-        leg_state,
-        leg_iterations,
-        leg_weight,
-        rows,
-        correction,
-        posterior,
-        gamma,
-        bias,
-        c_to_v,
-        v_to_c,
-    );
-    compare::same_decode(
-        line,
-        seed.next,
-        d,
-        settings.num_legs,
-        size.mechanisms,
-        leg_state,
-        leg_iterations,
-        leg_weight,
-        rows,
-        correction,
-        posterior,
-        gamma,
-        bias,
-        c_to_v,
-        v_to_c,
-    )
-}
-
-// With room for the decode's lists.
-fn with_lists(
     line: &[u8],
     at: usize,
     size: Size,
@@ -176,9 +107,8 @@ fn with_lists(
     let mut bias = [7.0; 64];
     let mut c_to_v = [7.0; 128];
     let mut v_to_c = [7.0; 128];
-    decoded(
-        line,
-        at,
+    let seed = word_at(line, at);
+    let d = relay::decode(
         size,
         priors,
         check_var,
@@ -190,6 +120,7 @@ fn with_lists(
         settings,
         gammas,
         syndrome,
+        seed.value,
         &mut leg_state,
         &mut leg_iterations,
         &mut leg_weight,
@@ -200,6 +131,23 @@ fn with_lists(
         &mut bias[..mechanisms],
         &mut c_to_v[..edges],
         &mut v_to_c[..edges],
+    );
+    same_decode(
+        line,
+        seed.next,
+        d,
+        settings.num_legs,
+        size,
+        &leg_state,
+        &leg_iterations,
+        &leg_weight,
+        &rows,
+        &correction,
+        &posterior,
+        &gamma,
+        &bias,
+        &c_to_v,
+        &v_to_c,
     )
 }
 
@@ -220,7 +168,7 @@ fn syndrome_read(
     syndrome: &mut [u8],
 ) -> bool {
     let next = read_bytes(line, at, syndrome);
-    with_lists(
+    decoded(
         line,
         next,
         size,
@@ -312,53 +260,6 @@ fn with_gammas(
     )
 }
 
-// The graph built into lists that fit.
-fn built(
-    line: &[u8],
-    at: usize,
-    size: Size,
-    priors: &mut [f64],
-    offsets: &mut [u32],
-    detectors: &mut [u32],
-    check_var: &mut [u32],
-    check_message: &mut [u32],
-    check_offset: &mut [u32],
-    var_check: &mut [u32],
-    var_message: &mut [u32],
-    var_offset: &mut [u32],
-) -> bool {
-    let b = read_graph(
-        line,
-        at,
-        size,
-        priors,
-        offsets,
-        detectors,
-        check_var,
-        check_message,
-        check_offset,
-        var_check,
-        var_message,
-        var_offset,
-    );
-    let a = b.answer;
-    if !is_done(a) {
-        return false;
-    }
-    with_gammas(
-        line,
-        b.next,
-        size,
-        priors,
-        check_var,
-        check_message,
-        check_offset,
-        var_check,
-        var_message,
-        var_offset,
-    )
-}
-
 // With room for the model and its graph.
 fn with_graph(line: &[u8], at: usize, size: Size) -> bool {
     let checks = size.checks;
@@ -382,7 +283,7 @@ fn with_graph(line: &[u8], at: usize, size: Size) -> bool {
     let mut var_check = [0u32; 128];
     let mut var_message = [0u32; 128];
     let mut var_offset = [0u32; 64];
-    built(
+    let b = read_graph(
         line,
         at,
         size,
@@ -395,6 +296,22 @@ fn with_graph(line: &[u8], at: usize, size: Size) -> bool {
         &mut var_check[..edges],
         &mut var_message[..edges],
         &mut var_offset[..mechanisms + 1],
+    );
+    let a = b.answer;
+    if !is_done(a) {
+        return false;
+    }
+    with_gammas(
+        line,
+        b.next,
+        size,
+        &priors[..mechanisms],
+        &check_var[..edges],
+        &check_message[..edges],
+        &check_offset[..checks + 1],
+        &var_check[..edges],
+        &var_message[..edges],
+        &var_offset[..mechanisms + 1],
     )
 }
 
