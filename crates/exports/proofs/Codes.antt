@@ -91,7 +91,15 @@ three-set (x ∷ (y ∷ [])) a b c h = absurd (omega (arith, h))
 three-set (x ∷ (y ∷ (z ∷ []))) a b c h = refl
 three-set (x ∷ (y ∷ (z ∷ (w ∷ ws)))) a b c h = absurd (omega (arith, h))
 
-pub one-set : (xs : List Float) (a : Float) → length xs ≡ 1 → set xs 0 a ≡ a ∷ []
+pub four-set : {A : Type 0} (xs : List A) (a b c d : A) → length xs ≡ 4 → set (set (set (set xs 0 a) 1 b) 2 c) 3 d ≡ a ∷ (b ∷ (c ∷ (d ∷ [])))
+four-set [] a b c d h = absurd (omega (arith, h))
+four-set (x ∷ []) a b c d h = absurd (omega (arith, h))
+four-set (x ∷ (y ∷ [])) a b c d h = absurd (omega (arith, h))
+four-set (x ∷ (y ∷ (z ∷ []))) a b c d h = absurd (omega (arith, h))
+four-set (x ∷ (y ∷ (z ∷ (w ∷ [])))) a b c d h = refl
+four-set (x ∷ (y ∷ (z ∷ (w ∷ (v ∷ vs))))) a b c d h = absurd (omega (arith, h))
+
+pub one-set : {A : Type 0} (xs : List A) (a : A) → length xs ≡ 1 → set xs 0 a ≡ a ∷ []
 one-set [] a h = absurd (omega (arith, h))
 one-set (x ∷ []) a h = refl
 one-set (x ∷ (y ∷ ys)) a h = absurd (omega (arith, h))

@@ -9,6 +9,7 @@ ghost use Rattle.numbers.specs.Floats.{zero⁺};
 ghost use Rattle.refusals.specs.Refusal.{numberOf};
 ghost use Rattle.refusals.specs.declared.Answer.the-variants.{Refused};
 ghost use Rattle.graph.specs.Graph.{graph as graphOf};
+ghost use Rattle.settings.specs.Settings.{settingsFault};
 ghost use Rattle.calls_core.specs.Calls.{decode as decodeOf, decodeInOrder};
 ghost use Rattle.exports.specs.Answers.{sourceOf, listsOf, settingsOf, codeOf, decodedCode, countsOf, weightOf, decodeLeft, decodeLeftBy};
 use crate::answers::code;
@@ -61,6 +62,41 @@ fn settings_of(
         stop_after_converged: stop_after_converged,
         gamma_source: source,
     }
+}
+
+// `settings::check_settings`.
+#[no_mangle]
+pub extern "C" fn chowderkite_check_settings(
+    schedule: u8,
+    alpha: f64,
+    gamma0: f64,
+    pre_iterations: usize,
+    num_legs: usize,
+    leg_iterations: usize,
+    gamma_low: f64,
+    gamma_high: f64,
+    stop_after_converged: usize,
+    explicit: u8,
+    sets: usize,
+    mechanisms: usize,
+    gammas: &[f64],
+) -> u64
+    ensures { λ r. ⌜ r ≡ codeOf (settingsFault (settingsOf schedule alpha gamma0 «pre_iterations» «num_legs» «leg_iterations» «gamma_low» «gamma_high» «stop_after_converged» explicit sets) mechanisms (now (gammas .entry))) ⌝ }
+{
+    let t = settings_of(
+        schedule,
+        alpha,
+        gamma0,
+        pre_iterations,
+        num_legs,
+        leg_iterations,
+        gamma_low,
+        gamma_high,
+        stop_after_converged,
+        explicit,
+        sets,
+    );
+    code(settings::check_settings(t, mechanisms, gammas))
 }
 
 // Three counts and a weight, written.

@@ -4,6 +4,8 @@ mod answers;
 mod beliefs;
 mod decodes;
 mod graphs;
+mod legs;
+mod point;
 mod steps;
 
 ghost use mathlib.Core.Path.{_≡_};
