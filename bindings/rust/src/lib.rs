@@ -32,8 +32,8 @@
 //! # Priors
 //!
 //! A mechanism's prior is the log ratio `ln((1 - p) / p)` of its probability `p`, from -30 to 30. It comes ready made: `ln` is
-//! no IEEE 754 operation, so its last bits depend on the library that takes it, and a result must not. Take it once, with the `ln` that you
-//! have, and keep the log ratio with the model; the key of a result is the log ratio's bits, not `p`.
+//! no IEEE 754 operation, so its last bits depend on the library that takes it, and a result must not. Take it once, with the
+//! `ln` that you have, and keep the log ratio with the model: it is the log ratio that belongs to a result's key, and not `p`.
 //!
 //! ```
 //! fn prior(p: f64) -> f64 {
@@ -55,7 +55,7 @@
 //!
 //! | There | Here |
 //! |---|---|
-//! | `BpGraph::from_sparse_dem`, `from_dcm` | [`BpGraph::from_sparse`], [`BpGraph::from_dense`], with log ratios for probabilities |
+//! | `BpGraph::from_sparse_dem`, `from_dcm` | [`BpGraph::from_sparse`], [`BpGraph::from_dense`], of log ratios |
 //! | `min_sum_bp_into` | [`min_sum_into`], and [`min_sum`], which allocates |
 //! | `RelayConfig::explicit_gammas` | [`GammaSource::Explicit`], flat, in [`RelayConfig::gamma_source`] |
 //! | gammas drawn by PECOS's generator | SplitMix64: other gammas for the same seed; [`GammaSource::drawn`] hands them out |
@@ -63,10 +63,11 @@
 //! | sizes up to `u32` | [`MAX_CHECKS`], [`MAX_MECHANISMS`], [`MAX_EDGES`], [`MAX_COUNT`] |
 //! | checks in index order | [`RelayBp::decode_in_order`] and [`iteration`] take others |
 //!
-//! # Threads and stack
+//! # Threads, stack and floats
 //!
-//! There is no shared state. A decoder works in one thread at a time; clone it for others. A decode takes 260 KiB of
-//! stack, which is in a Rust thread's default of 2 MiB.
+//! There is no shared state. A decoder works in one thread at a time; clone it for others. A decode takes 260 KiB of stack on
+//! x86-64, whatever the model; a Rust thread has 2 MiB unless told otherwise. The processor must round to nearest even and must
+//! not flush subnormals to zero, as a program starts; C code in the same thread can change that.
 
 #![deny(missing_docs)]
 #![deny(unsafe_code)]
@@ -88,6 +89,11 @@ pub use graph::{BpGraph, GraphLists};
 pub use iteration::{iteration, RelayState};
 pub use min_sum::{min_sum, min_sum_into, BpScratch};
 pub use relay::{GammaSource, LegOutcome, RelayBp, RelayConfig, RelayOutcome, Schedule};
+
+// The README's example is a test too.
+#[cfg(doctest)]
+#[doc = include_str!("../README.md")]
+struct Readme;
 
 /// The limit of checks.
 pub const MAX_CHECKS: usize = 65_536;

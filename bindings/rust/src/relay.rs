@@ -46,7 +46,7 @@ impl GammaSource {
     #[must_use]
     pub fn drawn(gamma_range: (f64, f64), seed: u64, legs: usize, mechanisms: usize) -> Self {
         let (low, high) = gamma_range;
-        let mut gammas = Vec::with_capacity(legs * mechanisms);
+        let mut gammas = Vec::new();
         for leg in 1..=legs as u64 {
             let mut state = seed ^ (leg + 1);
             for _ in 0..mechanisms {
