@@ -103,6 +103,14 @@ fn r8_min_sum() {
     assert_eq!(bits(&beliefs), bits(&[0.0, 4.0, 8.0]));
 }
 
+/// Serial, check 1 hears what mechanism 1 made of check 0's message, and tells mechanism 2 something else.
+#[test]
+fn serial_min_sum_is_another() {
+    let beliefs = min_sum(&model_g(), &[1, 0], 1, 1.0, true).unwrap();
+    assert_eq!(bits(&beliefs[..2]), bits(&[0.0, 4.0]));
+    assert!(beliefs[2] < 8.0);
+}
+
 #[test]
 fn r9_check_of_one_entry() {
     let outcome = decode(single(2.0), Flooding, 1, &[1]);

@@ -3,8 +3,8 @@
 mod common;
 
 use chowderkite::{
-    iteration, min_sum, min_sum_into, BpGraph, BpScratch, GammaSource, Refusal, RelayBp,
-    RelayConfig, RelayState, Schedule,
+    iteration, min_sum, min_sum_into, BpGraph, BpScratch, GammaSource, LegOutcome, Refusal,
+    RelayBp, RelayConfig, RelayState, Schedule,
 };
 use common::{bits, outcome_bits, Random};
 use Schedule::{CheckSerial, Flooding};
@@ -249,17 +249,62 @@ fn decode_is_iterations() {
                     let is_end = record.converged() && step == record.iterations();
                     assert_eq!(matches(&graph, &state, &syndrome), is_end);
                 }
+                if let Some(correction) = record.correction() {
+                    assert_eq!(correction, decision(&state));
+                }
             }
             assert_eq!(bits(&state.posterior), bits(&outcome.posterior));
         }
     }
 }
 
+fn decision(state: &RelayState) -> Vec<u8> {
+    let posterior = state.posterior.iter();
+    posterior.map(|&ratio| u8::from(ratio < 0.0)).collect()
+}
+
 /// Whether the hard decision has every parity of the syndrome.
 fn matches(graph: &BpGraph, state: &RelayState, syndrome: &[u8]) -> bool {
-    syndrome.iter().enumerate().all(|(check, &bit)| {
-        let set = graph.mechanisms(check).iter();
-        let count = set.filter(|&&m| state.posterior[m as usize] < 0.0).count();
-        count % 2 == usize::from(bit)
-    })
+    let decision = decision(state);
+    let parity = |check: usize| {
+        let mechanisms = graph.mechanisms(check).iter();
+        mechanisms.fold(0, |parity, &m| parity ^ decision[m as usize])
+    };
+    (0..syndrome.len()).all(|check| parity(check) == syndrome[check])
+}
+
+/// The least weight wins, the earlier leg on ties.
+#[test]
+fn best_leg() {
+    let mut random = Random::new(8);
+    let graph = random.model(20, 50);
+    let config = RelayConfig {
+        num_legs: 20,
+        stop_after_converged: 10,
+        ..settings(CheckSerial)
+    };
+    let mut decoder = RelayBp::new(graph.clone(), config).unwrap();
+    let mut later = 0;
+    for seed in 0..100 {
+        let syndrome = random.syndrome(&graph, 8);
+        let outcome = decoder.decode(&syndrome, seed).unwrap();
+        let mut best: Option<&LegOutcome> = None;
+        for leg in &outcome.legs {
+            let less = |best: &LegOutcome| leg.weight() < best.weight();
+            if leg.converged() && best.is_none_or(less) {
+                later += u32::from(best.is_some());
+                best = Some(leg);
+            }
+        }
+        assert_eq!(outcome.converged, best.is_some());
+        assert_eq!(outcome.weight, best.and_then(LegOutcome::weight));
+        if let Some(best) = best {
+            assert_eq!(best.correction(), Some(&outcome.correction[..]));
+        }
+        let executed = outcome.legs.iter().filter(|leg| leg.iterations() > 0);
+        assert_eq!(outcome.executed_legs, executed.count());
+        let total: usize = outcome.legs.iter().map(LegOutcome::iterations).sum();
+        assert_eq!(outcome.total_iterations, total);
+    }
+    assert!(later > 0);
 }
