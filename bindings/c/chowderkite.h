@@ -17,9 +17,11 @@
  * - The numbers of checks, mechanisms and edges are said by the caller, and the lists must fit them: exactly, unless a
  *   call says "at least".
  * - "Refuses" means that it answers a code that is not 0 (below). A call that its tests refuse writes nothing: every list
- *   is as it was. Tests go in rising number, and the first that refuses is answered. Refusal 30 alone comes after the
- *   work; each call that has it says what it leaves.
+ *   is as it was. Tests go in rising number unless a call says otherwise, and the first that refuses is answered, with
+ *   its first place. Refusal 30 alone comes after the work; each call that has it says what it leaves.
  * - Once past its tests, refused with 30 or not, a call leaves positive zeroes in its work lists.
+ *
+ * Link a program with libexports.a, which wants memset of the C library and nothing else.
  *
  * Priors are log ratios ln((1 - p) / p), from -30 to 30. They come ready made, since ln is no IEEE 754 operation, and a
  * result must not depend on the library that took it.
@@ -53,32 +55,33 @@ extern "C" {
 
 enum chowderkite_refusal {
     CHOWDERKITE_DONE = 0,
-    CHOWDERKITE_SIZE_ABOVE_LIMIT = 1,     /* a size above its limit */
-    CHOWDERKITE_MODEL_LIST_LENGTH = 2,    /* a model or graph list of wrong length */
-    CHOWDERKITE_BAD_DETECTOR_OFFSETS = 3, /* offsets don't start at 0, fall, or don't end at the detector list's length */
-    CHOWDERKITE_BAD_PRIOR = 4,            /* NaN, below -30 or above 30; place: mechanism */
-    CHOWDERKITE_DETECTOR_OUT_OF_RANGE = 5, /* place: mechanism */
-    CHOWDERKITE_DETECTOR_REPEATED = 6,     /* within its mechanism; place: mechanism */
+    CHOWDERKITE_SIZE_ABOVE_LIMIT = 1,      /* a size above its limit */
+    CHOWDERKITE_MODEL_LIST_LENGTH = 2,     /* a model or graph list of wrong length */
+    CHOWDERKITE_BAD_DETECTOR_OFFSETS = 3,  /* they don't start at 0, fall, or don't end at detectors_len */
+    CHOWDERKITE_BAD_PRIOR = 4,             /* NaN, below -30 or above 30. Place: mechanism */
+    CHOWDERKITE_DETECTOR_OUT_OF_RANGE = 5, /* Place: mechanism */
+    CHOWDERKITE_DETECTOR_REPEATED = 6,     /* within its mechanism. Place: mechanism */
     CHOWDERKITE_NO_SUCH_GRAPH = 7,         /* graph lists that no model within the limits builds */
     CHOWDERKITE_BAD_ALPHA = 10,            /* not finite or not above 0 */
     CHOWDERKITE_BAD_GAMMA0 = 11,           /* not finite */
-    CHOWDERKITE_BAD_ITERATIONS = 12,       /* pre_iterations 0 or above the limit; iterations of beliefs above it */
+    CHOWDERKITE_BAD_ITERATIONS = 12,       /* pre_iterations 0 or above the limit; those of beliefs above it */
     CHOWDERKITE_TOO_MANY_LEGS = 13,        /* num_legs above the limit */
     CHOWDERKITE_BAD_LEG_ITERATIONS = 14,   /* above the limit, or 0 with num_legs above 0 */
     CHOWDERKITE_BAD_GAMMA_INTERVAL = 15,   /* an end or the span not finite, or low above high */
     CHOWDERKITE_BAD_STOP = 16,             /* stop_after_converged 0 */
-    CHOWDERKITE_NO_GAMMA_SETS = 17,        /* explicit source, no sets, num_legs above 0 */
+    CHOWDERKITE_NO_GAMMA_SETS = 17,        /* explicit, no sets, num_legs above 0 */
     CHOWDERKITE_GAMMA_SETS_LENGTH = 18,    /* sets above the limit, or gammas_len not sets times mechanisms */
-    CHOWDERKITE_GAMMA_NOT_FINITE = 19,     /* explicit gamma; place: index in gammas */
+    CHOWDERKITE_GAMMA_NOT_FINITE = 19,     /* of an explicit set. Place: index in gammas */
     CHOWDERKITE_SYNDROME_LENGTH = 20,      /* not the number of checks */
-    CHOWDERKITE_SYNDROME_NOT_BINARY = 21,  /* Relay: a byte above 1; place: check */
+    CHOWDERKITE_SYNDROME_NOT_BINARY = 21,  /* Relay: a byte above 1. Place: check */
     CHOWDERKITE_LENT_LIST_LENGTH = 22,     /* a result, state or work list of wrong length */
     CHOWDERKITE_ORDER_NOT_EACH_ONCE = 23,  /* an order that does not name each check once */
-    CHOWDERKITE_ORDER_EXCHANGED = 24,      /* decode, CheckSerial: two checks that share a mechanism exchanged; place: the
-                                              first check in the order that shares one with a higher check named before it */
-    CHOWDERKITE_STATE_NOT_FINITE = 25,     /* single iteration: a message, posterior or gamma not finite */
-    CHOWDERKITE_NON_FINITE = 30            /* non-finite posterior after a leg or a run of beliefs; single iteration:
-                                              posterior or message after it; place: first mechanism that has one */
+    CHOWDERKITE_ORDER_EXCHANGED = 24,      /* decode, CheckSerial: two checks that share a mechanism exchanged.
+                                              Place: the first check in the order that shares a mechanism with a
+                                              higher check named before it */
+    CHOWDERKITE_STATE_NOT_FINITE = 25,     /* single iteration: a message, posterior or gamma before it */
+    CHOWDERKITE_NON_FINITE = 30            /* a posterior after a leg or a run of beliefs; single iteration: a
+                                              posterior or message after it. Place: first mechanism that has one */
 };
 
 /* The refusal's number, 0 for none. */
@@ -341,9 +344,10 @@ uint64_t chowderkite_leg_record(
 
 /* One iteration, the checks in the order that is handed in, over messages and a posterior that go in and come back. It
  * takes every order that names each check once, those too that a decode refuses with 24. Lengths: gamma, posterior and
- * bias mechanisms; c_to_v and v_to_c edges; syndrome (bytes 0 and 1) and order checks. The bias is for work. A leg starts
- * with c_to_v at positive zero and v_to_c at the priors, message by message. Refuses with 1, 2, 4, 7, 10, 20 to 23, 25, 30.
- * Refusal 30 leaves positive zeroes in c_to_v, v_to_c and posterior. */
+ * bias mechanisms; c_to_v and v_to_c edges; syndrome (bytes 0 and 1) and order checks. The bias is for work. A decode starts
+ * with the posterior at the priors, and each of its legs with c_to_v at positive zero and with v_to_c at the priors, each
+ * message at its mechanism's. Refuses with 1, 2, 4, 7, 10, 20 to 23, 25, 30. Refusal 30 leaves positive zeroes in c_to_v,
+ * v_to_c and posterior. */
 uint64_t chowderkite_iteration(
     size_t checks,
     size_t mechanisms,

@@ -79,12 +79,15 @@ fn main() -> Result<(), Error> {
         // A correction with the right syndrome is right on every qubit, or wrong on every one.
         let is_right = outcome.correction == happened;
         right += u64::from(is_right);
+        let found = match outcome.weight {
+            Some(weight) => format!("weight {weight:.3}"),
+            None => String::from("not converged"),
+        };
         println!(
-            "shot {shot}: syndrome {}, correction {}, {} iterations, weight {:?}, {}",
+            "shot {shot}: syndrome {}, correction {}, {found}, iterations {}, {}",
             shown(&syndrome),
             shown(&outcome.correction),
             outcome.total_iterations,
-            outcome.weight,
             if is_right { "right" } else { "wrong" },
         );
     }

@@ -2,9 +2,9 @@
 
 use std::fmt;
 
-// A refusal is written down once: its number, its name, when it comes, and what its place counts.
+// A refusal is written down once: its name, its number, when it comes, and what its place counts if it has one.
 macro_rules! refusals {
-    ($($name:ident = $number:literal, $when:literal, $place:expr;)*) => {
+    ($($(#[$more:meta])* $name:ident = $number:literal, $when:literal $(, at $place:literal)?;)*) => {
         /// Why a call refused, with document 01's number.
         ///
         /// 40 to 45 are missing: they belong to the record stream, which this crate does not read.
@@ -20,6 +20,8 @@ macro_rules! refusals {
         pub enum Refusal {
             $(
                 #[doc = concat!(stringify!($number), ": ", $when, ".")]
+                $(#[doc = concat!("Place: ", $place, ".")])?
+                $(#[$more])*
                 $name = $number,
             )*
         }
@@ -49,38 +51,44 @@ macro_rules! refusals {
             #[must_use]
             pub const fn place_counts(self) -> Option<&'static str> {
                 match self {
-                    $(Refusal::$name => $place,)*
+                    $(Refusal::$name => refusals!(@place $($place)?),)*
                 }
             }
         }
     };
+    (@place) => { None };
+    (@place $place:literal) => { Some($place) };
 }
 
 refusals! {
-    SizeAboveLimit = 1, "a size above its limit", None;
-    ModelListLength = 2, "a lent model or graph list of wrong length", None;
-    BadDetectorOffsets = 3, "detector offsets don't start at 0, fall, or don't end at the detector list's length", None;
-    BadPrior = 4, "prior NaN, below -30 or above 30", Some("mechanism");
-    DetectorOutOfRange = 5, "detector out of range", Some("mechanism");
-    DetectorRepeated = 6, "detector repeated in its mechanism", Some("mechanism");
-    NoSuchGraph = 7, "graph lists that no model within the limits builds", None;
-    BadAlpha = 10, "alpha not finite or not above 0", None;
-    BadGamma0 = 11, "gamma0 not finite", None;
-    BadIterations = 12, "pre_iterations 0 or above limit; min-sum iterations above limit", None;
-    TooManyLegs = 13, "num_legs above limit", None;
-    BadLegIterations = 14, "leg_iterations above limit, or 0 with num_legs above 0", None;
-    BadGammaInterval = 15, "gamma interval: an end or the span not finite, or low above high", None;
-    BadStop = 16, "stop_after_converged 0", None;
-    NoGammaSets = 17, "explicit source, no sets, num_legs above 0", None;
-    GammaSetsLength = 18, "explicit source: sets above limit, or flat length not sets times mechanisms", None;
-    GammaNotFinite = 19, "explicit gamma not finite", Some("flat index");
-    SyndromeLength = 20, "syndrome length not the check count", None;
-    SyndromeNotBinary = 21, "Relay syndrome byte above 1", Some("check");
-    LentListLength = 22, "a lent result, state or work list of wrong length", None;
-    OrderNotEachOnce = 23, "order list not naming each check once", None;
-    OrderExchanged = 24, "decode, CheckSerial: two checks that share a mechanism exchanged", Some("check");
-    StateNotFinite = 25, "single iteration: message, posterior or gamma not finite", None;
-    NonFinite = 30, "non-finite posterior after a leg or min-sum run; single iteration: non-finite posterior or message after it", Some("mechanism");
+    SizeAboveLimit = 1, "a size above its limit";
+    ModelListLength = 2, "a lent model or graph list of wrong length";
+    BadDetectorOffsets = 3, "detector offsets don't start at 0, fall, or don't end at the detector list's length";
+    BadPrior = 4, "prior NaN, below -30 or above 30", at "mechanism";
+    DetectorOutOfRange = 5, "detector out of range", at "mechanism";
+    DetectorRepeated = 6, "detector repeated in its mechanism", at "mechanism";
+    NoSuchGraph = 7, "graph lists that no model within the limits builds";
+    BadAlpha = 10, "alpha not finite or not above 0";
+    BadGamma0 = 11, "gamma0 not finite";
+    BadIterations = 12, "pre_iterations 0 or above limit; min-sum iterations above limit";
+    TooManyLegs = 13, "num_legs above limit";
+    BadLegIterations = 14, "leg_iterations above limit, or 0 with num_legs above 0";
+    BadGammaInterval = 15, "gamma interval: an end or the span not finite, or low above high";
+    BadStop = 16, "stop_after_converged 0";
+    NoGammaSets = 17, "explicit source, no sets, num_legs above 0";
+    GammaSetsLength = 18, "explicit source: sets above limit, or flat length not sets times mechanisms";
+    GammaNotFinite = 19, "explicit gamma not finite", at "flat index";
+    SyndromeLength = 20, "syndrome length not the check count";
+    SyndromeNotBinary = 21, "Relay syndrome byte above 1", at "check";
+    LentListLength = 22, "a lent result, state or work list of wrong length";
+    OrderNotEachOnce = 23, "order list not naming each check once";
+    /// It is the first check in the order that shares a mechanism with a higher check named before it.
+    OrderExchanged = 24, "decode, CheckSerial: two checks that share a mechanism exchanged", at "check";
+    StateNotFinite = 25, "single iteration: message, posterior or gamma not finite";
+    /// It is the first mechanism that has one.
+    NonFinite = 30,
+        "non-finite posterior after a leg or min-sum run; single iteration: non-finite posterior or message after it",
+        at "mechanism";
 }
 
 impl Refusal {

@@ -34,6 +34,7 @@
 //! A mechanism's prior is the log ratio `ln((1 - p) / p)` of its probability `p`, from -30 to 30. It comes ready made: `ln` is
 //! no IEEE 754 operation, so its last bits depend on the library that takes it, and a result must not. Take it once, with the
 //! `ln` that you have, and keep the log ratio with the model: it is the log ratio that belongs to a result's key, and not `p`.
+//! This one gives what `pecos-bp`'s `prior_llrs` gives over the same `ln`:
 //!
 //! ```
 //! fn prior(p: f64) -> f64 {
@@ -56,12 +57,12 @@
 //! | There | Here |
 //! |---|---|
 //! | `BpGraph::from_sparse_dem`, `from_dcm` | [`BpGraph::from_sparse`], [`BpGraph::from_dense`], of log ratios |
-//! | `min_sum_bp_into` | [`min_sum_into`], and [`min_sum`], which allocates |
+//! | `min_sum_bp_into` | [`min_sum_into`], and [`min_sum()`], which allocates |
 //! | `RelayConfig::explicit_gammas` | [`GammaSource::Explicit`], flat, in [`RelayConfig::gamma_source`] |
 //! | gammas drawn by PECOS's generator | SplitMix64: other gammas for the same seed; [`GammaSource::drawn`] hands them out |
 //! | `RelayOutcome::legs` has executed legs | it has all; the first [`RelayOutcome::executed_legs`] were executed |
 //! | sizes up to `u32` | [`MAX_CHECKS`], [`MAX_MECHANISMS`], [`MAX_EDGES`], [`MAX_COUNT`] |
-//! | checks in index order | [`RelayBp::decode_in_order`] and [`iteration`] take others |
+//! | checks in index order | [`RelayBp::decode_in_order`] and [`iteration()`] take others |
 //!
 //! # Threads, stack and floats
 //!

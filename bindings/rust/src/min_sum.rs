@@ -60,7 +60,7 @@ pub fn min_sum(
     Ok(posterior)
 }
 
-/// [`min_sum`] into lists that the caller keeps, which allocates nothing.
+/// [`min_sum()`] into lists that the caller keeps, which allocates nothing.
 ///
 /// ```
 /// use chowderkite::{min_sum_into, BpGraph, BpScratch};

@@ -116,6 +116,28 @@ fn any_order_under_flooding() {
     }
 }
 
+#[test]
+fn threads_agree() {
+    let mut random = Random::new(9);
+    let graph = random.model(20, 50);
+    let decoder = RelayBp::new(graph.clone(), settings(CheckSerial)).unwrap();
+    let shots: Vec<Vec<u8>> = (0..50).map(|_| random.syndrome(&graph, 6)).collect();
+    let all = || {
+        let mut decoder = decoder.clone();
+        let decode = |(seed, syndrome): (usize, &Vec<u8>)| {
+            outcome_bits(&decoder.decode(syndrome, seed as u64).unwrap())
+        };
+        shots.iter().enumerate().map(decode).collect::<Vec<_>>()
+    };
+    let wanted = all();
+    std::thread::scope(|scope| {
+        let threads: Vec<_> = (0..4).map(|_| scope.spawn(all)).collect();
+        for thread in threads {
+            assert_eq!(thread.join().unwrap(), wanted);
+        }
+    });
+}
+
 /// The front page says 260 KiB; an overflow would end the process.
 #[test]
 fn stack_of_a_decode() {
