@@ -9,8 +9,8 @@ use std::process::{Command, Stdio};
 fn main() {
     println!("cargo:rerun-if-env-changed=CHOWDERKITE_ARCHIVE");
     let archive = match env::var_os("CHOWDERKITE_ARCHIVE") {
-        Some(path) => PathBuf::from(path),
-        None => made(),
+        Some(path) if !path.is_empty() => PathBuf::from(path),
+        _ => made(),
     };
     println!("cargo:rerun-if-changed={}", archive.display());
 

@@ -2,8 +2,11 @@
 //! shot's seed.
 //!
 //! Min-sum beliefs and Relay-BP, in the shape of PECOS's `pecos-bp`, over code that is proved equal to one definition over IEEE
-//! 754 binary64, bit for bit, on every input. This crate decides nothing itself: it makes lists that fit, calls the proved code,
-//! and passes on what it answers. "Document 01" is the scope that decides behaviour, and numbers 1 to 30 below are its refusals.
+//! 754 binary64, bit for bit, on every input. This crate makes lists that fit, calls the proved code, and passes on what it
+//! answers: it computes and refuses nothing itself. Plain Rust, tested and not proved, are this passing on, and how
+//! [`RelayState`] starts a leg and [`GammaSource::drawn`] repeats a shot's draws.
+//!
+//! "Document 01" is the project's scope, which decides behaviour; the numbers from 1 to 30 below are its refusals.
 //!
 //! # Quick start
 //!
@@ -49,8 +52,8 @@
 //!
 //! # Refusals
 //!
-//! A bad input is answered by an [`Error`]: one number and, where there is one, one place. Nothing else is touched. Each call
-//! lists the numbers that it can give.
+//! A bad input is answered by an [`Error`]: one number and, where the refusal has one, one place. Each call lists the numbers
+//! that it can give. Lists that were lent to a refused call are as they were, but for 30, which leaves zeroes in results.
 //!
 //! # Coming from `pecos-bp`
 //!
