@@ -43,12 +43,12 @@ nan-bits bits h = sym (nan-only (ofBits binary64 bits) (sym (nanBits-is binary64
 
 -- ---- the lists of a model
 
--- what the test of the room tells
-pub room-parts : (a b d : ℕ) → (leb a 256 && (leb b 257 && leb d 512)) ≡ true → (a ≤ 256) × (b ≤ 257) × (d ≤ 512)
-room-parts a b d e =
-    let p = and-both (leb a 256) (leb b 257 && leb d 512) e in
-    let q = and-both (leb b 257) (leb d 512) (p .1) in
-    (leb-true a 256 (p .0), leb-true b 257 (q .0), leb-true d 512 (q .1))
+-- what a test of three sizes tells
+pub room-parts : (a b d x y z : ℕ) → (leb a x && (leb b y && leb d z)) ≡ true → (a ≤ x) × (b ≤ y) × (d ≤ z)
+room-parts a b d x y z e =
+    let p = and-both (leb a x) (leb b y && leb d z) e in
+    let q = and-both (leb b y) (leb d z) (p .1) in
+    (leb-true a x (p .0), leb-true b y (q .0), leb-true d z (q .1))
 
 module _ (p : List ℕ) (priors : List Float) (offsets detectors : List ℕ) where
   abbrev lent : ModelLists

@@ -14,7 +14,8 @@ use Rattle.records.specs.Stream.{seed, syndrome, AreBytes, Rec, rec, Say
 use Rattle.refusals.specs.declared.Answer.{Answer}
 use Rattle.settings.specs.declared.Settings.{Settings}
 use Rattle.records.specs.declared.Reader.{Reader}
-use Rattle.records.specs.Fields.{ModelLists, modelRead, settingsOf}
+use Rattle.records.specs.declared.Counts.{Counts}
+use Rattle.records.specs.Fields.{countsOf, ModelLists, modelRead, settingsOf}
 use Rattle.records.specs.Reading.{fresh, holding, isWhole, opened, keptOf, Held, held, pushed, fed, met, toMeet, verdict, atEnd}
 use Rattle.records.proofs.Bytes.{bytes-take, bytes-drop, number-bound}
 use Rattle.records.proofs.Encoding.{length-said, kind-said, payload-said, complete-is}
@@ -169,6 +170,9 @@ verdict-once hasModel hasSettings r kept x y p q = p ∙ sym q
 
 pub end-once : (r : Reader) (x y : Answer) → x ≡ atEnd r → y ≡ atEnd r → x ≡ y
 end-once r x y p q = p ∙ sym q
+
+pub counts-once : (p : List ℕ) (x y : Counts) → x ≡ countsOf p → y ≡ countsOf p → x ≡ y
+counts-once p x y e f = e ∙ sym f
 
 pub model-once : (p : List ℕ) (l x y : ModelLists) → x ≡ modelRead p l → y ≡ modelRead p l → x ≡ y
 model-once p l x y e f = e ∙ sym f

@@ -10,7 +10,13 @@ use Rattle.settings.specs.declared.Settings.{Settings}
 use Rattle.settings.specs.declared.Schedule.{Schedule}
 use Rattle.settings.specs.declared.Schedule.the-variants.{Flooding, CheckSerial}
 use Rattle.settings.specs.declared.GammaSource.the-variants.{Seeded}
-use Rattle.records.specs.Stream.{priorBits, degrees, detector, scheduleByte, alphaBits, gamma0Bits, preIterations, legs, legIterations, lowBits, highBits, stop}
+use Rattle.records.specs.declared.Counts.{Counts}
+use Rattle.records.specs.Stream.{checks, mechanisms, edges, priorBits, degrees, detector, scheduleByte, alphaBits, gamma0Bits, preIterations, legs, legIterations, lowBits, highBits, stop}
+
+-- ---- a model's counts
+
+unfoldable pub countsOf : List ℕ → Counts
+countsOf p = record { checks = checks p; mechanisms = mechanisms p; edges = edges p }
 
 -- ---- a model's lists
 

@@ -7,7 +7,7 @@ mod step;
 ghost use mathlib.Core.Path.{_≡_};
 ghost use Rattle.records.specs.Reading.{fresh, isWhole, held, pushed, verdict as verdictOf, atEnd};
 ghost use Rattle.records.specs.Stream.{seed, isOfShot};
-ghost use Rattle.records.specs.Fields.{modelLists, modelRead, settingsOf};
+ghost use Rattle.records.specs.Fields.{countsOf, modelLists, modelRead, settingsOf};
 use numbers::at_most;
 use numbers::both;
 use refusals::Answer;
@@ -92,6 +92,24 @@ pub fn at_end(r: Reader) -> Answer
 {
     let open = step::opened(r);
     unless(open.taken == 0, Refusal::CutRecord)
+}
+
+// A model's counts.
+pub struct Counts {
+    pub checks: usize,
+    pub mechanisms: usize,
+    pub edges: usize,
+}
+
+// The counts of a model's payload.
+pub fn read_counts(payload: &[u8]) -> Counts
+    ensures { λ x. ⌜ x ≡ countsOf (now (payload .entry)) ⌝ }
+{
+    Counts {
+        checks: fields::number4(payload, 0),
+        mechanisms: fields::number4(payload, 4),
+        edges: fields::number4(payload, 8),
+    }
 }
 
 // The lists of a model's payload, as `graph::build_sparse` takes them: the caller's lists have the lengths that the counts say. Lists beyond the room are

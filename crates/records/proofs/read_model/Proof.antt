@@ -18,7 +18,7 @@ tested c = rw (c .both2 .ensures, c .before .both .ensures, c .before .before .a
 -- past it the lists are within the room
 small : (c : tie.Else1) → let a = c .before .before .before .before .before .before .before .before .before .before .args in (length (a .priors .now) ≤ 256) × (length (a .detector-offsets .now) ≤ 257) × (length (a .detectors .now) ≤ 512)
 unfolding withinRoom
-small c = room-parts _ _ _ (sym (tested (c .before)) ∙ not-false _ (c .if1 .left))
+small c = room-parts _ _ _ 256 257 512 (sym (tested (c .before)) ∙ not-false _ (c .if1 .left))
 
 at-most-requires : tie.Need-at-most-requires
 at-most-requires c κs = search needs

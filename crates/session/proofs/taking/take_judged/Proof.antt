@@ -1,0 +1,45 @@
+-- `session::taking::take_judged` meets its contract. Case by case. Assumes nothing.
+use mathlib.Core.Path.{sym, ap, _∙_}
+use Rattle.refusals.specs.declared.Answer.{Answer}
+use Rattle.session.specs.Shots.{Told, taken, judged}
+use Rattle.session.proofs.Cases.{by-case}
+use borrow.Author.Needs.{needs}
+use Rattle.session.proofs.taking.take_judged.Statement.{statement}
+use Rattle.session.proofs.taking.take_judged.Tie as tie
+
+verdict-requires : tie.Need-verdict-requires
+verdict-requires c κs = search needs
+
+enum-known-a : tie.Need-enum-known-a
+enum-known-a c = search needs
+
+stop-requires : tie.Need-stop-requires
+stop-requires c κs = search needs
+
+enum-told : tie.Need-enum-told
+enum-told c = search needs
+
+take-kind-requires : tie.Need-take-kind-requires
+take-kind-requires c κs = search needs
+
+returns : tie.Need-returns
+returns c = let a = c .before .before .before .before .before .before .before .before .before .args in by-case (λ (d : Answer). judged (a .s) d (a .payload .now) (a .model .now) (a .line .now)) (ap (λ (t : Told). taken t (a .model .now)) (c .stop .ensures)) (sym (c .before .before .before .before .before .verdict .ensures) ∙ c .before .before .before .a .given .1)
+
+same-length : tie.Need-same-length
+same-length c = search needs
+
+returns-2 : tie.Need-returns-2
+returns-2 c = let a = c .before .before .before .before .before .before .before .before .before .before .before .args in by-case (λ (d : Answer). judged (a .s) d (a .payload .now) (a .model .now) (a .line .now)) (c .before .before .take-kind .ensures) (sym (c .before .before .before .before .before .before .before .verdict .ensures) ∙ c .before .before .before .before .before .enum-told .given .1)
+
+pub take-judged-spec : {M : Type 1} → statement M
+take-judged-spec =
+    tie.close
+    (tie.spec
+    verdict-requires
+    enum-known-a
+    stop-requires
+    enum-told
+    take-kind-requires
+    returns
+    same-length
+    returns-2)
