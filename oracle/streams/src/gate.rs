@@ -652,7 +652,8 @@ fn models(cases: &mut Cases) {
     cases.runs(&[0], "detectors in no order", stream(unsorted));
 }
 
-type Spoil = (Code, &'static str, fn(&mut Settings));
+type Change = fn(&mut Settings);
+type Spoil = (Code, &'static str, Change);
 
 /// Ways to spoil good settings, by the number that each earns, in the order of the tests.
 const SPOILED: [Spoil; 38] = [
@@ -722,7 +723,7 @@ fn settings(cases: &mut Cases) {
         spoil(&mut settings);
         cases.stops(code, name, with(&settings));
     }
-    let kept: [(&str, fn(&mut Settings)); 12] = [
+    let kept: [(&str, Change); 12] = [
         ("good settings", |_| {}),
         ("schedule 1", |s| s.schedule = 1),
         ("alpha 5e-324", |s| s.alpha = 5e-324),
@@ -976,7 +977,7 @@ fn every_cut(cases: &mut Cases) {
 fn drawn(cases: &mut Cases) {
     const COUNT: usize = 160;
     const LONGEST: usize = 900;
-    let mut random = SplitMix64::new(0x6472_6177_6e);
+    let mut random = SplitMix64::new(0x0064_7261_776e);
     let mut kept = 0;
     while kept < COUNT {
         let bytes = random::stream(&mut random);

@@ -197,7 +197,7 @@ fn some_model(random: &mut SplitMix64) -> Model {
     model
 }
 
-/// Iteration counts stay small: a decode is paid for twice, here and in the program.
+/// Iteration counts stay small: a decode is paid for four times, here and in three runs of the program.
 fn some_settings(random: &mut SplitMix64) -> Settings {
     let (low, high) = random.pick(&[
         (-0.24, 0.66),
@@ -207,8 +207,6 @@ fn some_settings(random: &mut SplitMix64) -> Settings {
         (0.0, 0.0),
         (0.25, 0.25),
         (-3.0, 2.0),
-        (-1e150, 1e150),
-        (1e308, 1e308),
     ]);
     let legs = match random.below(4) {
         0 => 0,
@@ -216,12 +214,10 @@ fn some_settings(random: &mut SplitMix64) -> Settings {
         2 => random.between(1, 8),
         _ => random.pick(&[5, 10, 15, 16]),
     };
-    Settings {
+    let mut settings = Settings {
         schedule: random.below(2) as u8,
-        alpha: random.pick(&[
-            0.5, 0.625, 0.75, 0.9, 1.0, 1.0, 1.0, 1.0, 1.25, 2.0, 1e3, 1e160, 1e308,
-        ]),
-        gamma0: random.pick(&[0.0, 0.1, 0.1, 0.5, 0.9, -0.2, -1.0, 1e200]),
+        alpha: random.pick(&[0.5, 0.625, 0.75, 0.9, 1.0, 1.0, 1.0, 1.0, 1.25, 2.0]),
+        gamma0: random.pick(&[0.0, 0.1, 0.1, 0.5, 0.9, -0.2, -1.0]),
         pre: random.between(1, 10) as u32,
         legs: legs as u32,
         leg_iterations: if legs == 0 && random.once_in(2) {
@@ -236,7 +232,15 @@ fn some_settings(random: &mut SplitMix64) -> Settings {
         } else {
             random.between(1, 3) as u32
         },
+    };
+    // Strong enough to overflow at once, soon or never.
+    match random.below(20) {
+        0 => settings.alpha = random.pick(&[1e3, 1e100, 1e160, 1e308]),
+        1 => settings.gamma0 = random.pick(&[1e100, -1e200, 1e308]),
+        2 => (settings.low, settings.high) = random.pick(&[(-1e150, 1e150), (1e308, 1e308)]),
+        _ => {}
     }
+    settings
 }
 
 fn some_syndrome(random: &mut SplitMix64, model: &Model) -> Vec<u8> {
@@ -307,18 +311,20 @@ fn faulty_model(random: &mut SplitMix64, model: &mut Model) -> Vec<u8> {
                 mechanism.prior = random.pick(&bad);
             }
         }
-        6 | 7 => {
-            let checks = model.checks;
+        6 => {
+            let other = random.pick(&[model.checks, model.checks.wrapping_add(1), u32::MAX]);
             if let Some(mechanism) = one_of(random, &mut model.mechanisms) {
-                let other = random.pick(&[checks, checks + 1, 0, u32::MAX]);
                 match one_of(random, &mut mechanism.detectors) {
                     Some(detector) => *detector = other,
                     None => mechanism.detectors.push(other),
                 }
-                if random.once_in(2) {
-                    let again = mechanism.detectors[0];
-                    mechanism.detectors.push(again);
-                }
+            }
+        }
+        7 => {
+            let mechanism = one_of(random, &mut model.mechanisms);
+            if let Some(mechanism) = mechanism.filter(|m| !m.detectors.is_empty()) {
+                let again = random.pick(&mechanism.detectors);
+                mechanism.detectors.push(again);
             }
         }
         // Degrees and counts that say another model than the bytes have.
