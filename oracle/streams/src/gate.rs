@@ -1035,9 +1035,8 @@ pub fn run(tally: &mut Tally, list: bool) {
             let (at, last) = (output.len(), run.text.lines().last().unwrap_or_default());
             let word = if is_met { "case" } else { "NOT MET" };
             println!(
-                "{word} {number}, written from byte {at}: {}: {} shots, {last}",
-                case.name,
-                run.shots.len()
+                "{word} {number}, written from byte {at}: {}: {last}",
+                case.name
             );
         }
         input.extend((case.bytes.len() as u32).to_le_bytes());

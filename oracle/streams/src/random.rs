@@ -12,7 +12,7 @@ const MOST_EDGES: usize = 512;
 /// A stream of a few records.
 pub fn stream(random: &mut SplitMix64) -> Vec<u8> {
     let mut maker = Maker {
-        // Most streams have one fault or none; without it each record may have one.
+        // In a third of the streams each record may have a fault of its own.
         faults: random.once_in(3),
         ..Maker::default()
     };
