@@ -613,6 +613,7 @@ fn models(cases: &mut Cases) {
     lists(5, cases, "detector 2^16", &[&[0], &[1 << 16]]);
     lists(6, cases, "a repeat", &[&[0, 0]]);
     lists(6, cases, "a repeat further on", &[&[1, 2], &[2, 0, 1, 2]]);
+    lists(6, cases, "a repeat of the second", &[&[0, 1, 2, 1]]);
     lists(6, cases, "a repeat before a range", &[&[1, 1, 3]]);
     lists(5, cases, "a range before a repeat", &[&[1, 3, 1]]);
     lists(5, cases, "a repeat out of range", &[&[3, 3]]);
