@@ -1,0 +1,402 @@
+/* Chowderkite's calls, as the archive libexports.a has them.
+ *
+ * Graph: chowderkite_build_sparse, _build_dense, _count_edges, _check_graph.
+ * Beliefs: chowderkite_beliefs.
+ * Relay-BP: chowderkite_published, _check_settings, _decode, _decode_in_order, _leg_record, _iteration.
+ * Single numbers: chowderkite_magnitude and those that follow it.
+ *
+ * What holds for every call:
+ *
+ * - It takes every value of its arguments, tests them itself, and ends. What a list must hold is never asked of the
+ *   caller; only that each pointer and its length are true, that a list which is written overlaps no other list, and that
+ *   pointers are aligned as their type asks. A list of length 0 may have any pointer, NULL too.
+ * - It has no heap and no globals. Calls in several threads are free as long as they don't share a list that is written.
+ *   On x86-64 a decode takes 260 KiB of stack, whatever the model, and the single iteration 65 KiB; the others take little.
+ * - Its floats are IEEE 754 binary64, so the processor must be as a program starts: rounding to nearest even, and
+ *   subnormals not flushed to zero. Linking with -ffast-math can change the second for a whole program.
+ * - The numbers of checks, mechanisms and edges are said by the caller, and the lists must fit them: exactly, unless a
+ *   call says "at least".
+ * - "Refuses" means that it answers a code that is not 0 (below). A call that its tests refuse writes nothing: every list
+ *   is as it was. Tests go in rising number unless a call says otherwise, and the first that refuses is answered, with
+ *   its first place. Refusal 30 alone comes after the work; each call that has it says what it leaves.
+ * - Once past its tests, refused with 30 or not, a call leaves positive zeroes in its work lists.
+ *
+ * Link a program with libexports.a, which wants memset of the C library and nothing else.
+ *
+ * Priors are log ratios ln((1 - p) / p), from -30 to 30. They come ready made, since ln is no IEEE 754 operation, and a
+ * result must not depend on the library that took it.
+ *
+ * Licence: Apache-2.0, see NOTICE. */
+#ifndef CHOWDERKITE_H
+#define CHOWDERKITE_H
+
+#include <stddef.h>
+#include <stdint.h>
+
+#if SIZE_MAX < UINT64_MAX
+#error "Chowderkite's archive is for machines of 64 bits"
+#endif
+
+#ifdef __cplusplus
+extern "C" {
+#endif
+
+/* ---- limits */
+
+#define CHOWDERKITE_MAX_CHECKS 65536
+#define CHOWDERKITE_MAX_MECHANISMS 65536
+#define CHOWDERKITE_MAX_EDGES 1048576
+/* of relayed legs, of each count of iterations, and of explicit sets of gammas */
+#define CHOWDERKITE_MAX_COUNT 65535
+/* of a prior's magnitude */
+#define CHOWDERKITE_MAX_PRIOR 30.0
+
+/* ---- codes: 0 where nothing is refused, else the refusal's number plus 65536 times its place */
+
+enum chowderkite_refusal {
+    CHOWDERKITE_DONE = 0,
+    CHOWDERKITE_SIZE_ABOVE_LIMIT = 1,      /* a size above its limit */
+    CHOWDERKITE_MODEL_LIST_LENGTH = 2,     /* a model or graph list of wrong length */
+    CHOWDERKITE_BAD_DETECTOR_OFFSETS = 3,  /* they don't start at 0, fall, or don't end at detectors_len */
+    CHOWDERKITE_BAD_PRIOR = 4,             /* NaN, below -30 or above 30. Place: mechanism */
+    CHOWDERKITE_DETECTOR_OUT_OF_RANGE = 5, /* Place: mechanism */
+    CHOWDERKITE_DETECTOR_REPEATED = 6,     /* within its mechanism. Place: mechanism */
+    CHOWDERKITE_NO_SUCH_GRAPH = 7,         /* graph lists that no model within the limits builds */
+    CHOWDERKITE_BAD_ALPHA = 10,            /* not finite or not above 0 */
+    CHOWDERKITE_BAD_GAMMA0 = 11,           /* not finite */
+    CHOWDERKITE_BAD_ITERATIONS = 12,       /* pre_iterations 0 or above the limit; those of beliefs above it */
+    CHOWDERKITE_TOO_MANY_LEGS = 13,        /* num_legs above the limit */
+    CHOWDERKITE_BAD_LEG_ITERATIONS = 14,   /* above the limit, or 0 with num_legs above 0 */
+    CHOWDERKITE_BAD_GAMMA_INTERVAL = 15,   /* an end or the span not finite, or low above high */
+    CHOWDERKITE_BAD_STOP = 16,             /* stop_after_converged 0 */
+    CHOWDERKITE_NO_GAMMA_SETS = 17,        /* explicit, no sets, num_legs above 0 */
+    CHOWDERKITE_GAMMA_SETS_LENGTH = 18,    /* sets above the limit, or gammas_len not sets times mechanisms */
+    CHOWDERKITE_GAMMA_NOT_FINITE = 19,     /* of an explicit set. Place: index in gammas */
+    CHOWDERKITE_SYNDROME_LENGTH = 20,      /* not the number of checks */
+    CHOWDERKITE_SYNDROME_NOT_BINARY = 21,  /* Relay: a byte above 1. Place: check */
+    CHOWDERKITE_LENT_LIST_LENGTH = 22,     /* a result, state or work list of wrong length */
+    CHOWDERKITE_ORDER_NOT_EACH_ONCE = 23,  /* an order that does not name each check once */
+    CHOWDERKITE_ORDER_EXCHANGED = 24,      /* decode, CheckSerial: two checks that share a mechanism exchanged.
+                                              Place: the first check in the order that shares a mechanism with a
+                                              higher check named before it */
+    CHOWDERKITE_STATE_NOT_FINITE = 25,     /* single iteration: a message, posterior or gamma before it */
+    CHOWDERKITE_NON_FINITE = 30            /* a posterior after a leg or a run of beliefs; single iteration: a
+                                              posterior or message after it. Place: first mechanism that has one */
+};
+
+/* The refusal's number, 0 for none. */
+static inline uint64_t chowderkite_number(uint64_t code) { return code % 65536; }
+
+/* The refusal's place. It is 0 too where the refusal has none: ask chowderkite_has_place. */
+static inline uint64_t chowderkite_place(uint64_t code) { return code / 65536; }
+
+/* Whether the refusal has a place: 4, 5, 6, 19, 21, 24 and 30 have. */
+static inline int chowderkite_has_place(uint64_t code) {
+    switch (chowderkite_number(code)) {
+    case CHOWDERKITE_BAD_PRIOR:
+    case CHOWDERKITE_DETECTOR_OUT_OF_RANGE:
+    case CHOWDERKITE_DETECTOR_REPEATED:
+    case CHOWDERKITE_GAMMA_NOT_FINITE:
+    case CHOWDERKITE_SYNDROME_NOT_BINARY:
+    case CHOWDERKITE_ORDER_EXCHANGED:
+    case CHOWDERKITE_NON_FINITE:
+        return 1;
+    default:
+        return 0;
+    }
+}
+
+/* ---- the graph
+ *
+ * Six lists hold it, built from a model and then lent to every other call beside the priors (length mechanisms):
+ *
+ *   check_var, check_message    length edges: the entries of check 0, then of check 1, and so on, mechanisms rising
+ *                               within a check; a mechanism, and the number of its message, which is the entry's place
+ *   check_offset                length checks + 1: check c has the entries from check_offset[c] to check_offset[c + 1]
+ *   var_check, var_message      length edges: the entries of mechanism 0, then of 1, and so on, checks rising within one
+ *   var_offset                  length mechanisms + 1: as check_offset
+ *
+ * Every call over a graph begins by testing the lists and the priors: 1, 2, 4, 7. */
+
+/* Builds the graph of a sparse model: mechanism m has the detectors (checks) from detector_offsets[m] to
+ * detector_offsets[m + 1], in any order. Lengths: priors mechanisms, detector_offsets mechanisms + 1, detectors edges, the
+ * six graph lists as above. Refuses with 1, 2, 3, then mechanism by mechanism 4, 5, 6, where a mechanism's prior comes
+ * first and then each detector in list order, range before repeat. */
+uint64_t chowderkite_build_sparse(
+    size_t checks,
+    size_t mechanisms,
+    size_t edges,
+    const double *priors, size_t priors_len,
+    const uint32_t *detector_offsets, size_t detector_offsets_len,
+    const uint32_t *detectors, size_t detectors_len,
+    uint32_t *check_var, size_t check_var_len,
+    uint32_t *check_message, size_t check_message_len,
+    uint32_t *check_offset, size_t check_offset_len,
+    uint32_t *var_check, size_t var_check_len,
+    uint32_t *var_message, size_t var_message_len,
+    uint32_t *var_offset, size_t var_offset_len);
+
+/* How many bytes of a matrix are not 0: the edges of its graph. Refuses nothing. */
+size_t chowderkite_count_edges(
+    const uint8_t *matrix, size_t matrix_len);
+
+/* Builds the graph of a dense model, the same as of the sparse model with the same incidences: the matrix lies check by
+ * check, and a byte that is not 0 is an incidence. Lengths: priors mechanisms, matrix checks times mechanisms, the six
+ * graph lists as above, where edges is what chowderkite_count_edges answers. Refuses with 1 for the counts, 2 for matrix
+ * and priors, 1 for the edges, 2 for the graph lists, then 4. */
+uint64_t chowderkite_build_dense(
+    size_t checks,
+    size_t mechanisms,
+    const double *priors, size_t priors_len,
+    const uint8_t *matrix, size_t matrix_len,
+    uint32_t *check_var, size_t check_var_len,
+    uint32_t *check_message, size_t check_message_len,
+    uint32_t *check_offset, size_t check_offset_len,
+    uint32_t *var_check, size_t var_check_len,
+    uint32_t *var_message, size_t var_message_len,
+    uint32_t *var_offset, size_t var_offset_len);
+
+/* Tests graph lists and priors as every call over a graph does: 1, 2, 4, 7. Writes nothing. */
+uint64_t chowderkite_check_graph(
+    size_t checks,
+    size_t mechanisms,
+    size_t edges,
+    const double *priors, size_t priors_len,
+    const uint32_t *check_var, size_t check_var_len,
+    const uint32_t *check_message, size_t check_message_len,
+    const uint32_t *check_offset, size_t check_offset_len,
+    const uint32_t *var_check, size_t var_check_len,
+    const uint32_t *var_message, size_t var_message_len,
+    const uint32_t *var_offset, size_t var_offset_len);
+
+/* ---- min-sum beliefs */
+
+/* Min-sum beliefs into posterior. A syndrome byte that is not 0 is 1. Serial: 0 updates the mechanisms after all checks,
+ * any other byte after each check. The scale is not tested. Lengths: syndrome checks; posterior and ewa_posterior
+ * mechanisms; c_to_v and v_to_c edges. The last three are for work. Refuses with 1, 2, 4, 7, 12, 20, 22, 30. Refusal 30
+ * leaves positive zeroes in posterior. */
+uint64_t chowderkite_beliefs(
+    size_t checks,
+    size_t mechanisms,
+    size_t edges,
+    const double *priors, size_t priors_len,
+    const uint32_t *check_var, size_t check_var_len,
+    const uint32_t *check_message, size_t check_message_len,
+    const uint32_t *check_offset, size_t check_offset_len,
+    const uint32_t *var_check, size_t var_check_len,
+    const uint32_t *var_message, size_t var_message_len,
+    const uint32_t *var_offset, size_t var_offset_len,
+    const uint8_t *syndrome, size_t syndrome_len,
+    size_t iterations,
+    double scale,
+    uint8_t serial,
+    double *posterior, size_t posterior_len,
+    double *ewa_posterior, size_t ewa_posterior_len,
+    double *c_to_v, size_t c_to_v_len,
+    double *v_to_c, size_t v_to_c_len);
+
+/* ---- Relay-BP
+ *
+ * A schedule is a byte: CHOWDERKITE_FLOODING, and any other is CHOWDERKITE_CHECK_SERIAL. So is the source of the gammas of
+ * relayed legs, explicit: CHOWDERKITE_SEEDED draws them from the shot's seed, and then sets and gammas are not looked at;
+ * any other is CHOWDERKITE_EXPLICIT, and gammas holds as many sets as sets says, one after the other, each with a gamma
+ * for each mechanism. Relayed leg r, from 1, uses set (r - 1) modulo sets. */
+
+#define CHOWDERKITE_FLOODING 0
+#define CHOWDERKITE_CHECK_SERIAL 1
+
+#define CHOWDERKITE_SEEDED 0
+#define CHOWDERKITE_EXPLICIT 1
+
+/* Writes the published operating point: floats are alpha, gamma0, gamma_low, gamma_high; counts are pre_iterations,
+ * num_legs, leg_iterations, stop_after_converged. Its schedule is Flooding, and its gammas are drawn. Refuses nothing. */
+void chowderkite_published(
+    double floats[4],
+    uint64_t counts[4]);
+
+/* Tests settings as a decode over so many mechanisms does: 10 to 19. Length: gammas sets times mechanisms, of an explicit
+ * source alone. Writes nothing. */
+uint64_t chowderkite_check_settings(
+    uint8_t schedule,
+    double alpha,
+    double gamma0,
+    size_t pre_iterations,
+    size_t num_legs,
+    size_t leg_iterations,
+    double gamma_low,
+    double gamma_high,
+    size_t stop_after_converged,
+    uint8_t explicit_gammas,
+    size_t sets,
+    size_t mechanisms,
+    const double *gammas, size_t gammas_len);
+
+/* Decodes one syndrome (bytes 0 and 1), the checks in index order. A leg is leg zero or a relayed one.
+ *
+ * Results:
+ *   leg_state, leg_steps, leg_weight   at least num_legs + 1 long, a leg each: 2 converged, 1 ran out, 0 not executed; its
+ *                                      iterations; its weight. chowderkite_leg_record reads them
+ *   rows          at least (num_legs + 1) times mechanisms: leg r's correction from r times mechanisms, 0s unless it
+ *                 converged
+ *   correction    mechanisms: the bits of least weight, of the earlier leg on ties; the last hard decision if none
+ *                 converged
+ *   posterior     mechanisms: at the end of the last leg
+ *   counts        converged (1 or 0), executed legs, total iterations
+ *   weight        the correction's, positive zero if none converged
+ * Work: gamma and bias, mechanisms long; c_to_v and v_to_c, edges long. What leg lists and rows have beyond their least
+ * length is kept.
+ *
+ * Refuses with 1, 2, 4, 7, 10 to 22, 30. Refusal 30 leaves zeroes in all results, floats positive. */
+uint64_t chowderkite_decode(
+    size_t checks,
+    size_t mechanisms,
+    size_t edges,
+    const double *priors, size_t priors_len,
+    const uint32_t *check_var, size_t check_var_len,
+    const uint32_t *check_message, size_t check_message_len,
+    const uint32_t *check_offset, size_t check_offset_len,
+    const uint32_t *var_check, size_t var_check_len,
+    const uint32_t *var_message, size_t var_message_len,
+    const uint32_t *var_offset, size_t var_offset_len,
+    uint8_t schedule,
+    double alpha,
+    double gamma0,
+    size_t pre_iterations,
+    size_t num_legs,
+    size_t leg_iterations,
+    double gamma_low,
+    double gamma_high,
+    size_t stop_after_converged,
+    uint8_t explicit_gammas,
+    size_t sets,
+    const double *gammas, size_t gammas_len,
+    const uint8_t *syndrome, size_t syndrome_len,
+    uint64_t seed,
+    uint8_t *leg_state, size_t leg_state_len,
+    uint32_t *leg_steps, size_t leg_steps_len,
+    double *leg_weight, size_t leg_weight_len,
+    uint8_t *rows, size_t rows_len,
+    uint8_t *correction, size_t correction_len,
+    double *posterior, size_t posterior_len,
+    double *gamma, size_t gamma_len,
+    double *bias, size_t bias_len,
+    double *c_to_v, size_t c_to_v_len,
+    double *v_to_c, size_t v_to_c_len,
+    uint64_t counts[3],
+    double weight[1]);
+
+/* As chowderkite_decode, the checks in the order that is handed in: order names each check once (23). Under CheckSerial it
+ * also keeps the index order of any two checks that share a mechanism (24). An order that passes changes no bit of any
+ * result. */
+uint64_t chowderkite_decode_in_order(
+    size_t checks,
+    size_t mechanisms,
+    size_t edges,
+    const double *priors, size_t priors_len,
+    const uint32_t *check_var, size_t check_var_len,
+    const uint32_t *check_message, size_t check_message_len,
+    const uint32_t *check_offset, size_t check_offset_len,
+    const uint32_t *var_check, size_t var_check_len,
+    const uint32_t *var_message, size_t var_message_len,
+    const uint32_t *var_offset, size_t var_offset_len,
+    uint8_t schedule,
+    double alpha,
+    double gamma0,
+    size_t pre_iterations,
+    size_t num_legs,
+    size_t leg_iterations,
+    double gamma_low,
+    double gamma_high,
+    size_t stop_after_converged,
+    uint8_t explicit_gammas,
+    size_t sets,
+    const double *gammas, size_t gammas_len,
+    const uint8_t *syndrome, size_t syndrome_len,
+    uint64_t seed,
+    const uint32_t *order, size_t order_len,
+    uint8_t *leg_state, size_t leg_state_len,
+    uint32_t *leg_steps, size_t leg_steps_len,
+    double *leg_weight, size_t leg_weight_len,
+    uint8_t *rows, size_t rows_len,
+    uint8_t *correction, size_t correction_len,
+    double *posterior, size_t posterior_len,
+    double *gamma, size_t gamma_len,
+    double *bias, size_t bias_len,
+    double *c_to_v, size_t c_to_v_len,
+    double *v_to_c, size_t v_to_c_len,
+    uint64_t counts[3],
+    double weight[1]);
+
+#define CHOWDERKITE_NOT_EXECUTED 0
+#define CHOWDERKITE_RAN_OUT 1
+#define CHOWDERKITE_CONVERGED 2
+
+/* Reads a leg's record out of the leg lists: answers its state, and writes its iterations (0 if not executed) and its
+ * weight (positive zero unless converged). A leg outside one of the lists, or with a state above 2, reads as not executed.
+ * Refuses nothing. */
+uint64_t chowderkite_leg_record(
+    const uint8_t *leg_state, size_t leg_state_len,
+    const uint32_t *leg_steps, size_t leg_steps_len,
+    const double *leg_weight, size_t leg_weight_len,
+    size_t leg,
+    uint64_t iterations[1],
+    double weight[1]);
+
+/* One iteration, the checks in the order that is handed in, over messages and a posterior that go in and come back. It
+ * takes every order that names each check once, those too that a decode refuses with 24. Lengths: gamma, posterior and
+ * bias mechanisms; c_to_v and v_to_c edges; syndrome (bytes 0 and 1) and order checks. The bias is for work. A decode starts
+ * with the posterior at the priors, and each of its legs with c_to_v at positive zero and with v_to_c at the priors, each
+ * message at its mechanism's. Refuses with 1, 2, 4, 7, 10, 20 to 23, 25, 30. Refusal 30 leaves positive zeroes in c_to_v,
+ * v_to_c and posterior. */
+uint64_t chowderkite_iteration(
+    size_t checks,
+    size_t mechanisms,
+    size_t edges,
+    const double *priors, size_t priors_len,
+    const uint32_t *check_var, size_t check_var_len,
+    const uint32_t *check_message, size_t check_message_len,
+    const uint32_t *check_offset, size_t check_offset_len,
+    const uint32_t *var_check, size_t var_check_len,
+    const uint32_t *var_message, size_t var_message_len,
+    const uint32_t *var_offset, size_t var_offset_len,
+    uint8_t schedule,
+    double alpha,
+    const double *gamma, size_t gamma_len,
+    const uint8_t *syndrome, size_t syndrome_len,
+    const uint32_t *order, size_t order_len,
+    double *c_to_v, size_t c_to_v_len,
+    double *v_to_c, size_t v_to_c_len,
+    double *posterior, size_t posterior_len,
+    double *bias, size_t bias_len);
+
+/* ---- single numbers. None refuses anything. */
+
+/* The magnitude of x. A NaN stays one. */
+double chowderkite_magnitude(double x);
+
+/* 1 if x is finite, else 0. */
+uint8_t chowderkite_is_finite(double x);
+
+/* 1 if x is below zero or negative zero, else 0; so 0 of a NaN. */
+uint8_t chowderkite_is_negative(double x);
+
+/* Relay's sign of a message: -1 if it is below zero, else 1. */
+double chowderkite_message_sign(double x);
+
+/* a times b modulo 2^64. */
+uint64_t chowderkite_wrapping_mul(uint64_t a, uint64_t b);
+
+/* SplitMix64: the state after a draw from a state. */
+uint64_t chowderkite_next_state(uint64_t state);
+
+/* SplitMix64: the number that a draw from a state gives. Relayed leg r draws from the state seed xor (r + 1). */
+uint64_t chowderkite_draw(uint64_t state);
+
+/* The gamma of a draw: low + (high - low) times (the draw's top 53 bits times 2^-53). */
+double chowderkite_gamma(double low, double high, uint64_t draw);
+
+#ifdef __cplusplus
+}
+#endif
+
+#endif

@@ -1,0 +1,198 @@
+/* Model G of document 01 through the C calls, each answer compared with what document 01 says of it. A program of your own
+ * can start from this one: a model, lists that fit it, then beliefs and decodes over the same lists.
+ *
+ * Run by bindings/c/run. The last line says 'N passed, M failed'; the exit status is 1 if any failed. */
+#include "chowderkite.h"
+
+#include <stdio.h>
+#include <string.h>
+
+/* ---- model G: 2 checks, 3 mechanisms with the detectors {0}, {0,1}, {1}, priors 4 */
+
+enum { CHECKS = 2, MECHANISMS = 3, EDGES = 4, LEGS = 1 };
+
+static const double priors[MECHANISMS] = {4.0, 4.0, 4.0};
+static const uint32_t detector_offsets[MECHANISMS + 1] = {0, 1, 3, 4};
+static const uint32_t detectors[EDGES] = {0, 0, 1, 1};
+static const uint8_t syndrome[CHECKS] = {1, 0};
+
+/* ---- the lists that the calls fill */
+
+typedef struct {
+    uint32_t check_var[EDGES], check_message[EDGES], check_offset[CHECKS + 1];
+    uint32_t var_check[EDGES], var_message[EDGES], var_offset[MECHANISMS + 1];
+} graph;
+
+typedef struct {
+    uint8_t leg_state[LEGS], rows[LEGS * MECHANISMS], correction[MECHANISMS];
+    uint32_t leg_steps[LEGS];
+    double leg_weight[LEGS], posterior[MECHANISMS], weight[1];
+    uint64_t counts[3];
+    double gamma[MECHANISMS], bias[MECHANISMS], c_to_v[EDGES], v_to_c[EDGES]; /* for work */
+} decoded;
+
+static uint64_t build(const double *some_priors, graph *g) {
+    return chowderkite_build_sparse(
+        CHECKS, MECHANISMS, EDGES, some_priors, MECHANISMS, detector_offsets, MECHANISMS + 1, detectors, EDGES,
+        g->check_var, EDGES, g->check_message, EDGES, g->check_offset, CHECKS + 1,
+        g->var_check, EDGES, g->var_message, EDGES, g->var_offset, MECHANISMS + 1);
+}
+
+/* Alpha 1, gamma0 0, two iterations, no relayed legs: R3's settings under a schedule and in an order, or in index order
+ * where the order is NULL. */
+static uint64_t decode(const graph *g, uint8_t schedule, const uint32_t *order, decoded *d) {
+    const double alpha = 1.0, gamma0 = 0.0, low = 0.0, high = 0.0;
+    const size_t pre_iterations = 2, num_legs = 0, leg_iterations = 0, stop = 1;
+    const uint64_t seed = 7;
+    if (order == NULL) {
+        return chowderkite_decode(
+            CHECKS, MECHANISMS, EDGES, priors, MECHANISMS,
+            g->check_var, EDGES, g->check_message, EDGES, g->check_offset, CHECKS + 1,
+            g->var_check, EDGES, g->var_message, EDGES, g->var_offset, MECHANISMS + 1,
+            schedule, alpha, gamma0, pre_iterations, num_legs, leg_iterations, low, high, stop,
+            CHOWDERKITE_SEEDED, 0, NULL, 0, syndrome, CHECKS, seed,
+            d->leg_state, LEGS, d->leg_steps, LEGS, d->leg_weight, LEGS, d->rows, LEGS * MECHANISMS,
+            d->correction, MECHANISMS, d->posterior, MECHANISMS,
+            d->gamma, MECHANISMS, d->bias, MECHANISMS, d->c_to_v, EDGES, d->v_to_c, EDGES, d->counts, d->weight);
+    }
+    return chowderkite_decode_in_order(
+        CHECKS, MECHANISMS, EDGES, priors, MECHANISMS,
+        g->check_var, EDGES, g->check_message, EDGES, g->check_offset, CHECKS + 1,
+        g->var_check, EDGES, g->var_message, EDGES, g->var_offset, MECHANISMS + 1,
+        schedule, alpha, gamma0, pre_iterations, num_legs, leg_iterations, low, high, stop,
+        CHOWDERKITE_SEEDED, 0, NULL, 0, syndrome, CHECKS, seed, order, CHECKS,
+        d->leg_state, LEGS, d->leg_steps, LEGS, d->leg_weight, LEGS, d->rows, LEGS * MECHANISMS,
+        d->correction, MECHANISMS, d->posterior, MECHANISMS,
+        d->gamma, MECHANISMS, d->bias, MECHANISMS, d->c_to_v, EDGES, d->v_to_c, EDGES, d->counts, d->weight);
+}
+
+/* ---- comparing: bits, so that a zero's sign counts */
+
+static int passed = 0, failed = 0;
+
+static void expect(const char *what, int good) {
+    printf("%s: %s\n", what, good ? "passed" : "FAILED");
+    if (good) {
+        passed += 1;
+    } else {
+        failed += 1;
+    }
+}
+
+static int is_converged_as_r3(const decoded *d) {
+    const double posterior[MECHANISMS] = {-4.0, 4.0, 4.0}, weight = 4.0;
+    const uint8_t bits[MECHANISMS] = {1, 0, 0};
+    const uint64_t counts[3] = {1, 1, 2};
+    uint64_t iterations[1];
+    double leg_weight[1];
+    const uint64_t state =
+        chowderkite_leg_record(d->leg_state, LEGS, d->leg_steps, LEGS, d->leg_weight, LEGS, 0, iterations, leg_weight);
+    return memcmp(d->counts, counts, sizeof counts) == 0 && memcmp(d->weight, &weight, sizeof weight) == 0
+        && memcmp(d->correction, bits, sizeof bits) == 0 && memcmp(d->rows, bits, sizeof bits) == 0
+        && memcmp(d->posterior, posterior, sizeof posterior) == 0
+        && state == CHOWDERKITE_CONVERGED && iterations[0] == 2 && memcmp(leg_weight, &weight, sizeof weight) == 0;
+}
+
+int main(void) {
+    graph g, before_graph;
+    memset(&g, 9, sizeof g);
+
+    /* A refused call writes nothing, so every list is as it was. */
+    {
+        const double bad[MECHANISMS] = {4.0, 31.0, 4.0};
+        uint64_t code;
+        memcpy(&before_graph, &g, sizeof g);
+        code = build(bad, &g);
+        printf("refused with %u at mechanism %u\n", (unsigned)chowderkite_number(code), (unsigned)chowderkite_place(code));
+        expect("a prior of 31 is refused with 4 at its mechanism, 1",
+               chowderkite_number(code) == CHOWDERKITE_BAD_PRIOR && chowderkite_has_place(code)
+                   && chowderkite_place(code) == 1);
+        expect("and the graph lists are as they were", memcmp(&g, &before_graph, sizeof g) == 0);
+    }
+
+    /* R1 */
+    {
+        const uint32_t check_offset[CHECKS + 1] = {0, 2, 4}, var_offset[MECHANISMS + 1] = {0, 1, 3, 4};
+        const uint64_t code = build(priors, &g);
+        expect("R1: offsets 0,2,4 and 0,1,3,4; variable 1 has messages 1 and 2",
+               code == CHOWDERKITE_DONE && memcmp(g.check_offset, check_offset, sizeof check_offset) == 0
+                   && memcmp(g.var_offset, var_offset, sizeof var_offset) == 0
+                   && g.var_message[1] == 1 && g.var_message[2] == 2);
+    }
+
+    /* R8 */
+    {
+        const double wanted[MECHANISMS] = {0.0, 4.0, 8.0};
+        double posterior[MECHANISMS], ewa[MECHANISMS], c_to_v[EDGES], v_to_c[EDGES];
+        const size_t iterations = 1;
+        const double scale = 1.0;
+        const uint64_t code = chowderkite_beliefs(
+            CHECKS, MECHANISMS, EDGES, priors, MECHANISMS,
+            g.check_var, EDGES, g.check_message, EDGES, g.check_offset, CHECKS + 1,
+            g.var_check, EDGES, g.var_message, EDGES, g.var_offset, MECHANISMS + 1,
+            syndrome, CHECKS, iterations, scale, 0,
+            posterior, MECHANISMS, ewa, MECHANISMS, c_to_v, EDGES, v_to_c, EDGES);
+        expect("R8: min-sum beliefs 0,4,8", code == CHOWDERKITE_DONE && memcmp(posterior, wanted, sizeof wanted) == 0);
+    }
+
+    /* R3, R7 and R6 */
+    {
+        const uint32_t exchanged[CHECKS] = {1, 0};
+        decoded d, before;
+        uint64_t code;
+
+        memset(&d, 9, sizeof d);
+        code = decode(&g, CHOWDERKITE_FLOODING, NULL, &d);
+        printf("bits %d%d%d, weight %g, %u iterations\n", d.correction[0], d.correction[1], d.correction[2], d.weight[0],
+               (unsigned)d.counts[2]);
+        expect("R3: Flooding, converged at 2, bits 100, weight 4, posterior -4,4,4",
+               code == CHOWDERKITE_DONE && is_converged_as_r3(&d));
+
+        memset(&d, 9, sizeof d);
+        code = decode(&g, CHOWDERKITE_FLOODING, exchanged, &d);
+        expect("R7: Flooding in order 1,0, as R3", code == CHOWDERKITE_DONE && is_converged_as_r3(&d));
+
+        memset(&d, 9, sizeof d);
+        memcpy(&before, &d, sizeof d);
+        code = decode(&g, CHOWDERKITE_CHECK_SERIAL, exchanged, &d);
+        expect("R6: CheckSerial refuses order 1,0 with 24 at check 0",
+               chowderkite_number(code) == CHOWDERKITE_ORDER_EXCHANGED && chowderkite_has_place(code)
+                   && chowderkite_place(code) == 0);
+        expect("and every list is as it was", memcmp(&d, &before, sizeof d) == 0);
+    }
+
+    /* R6's first half: the single iteration takes that order. */
+    {
+        const double wanted[MECHANISMS] = {-4.0, 4.0, 8.0}, gamma[MECHANISMS] = {0.0, 0.0, 0.0};
+        const uint32_t exchanged[CHECKS] = {1, 0};
+        double c_to_v[EDGES] = {0.0, 0.0, 0.0, 0.0}, v_to_c[EDGES], posterior[MECHANISMS], bias[MECHANISMS];
+        uint64_t code;
+        size_t i;
+        for (i = 0; i < EDGES; i += 1) {
+            v_to_c[i] = priors[g.check_var[i]];
+        }
+        memcpy(posterior, priors, sizeof priors);
+        code = chowderkite_iteration(
+            CHECKS, MECHANISMS, EDGES, priors, MECHANISMS,
+            g.check_var, EDGES, g.check_message, EDGES, g.check_offset, CHECKS + 1,
+            g.var_check, EDGES, g.var_message, EDGES, g.var_offset, MECHANISMS + 1,
+            CHOWDERKITE_CHECK_SERIAL, 1.0, gamma, MECHANISMS, syndrome, CHECKS, exchanged, CHECKS,
+            c_to_v, EDGES, v_to_c, EDGES, posterior, MECHANISMS, bias, MECHANISMS);
+        expect("R6: the first serial iteration in order 1,0, posterior -4,4,8",
+               code == CHOWDERKITE_DONE && memcmp(posterior, wanted, sizeof wanted) == 0);
+    }
+
+    /* The published operating point. */
+    {
+        const double wanted_floats[4] = {1.0, 0.1, -0.24, 0.66};
+        const uint64_t wanted_counts[4] = {80, 40, 60, 1};
+        double floats[4];
+        uint64_t counts[4];
+        chowderkite_published(floats, counts);
+        expect("the published operating point: alpha 1, gamma0 0.1, 80, 40 legs, 60, -0.24 to 0.66, stop 1",
+               memcmp(floats, wanted_floats, sizeof floats) == 0 && memcmp(counts, wanted_counts, sizeof counts) == 0);
+    }
+
+    printf("%d passed, %d failed\n", passed, failed);
+    return failed > 0;
+}

@@ -1,0 +1,222 @@
+//! The Tanner graph.
+
+use crate::{ffi, Error, MAX_CHECKS, MAX_EDGES, MAX_MECHANISMS};
+use std::ops::Range;
+
+/// The six lists that hold a graph's incidences.
+///
+/// A message is an edge's, and message numbers run check by check, mechanisms rising within a check. So an entry's place in
+/// `check_var` is its message number. A mechanism's entries rise by check.
+#[derive(Clone, Debug, Default, PartialEq, Eq, Hash)]
+pub struct GraphLists {
+    /// The mechanism of each check entry, check by check.
+    pub check_var: Vec<u32>,
+    /// The message number of each check entry.
+    pub check_message: Vec<u32>,
+    /// Check `c` has the entries `check_offset[c]..check_offset[c + 1]`.
+    pub check_offset: Vec<u32>,
+    /// The check of each mechanism entry, mechanism by mechanism.
+    pub var_check: Vec<u32>,
+    /// The message number of each mechanism entry.
+    pub var_message: Vec<u32>,
+    /// Mechanism `m` has the entries `var_offset[m]..var_offset[m + 1]`.
+    pub var_offset: Vec<u32>,
+}
+
+/// A Tanner graph with its priors: built once, used for every shot.
+///
+/// Each prior is a log ratio `ln((1 - p) / p)` from -30 to 30; [the crate's front page](crate#priors) says why, and how to
+/// make one.
+///
+/// ```
+/// use chowderkite::BpGraph;
+///
+/// let graph = BpGraph::from_sparse(2, &[(4.0, vec![0]), (4.0, vec![0, 1]), (4.0, vec![1])])?;
+/// assert_eq!((graph.check_count(), graph.mechanism_count(), graph.edge_count()), (2, 3, 4));
+/// assert_eq!(graph.detectors(1), [0, 1]);
+/// assert_eq!(graph.mechanisms(0), [0, 1]);
+///
+/// let dense = BpGraph::from_dense(2, vec![4.0; 3], &[1, 1, 0, 0, 1, 1])?;
+/// assert_eq!(dense, graph);
+/// # Ok::<(), chowderkite::Error>(())
+/// ```
+#[derive(Clone, Debug, PartialEq)]
+pub struct BpGraph {
+    // As they were said or counted; whether the lists fit them is for the calls to judge.
+    pub(crate) checks: usize,
+    pub(crate) mechanisms: usize,
+    pub(crate) edges: usize,
+    pub(crate) priors: Vec<f64>,
+    pub(crate) lists: GraphLists,
+}
+
+impl BpGraph {
+    /// The graph of a sparse model: a prior and detectors for each mechanism, detectors in any order.
+    ///
+    /// # Errors
+    ///
+    /// 1; then mechanism by mechanism 4, 5, 6: the prior, then each detector in its order, range before repeat.
+    #[doc(alias = "from_sparse_dem")]
+    pub fn from_sparse<D: AsRef<[u32]>>(
+        checks: usize,
+        mechanisms: &[(f64, D)],
+    ) -> Result<Self, Error> {
+        let mut priors = Vec::with_capacity(mechanisms.len());
+        let mut offsets = Vec::with_capacity(mechanisms.len() + 1);
+        let mut detectors = Vec::new();
+        offsets.push(0);
+        for (prior, list) in mechanisms {
+            priors.push(*prior);
+            detectors.extend_from_slice(list.as_ref());
+            // A length that does not fit is far above the limit of edges, which is refused before offsets are read.
+            offsets.push(u32::try_from(detectors.len()).unwrap_or(u32::MAX));
+        }
+        Self::from_sparse_lists(checks, priors, &offsets, &detectors)
+    }
+
+    /// The graph of a sparse model in flat lists: mechanism `m` has the detectors
+    /// `detectors[detector_offsets[m]..detector_offsets[m + 1]]`. There are as many mechanisms as priors.
+    ///
+    /// ```
+    /// use chowderkite::BpGraph;
+    ///
+    /// let flat = BpGraph::from_sparse_lists(2, vec![4.0; 3], &[0, 1, 3, 4], &[0, 0, 1, 1])?;
+    /// let nested = BpGraph::from_sparse(2, &[(4.0, vec![0]), (4.0, vec![0, 1]), (4.0, vec![1])])?;
+    /// assert_eq!(flat, nested);
+    /// # Ok::<(), chowderkite::Error>(())
+    /// ```
+    ///
+    /// # Errors
+    ///
+    /// 1, 2, 3; then mechanism by mechanism 4, 5, 6.
+    pub fn from_sparse_lists(
+        checks: usize,
+        priors: Vec<f64>,
+        detector_offsets: &[u32],
+        detectors: &[u32],
+    ) -> Result<Self, Error> {
+        let mut graph = Self::unbuilt(checks, priors, detectors.len());
+        ffi::build_sparse(&mut graph, detector_offsets, detectors)?;
+        Ok(graph)
+    }
+
+    /// The graph of a dense matrix, which lies check by check: byte `c * mechanisms + m` is not 0 where mechanism `m` sets off
+    /// check `c`. There are as many mechanisms as priors.
+    ///
+    /// # Errors
+    ///
+    /// 1 for the counts, 2 for the matrix, 1 for the edges, then 4.
+    #[doc(alias = "from_dcm")]
+    pub fn from_dense(checks: usize, priors: Vec<f64>, matrix: &[u8]) -> Result<Self, Error> {
+        let mut graph = Self::unbuilt(checks, priors, ffi::count_edges(matrix));
+        ffi::build_dense(&mut graph, matrix)?;
+        Ok(graph)
+    }
+
+    /// The graph of lists that were built before, by [`lists`](Self::lists) of another graph or out of a file. There are as
+    /// many mechanisms as priors, and as many edges as check entries.
+    ///
+    /// ```
+    /// use chowderkite::BpGraph;
+    ///
+    /// let graph = BpGraph::from_sparse(2, &[(4.0, vec![0]), (4.0, vec![0, 1]), (4.0, vec![1])])?;
+    /// let other_priors = BpGraph::from_lists(2, vec![4.0, 3.5, 4.0], graph.lists().clone())?;
+    /// assert_eq!(other_priors.lists(), graph.lists());
+    /// # Ok::<(), chowderkite::Error>(())
+    /// ```
+    ///
+    /// # Errors
+    ///
+    /// 1, 2, 4, 7.
+    pub fn from_lists(checks: usize, priors: Vec<f64>, lists: GraphLists) -> Result<Self, Error> {
+        let graph = Self {
+            checks,
+            mechanisms: priors.len(),
+            edges: lists.check_var.len(),
+            priors,
+            lists,
+        };
+        ffi::check_graph(&graph)?;
+        Ok(graph)
+    }
+
+    /// Lists for a call to fill: of lengths that fit, but empty where a size is above its limit, so that nothing huge is
+    /// allocated for a call that refuses with 1 before it looks at a graph list.
+    fn unbuilt(checks: usize, priors: Vec<f64>, edges: usize) -> Self {
+        let mechanisms = priors.len();
+        let fits = checks <= MAX_CHECKS && mechanisms <= MAX_MECHANISMS && edges <= MAX_EDGES;
+        let lists = if fits {
+            GraphLists {
+                check_var: vec![0; edges],
+                check_message: vec![0; edges],
+                check_offset: vec![0; checks + 1],
+                var_check: vec![0; edges],
+                var_message: vec![0; edges],
+                var_offset: vec![0; mechanisms + 1],
+            }
+        } else {
+            GraphLists::default()
+        };
+        Self {
+            checks,
+            mechanisms,
+            edges,
+            priors,
+            lists,
+        }
+    }
+
+    /// Number of checks.
+    #[must_use]
+    pub const fn check_count(&self) -> usize {
+        self.checks
+    }
+
+    /// Number of mechanisms.
+    #[must_use]
+    pub const fn mechanism_count(&self) -> usize {
+        self.mechanisms
+    }
+
+    /// Number of edges: incidences of a check and a mechanism.
+    #[must_use]
+    pub const fn edge_count(&self) -> usize {
+        self.edges
+    }
+
+    /// The priors, one log ratio for each mechanism, as they were handed in.
+    #[must_use]
+    pub fn prior_llrs(&self) -> &[f64] {
+        &self.priors
+    }
+
+    /// The lists of incidences.
+    #[must_use]
+    pub const fn lists(&self) -> &GraphLists {
+        &self.lists
+    }
+
+    /// The checks that a mechanism sets off, rising.
+    ///
+    /// # Panics
+    ///
+    /// If there is no such mechanism.
+    #[must_use]
+    pub fn detectors(&self, mechanism: usize) -> &[u32] {
+        &self.lists.var_check[part(&self.lists.var_offset, mechanism)]
+    }
+
+    /// The mechanisms that set off a check, rising.
+    ///
+    /// # Panics
+    ///
+    /// If there is no such check.
+    #[must_use]
+    pub fn mechanisms(&self, check: usize) -> &[u32] {
+        &self.lists.check_var[part(&self.lists.check_offset, check)]
+    }
+}
+
+fn part(offsets: &[u32], place: usize) -> Range<usize> {
+    offsets[place] as usize..offsets[place + 1] as usize
+}

@@ -1,0 +1,109 @@
+//! A decoder for quantum error correction whose result is a function of its key: the model, the settings, the syndrome and the
+//! shot's seed.
+//!
+//! Min-sum beliefs and Relay-BP, in the shape of PECOS's `pecos-bp`, over code that is proved equal to one definition over IEEE
+//! 754 binary64, bit for bit, on every input. This crate makes lists that fit, calls the proved code, and passes on what it
+//! answers: it computes and refuses nothing itself. Plain Rust, tested and not proved, are this passing on, and how
+//! [`RelayState`] starts a leg and [`GammaSource::drawn`] repeats a shot's draws.
+//!
+//! "Document 01" is the project's scope, which decides behaviour; the numbers from 1 to 30 below are its refusals.
+//!
+//! # Quick start
+//!
+//! Two checks and three mechanisms, which set off the checks {0}, {0, 1} and {1}:
+//!
+//! ```
+//! use chowderkite::{BpGraph, RelayBp, RelayConfig};
+//!
+//! let graph = BpGraph::from_sparse(2, &[(4.0, vec![0]), (4.0, vec![0, 1]), (4.0, vec![1])])?;
+//! let config = RelayConfig {
+//!     gamma0: 0.0,
+//!     pre_iterations: 2,
+//!     num_legs: 0,
+//!     ..RelayConfig::default()
+//! };
+//! let mut decoder = RelayBp::new(graph, config)?;
+//! let outcome = decoder.decode(&[1, 0], 7)?;
+//! assert!(outcome.converged);
+//! assert_eq!(outcome.correction, [1, 0, 0]);
+//! assert_eq!(outcome.weight, Some(4.0));
+//! assert_eq!(outcome.posterior, [-4.0, 4.0, 4.0]);
+//! assert_eq!(outcome.total_iterations, 2);
+//! # Ok::<(), chowderkite::Error>(())
+//! ```
+//!
+//! # Priors
+//!
+//! A mechanism's prior is the log ratio `ln((1 - p) / p)` of its probability `p`, from -30 to 30. It comes ready made: `ln` is
+//! no IEEE 754 operation, so its last bits depend on the library that takes it, and a result must not. Take it once, with the
+//! `ln` that you have, and keep the log ratio with the model: it is the log ratio that belongs to a result's key, and not `p`.
+//! This one gives what `pecos-bp`'s `prior_llrs` gives over the same `ln`:
+//!
+//! ```
+//! fn prior(p: f64) -> f64 {
+//!     ((1.0 - p) / p).ln().clamp(-30.0, 30.0)
+//! }
+//!
+//! assert_eq!(prior(0.5), 0.0);
+//! assert_eq!((prior(0.0), prior(1.0)), (30.0, -30.0));
+//! let graph = chowderkite::BpGraph::from_sparse(1, &[(prior(0.01), vec![0]), (prior(0.02), vec![0])])?;
+//! # Ok::<(), chowderkite::Error>(())
+//! ```
+//!
+//! # Refusals
+//!
+//! A bad input is answered by an [`Error`]: one number and, where the refusal has one, one place. Each call lists the numbers
+//! that it can give. Lists that were lent to a refused call are as they were, but for 30, which leaves zeroes in results.
+//!
+//! # Coming from `pecos-bp`
+//!
+//! | There | Here |
+//! |---|---|
+//! | `BpGraph::from_sparse_dem`, `from_dcm` | [`BpGraph::from_sparse`], [`BpGraph::from_dense`], of log ratios |
+//! | `min_sum_bp_into` | [`min_sum_into`], and [`min_sum()`], which allocates |
+//! | `RelayConfig::explicit_gammas` | [`GammaSource::Explicit`], flat, in [`RelayConfig::gamma_source`] |
+//! | gammas drawn by PECOS's generator | SplitMix64: other gammas for the same seed; [`GammaSource::drawn`] hands them out |
+//! | `RelayOutcome::legs` has executed legs | it has all; the first [`RelayOutcome::executed_legs`] were executed |
+//! | sizes up to `u32` | [`MAX_CHECKS`], [`MAX_MECHANISMS`], [`MAX_EDGES`], [`MAX_COUNT`] |
+//! | checks in index order | [`RelayBp::decode_in_order`] and [`iteration()`] take others |
+//!
+//! # Threads, stack and floats
+//!
+//! There is no shared state. A decoder works in one thread at a time; clone it for others. A decode takes 260 KiB of stack on
+//! x86-64, whatever the model; a Rust thread has 2 MiB unless told otherwise. The processor must round to nearest even and must
+//! not flush subnormals to zero, as a program starts; C code in the same thread can change that.
+
+#![deny(missing_docs)]
+#![deny(unsafe_code)]
+#![deny(unsafe_op_in_unsafe_fn)]
+
+#[cfg(not(target_pointer_width = "64"))]
+compile_error!("the archive is for machines of 64 bits");
+
+mod error;
+#[allow(unsafe_code)]
+mod ffi;
+mod graph;
+mod iteration;
+mod min_sum;
+mod relay;
+
+pub use error::{Error, Refusal};
+pub use graph::{BpGraph, GraphLists};
+pub use iteration::{iteration, RelayState};
+pub use min_sum::{min_sum, min_sum_into, BpScratch};
+pub use relay::{GammaSource, LegOutcome, RelayBp, RelayConfig, RelayOutcome, Schedule};
+
+// The README's example is a test too.
+#[cfg(doctest)]
+#[doc = include_str!("../README.md")]
+struct Readme;
+
+/// The limit of checks.
+pub const MAX_CHECKS: usize = 65_536;
+/// The limit of mechanisms.
+pub const MAX_MECHANISMS: usize = 65_536;
+/// The limit of edges.
+pub const MAX_EDGES: usize = 1_048_576;
+/// The limit of relayed legs, of each count of iterations, and of explicit sets.
+pub const MAX_COUNT: usize = 65_535;

@@ -1,0 +1,374 @@
+//! Relay-BP.
+
+use crate::{ffi, BpGraph, Error};
+
+/// In which order checks and mechanisms are updated within an iteration.
+#[derive(Clone, Copy, Debug, PartialEq, Eq, Hash)]
+pub enum Schedule {
+    /// All checks, then all mechanisms.
+    Flooding,
+    /// Check by check, and after each its mechanisms.
+    CheckSerial,
+}
+
+/// Where the gammas of relayed legs come from.
+#[derive(Clone, Debug, PartialEq)]
+pub enum GammaSource {
+    /// Drawn by SplitMix64 from the shot's seed, within [`RelayConfig::gamma_range`].
+    Seeded,
+    /// Sets that are handed in. Relayed leg `r`, from 1, uses set `(r - 1) % sets`.
+    Explicit {
+        /// How many sets there are.
+        sets: usize,
+        /// A gamma for each mechanism, set after set.
+        gammas: Vec<f64>,
+    },
+}
+
+impl GammaSource {
+    /// The sets that a shot with this seed draws for the first `legs` relayed legs: a seeded decode, made explicit for
+    /// another decoder to repeat.
+    ///
+    /// ```
+    /// use chowderkite::{BpGraph, GammaSource, RelayBp, RelayConfig};
+    ///
+    /// let graph = BpGraph::from_sparse(2, &[(4.0, vec![0]), (4.0, vec![0, 1]), (4.0, vec![1])])?;
+    /// let seeded = RelayConfig { stop_after_converged: 5, ..RelayConfig::default() };
+    /// let explicit = RelayConfig {
+    ///     gamma_source: GammaSource::drawn(seeded.gamma_range, 7, seeded.num_legs, graph.mechanism_count()),
+    ///     ..seeded.clone()
+    /// };
+    /// let one = RelayBp::new(graph.clone(), seeded)?.decode(&[1, 0], 7)?;
+    /// let other = RelayBp::new(graph, explicit)?.decode(&[1, 0], 7)?;
+    /// assert_eq!(one, other);
+    /// # Ok::<(), chowderkite::Error>(())
+    /// ```
+    #[must_use]
+    pub fn drawn(gamma_range: (f64, f64), seed: u64, legs: usize, mechanisms: usize) -> Self {
+        let (low, high) = gamma_range;
+        let mut gammas = Vec::new();
+        for leg in 1..=legs as u64 {
+            let mut state = seed ^ (leg + 1);
+            for _ in 0..mechanisms {
+                gammas.push(ffi::gamma(low, high, ffi::draw(state)));
+                state = ffi::next_state(state);
+            }
+        }
+        Self::Explicit { sets: legs, gammas }
+    }
+}
+
+/// Relay's settings.
+///
+/// The default is the published operating point:
+///
+/// ```
+/// use chowderkite::{GammaSource, RelayConfig, Schedule};
+///
+/// let config = RelayConfig::default();
+/// assert_eq!(config.schedule, Schedule::Flooding);
+/// assert_eq!((config.alpha, config.gamma0), (1.0, 0.1));
+/// assert_eq!((config.pre_iterations, config.num_legs, config.leg_iterations), (80, 40, 60));
+/// assert_eq!(config.gamma_range, (-0.24, 0.66));
+/// assert_eq!(config.stop_after_converged, 1);
+/// assert_eq!(config.gamma_source, GammaSource::Seeded);
+/// ```
+///
+/// Explicit sets lie flat, one after the other:
+///
+/// ```
+/// use chowderkite::{GammaSource, RelayConfig};
+///
+/// let sets = [[0.1, 0.2, 0.3], [0.3, 0.2, 0.1]];
+/// let config = RelayConfig {
+///     gamma_source: GammaSource::Explicit { sets: sets.len(), gammas: sets.concat() },
+///     ..RelayConfig::default()
+/// };
+/// config.check(3)?;
+/// assert_eq!(config.check(4).unwrap_err().number(), 18);
+/// # Ok::<(), chowderkite::Error>(())
+/// ```
+#[derive(Clone, Debug, PartialEq)]
+pub struct RelayConfig {
+    /// The schedule of every leg.
+    pub schedule: Schedule,
+    /// Scale of check messages, finite and above 0.
+    pub alpha: f64,
+    /// Memory strength of leg zero, for every mechanism.
+    pub gamma0: f64,
+    /// At most so many iterations in leg zero, 1 to 65,535.
+    pub pre_iterations: usize,
+    /// Relayed legs after leg zero, at most 65,535.
+    pub num_legs: usize,
+    /// At most so many iterations in each relayed leg, 1 to 65,535; 0 too where there are no relayed legs.
+    pub leg_iterations: usize,
+    /// Low and high end of the gammas that are drawn. Tested with explicit sets too.
+    pub gamma_range: (f64, f64),
+    /// Stop once so many legs have converged, at least 1.
+    pub stop_after_converged: usize,
+    /// Where the gammas of relayed legs come from.
+    pub gamma_source: GammaSource,
+}
+
+impl Default for RelayConfig {
+    /// The published operating point, as the proved settings have it.
+    fn default() -> Self {
+        ffi::published()
+    }
+}
+
+impl RelayConfig {
+    /// Tests the settings as a decode over so many mechanisms does.
+    ///
+    /// # Errors
+    ///
+    /// 10 to 19.
+    pub fn check(&self, mechanisms: usize) -> Result<(), Error> {
+        ffi::check_settings(self, mechanisms)
+    }
+}
+
+/// What became of a leg.
+#[derive(Clone, Debug, PartialEq)]
+pub enum LegOutcome {
+    /// Every parity matched.
+    Converged {
+        /// Sum of the priors of the correction's mechanisms; less is more likely.
+        weight: f64,
+        /// Iterations until then.
+        iterations: usize,
+        /// The leg's correction, a bit for each mechanism.
+        correction: Vec<u8>,
+    },
+    /// It came to the limit of iterations.
+    RanOut {
+        /// Iterations, all that it had.
+        iterations: usize,
+    },
+    /// Enough legs had converged before it.
+    NotExecuted,
+}
+
+impl LegOutcome {
+    /// Whether the leg converged.
+    #[must_use]
+    pub const fn converged(&self) -> bool {
+        matches!(self, Self::Converged { .. })
+    }
+
+    /// The iterations that it took, 0 if it was not executed.
+    #[must_use]
+    pub const fn iterations(&self) -> usize {
+        match self {
+            Self::Converged { iterations, .. } | Self::RanOut { iterations } => *iterations,
+            Self::NotExecuted => 0,
+        }
+    }
+
+    /// Its weight, if it converged.
+    #[must_use]
+    pub const fn weight(&self) -> Option<f64> {
+        match self {
+            Self::Converged { weight, .. } => Some(*weight),
+            _ => None,
+        }
+    }
+
+    /// Its correction, if it converged.
+    #[must_use]
+    pub fn correction(&self) -> Option<&[u8]> {
+        match self {
+            Self::Converged { correction, .. } => Some(correction),
+            _ => None,
+        }
+    }
+}
+
+/// What a decode found.
+#[derive(Clone, Debug, PartialEq)]
+pub struct RelayOutcome {
+    /// Whether a leg converged.
+    pub converged: bool,
+    /// A bit for each mechanism: of the converged leg of least weight, of the earlier one on ties; without convergence, the last
+    /// hard decision.
+    pub correction: Vec<u8>,
+    /// The correction's weight, if a leg converged: the sum of the priors of its mechanisms.
+    pub weight: Option<f64>,
+    /// The posterior log ratio of each mechanism at the end of the last leg.
+    pub posterior: Vec<f64>,
+    /// Leg zero, then each relayed leg, those too that were not executed.
+    pub legs: Vec<LegOutcome>,
+    /// How many legs were executed: the first ones in `legs`.
+    pub executed_legs: usize,
+    /// The iterations of all legs together.
+    pub total_iterations: usize,
+}
+
+/// The lists that a decode is lent: results until the outcome is read off them, and work lists.
+#[derive(Clone, Debug)]
+pub(crate) struct DecodeLists {
+    pub leg_state: Vec<u8>,
+    pub leg_steps: Vec<u32>,
+    pub leg_weight: Vec<f64>,
+    pub rows: Vec<u8>,
+    pub correction: Vec<u8>,
+    pub posterior: Vec<f64>,
+    pub gamma: Vec<f64>,
+    pub bias: Vec<f64>,
+    pub c_to_v: Vec<f64>,
+    pub v_to_c: Vec<f64>,
+    /// Converged (1 or 0), executed legs, total iterations.
+    pub counts: [u64; 3],
+    pub weight: [f64; 1],
+}
+
+impl DecodeLists {
+    /// Lists that fit exactly, for so many legs with leg zero.
+    fn new(graph: &BpGraph, legs: usize) -> Self {
+        let (mechanisms, edges) = (graph.mechanism_count(), graph.edge_count());
+        Self {
+            leg_state: vec![0; legs],
+            leg_steps: vec![0; legs],
+            leg_weight: vec![0.0; legs],
+            rows: vec![0; legs * mechanisms],
+            correction: vec![0; mechanisms],
+            posterior: vec![0.0; mechanisms],
+            gamma: vec![0.0; mechanisms],
+            bias: vec![0.0; mechanisms],
+            c_to_v: vec![0.0; edges],
+            v_to_c: vec![0.0; edges],
+            counts: [0; 3],
+            weight: [0.0],
+        }
+    }
+
+    fn leg(&self, leg: usize) -> LegOutcome {
+        match ffi::leg_record(self, leg) {
+            (2, iterations, weight) => {
+                let mechanisms = self.correction.len();
+                LegOutcome::Converged {
+                    weight,
+                    iterations,
+                    correction: self.rows[leg * mechanisms..(leg + 1) * mechanisms].to_vec(),
+                }
+            }
+            (1, iterations, _) => LegOutcome::RanOut { iterations },
+            _ => LegOutcome::NotExecuted,
+        }
+    }
+
+    fn outcome(&self) -> RelayOutcome {
+        let [converged, executed_legs, total_iterations] = self.counts;
+        let converged = converged == 1;
+        RelayOutcome {
+            converged,
+            correction: self.correction.clone(),
+            weight: converged.then_some(self.weight[0]),
+            posterior: self.posterior.clone(),
+            legs: (0..self.leg_state.len()).map(|leg| self.leg(leg)).collect(),
+            executed_legs: executed_legs as usize,
+            total_iterations: total_iterations as usize,
+        }
+    }
+}
+
+/// A Relay-BP decoder: a graph, settings, and the lists that its decodes use again and again.
+///
+/// An outcome depends on the graph, the settings, the syndrome and the seed, and on nothing else: not on the shots before it.
+/// A decode allocates what it hands back, and no more.
+///
+/// ```
+/// use chowderkite::{BpGraph, RelayBp, RelayConfig};
+///
+/// let graph = BpGraph::from_sparse(2, &[(4.0, vec![0]), (4.0, vec![0, 1]), (4.0, vec![1])])?;
+/// let mut decoder = RelayBp::new(graph, RelayConfig::default())?;
+/// for (seed, syndrome) in [[0, 0], [1, 0], [1, 1]].iter().enumerate() {
+///     let outcome = decoder.decode(syndrome, seed as u64)?;
+///     assert!(outcome.converged);
+/// }
+/// # Ok::<(), chowderkite::Error>(())
+/// ```
+#[derive(Clone, Debug)]
+pub struct RelayBp {
+    graph: BpGraph,
+    config: RelayConfig,
+    lists: DecodeLists,
+}
+
+impl RelayBp {
+    /// A decoder, with its lists. The largest has a byte for each leg and mechanism: (`num_legs` + 1) times mechanisms.
+    ///
+    /// # Errors
+    ///
+    /// 10 to 19.
+    pub fn new(graph: BpGraph, config: RelayConfig) -> Result<Self, Error> {
+        config.check(graph.mechanism_count())?;
+        let lists = DecodeLists::new(&graph, config.num_legs + 1);
+        Ok(Self {
+            graph,
+            config,
+            lists,
+        })
+    }
+
+    /// Decodes a syndrome, a byte 0 or 1 for each check. The seed counts where gammas are drawn.
+    ///
+    /// # Errors
+    ///
+    /// 20, 21, 30.
+    pub fn decode(&mut self, syndrome: &[u8], seed: u64) -> Result<RelayOutcome, Error> {
+        ffi::decode(&self.graph, &self.config, syndrome, seed, &mut self.lists)?;
+        Ok(self.lists.outcome())
+    }
+
+    /// Decodes with the checks taken in a given order, which changes no bit of the outcome: an order that could is refused.
+    ///
+    /// Under [`Schedule::Flooding`] any order that names each check once is taken, under [`Schedule::CheckSerial`] any that besides
+    /// keeps the index order of checks that share a mechanism.
+    ///
+    /// ```
+    /// use chowderkite::{BpGraph, RelayBp, RelayConfig, Schedule};
+    ///
+    /// let graph = BpGraph::from_sparse(2, &[(4.0, vec![0]), (4.0, vec![0, 1]), (4.0, vec![1])])?;
+    /// let mut flooding = RelayBp::new(graph.clone(), RelayConfig::default())?;
+    /// assert_eq!(flooding.decode_in_order(&[1, 0], 7, &[1, 0])?, flooding.decode(&[1, 0], 7)?);
+    ///
+    /// let serial = RelayConfig { schedule: Schedule::CheckSerial, ..RelayConfig::default() };
+    /// let mut serial = RelayBp::new(graph, serial)?;
+    /// let error = serial.decode_in_order(&[1, 0], 7, &[1, 0]).unwrap_err();
+    /// assert_eq!((error.number(), error.place()), (24, Some(0)));
+    /// # Ok::<(), chowderkite::Error>(())
+    /// ```
+    ///
+    /// # Errors
+    ///
+    /// 20, 21, 23, 24, 30.
+    pub fn decode_in_order(
+        &mut self,
+        syndrome: &[u8],
+        seed: u64,
+        order: &[u32],
+    ) -> Result<RelayOutcome, Error> {
+        ffi::decode_in_order(
+            &self.graph,
+            &self.config,
+            syndrome,
+            seed,
+            order,
+            &mut self.lists,
+        )?;
+        Ok(self.lists.outcome())
+    }
+
+    /// The graph.
+    #[must_use]
+    pub const fn graph(&self) -> &BpGraph {
+        &self.graph
+    }
+
+    /// The settings.
+    #[must_use]
+    pub const fn config(&self) -> &RelayConfig {
+        &self.config
+    }
+}

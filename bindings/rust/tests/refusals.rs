@@ -1,0 +1,349 @@
+//! Each refusal of document 01's table that has to do with this crate, with its place.
+
+mod common;
+
+use chowderkite::{
+    iteration, min_sum, min_sum_into, BpGraph, BpScratch, Error, GammaSource, GraphLists, Refusal,
+    RelayBp, RelayConfig, RelayState, Schedule, MAX_CHECKS, MAX_COUNT, MAX_EDGES, MAX_MECHANISMS,
+};
+use common::{bits, model_g, plain};
+use Schedule::{CheckSerial, Flooding};
+
+fn assert_refused<T>(answer: Result<T, Error>, refusal: Refusal, place: Option<usize>) {
+    match answer {
+        Ok(_) => panic!("{refusal:?} was expected"),
+        Err(error) => assert_eq!((error.refusal(), error.place()), (refusal, place)),
+    }
+}
+
+fn new(change: impl FnOnce(&mut RelayConfig)) -> Result<RelayBp, Error> {
+    let mut config = RelayConfig::default();
+    change(&mut config);
+    RelayBp::new(model_g(), config)
+}
+
+#[test]
+fn every_number() {
+    let numbers: Vec<u16> = Refusal::ALL
+        .iter()
+        .map(|refusal| refusal.number())
+        .collect();
+    let wanted: Vec<u16> = (1..=7).chain(10..=25).chain([30]).collect();
+    assert_eq!(numbers, wanted);
+    let with_place: Vec<u16> = Refusal::ALL
+        .iter()
+        .filter(|refusal| refusal.place_counts().is_some())
+        .map(|refusal| refusal.number())
+        .collect();
+    assert_eq!(with_place, [4, 5, 6, 19, 21, 24, 30]);
+}
+
+#[test]
+fn words() {
+    let error = RelayBp::new(model_g(), plain(CheckSerial, 2))
+        .unwrap()
+        .decode_in_order(&[1, 0], 0, &[1, 0])
+        .unwrap_err();
+    assert_eq!((error.number(), error.name()), (24, "OrderExchanged"));
+    assert_eq!(
+        error.to_string(),
+        "refused with 24, OrderExchanged, at check 0: decode, CheckSerial: two checks that share a mechanism exchanged"
+    );
+    let error = new(|config| config.stop_after_converged = 0).unwrap_err();
+    assert_eq!(
+        error.to_string(),
+        "refused with 16, BadStop: stop_after_converged 0"
+    );
+}
+
+#[test]
+fn refusal_1() {
+    let refused = |answer| assert_refused(answer, Refusal::SizeAboveLimit, None);
+    let none: [(f64, [u32; 0]); 0] = [];
+    BpGraph::from_sparse(MAX_CHECKS, &none).unwrap();
+    refused(BpGraph::from_sparse(MAX_CHECKS + 1, &none));
+    refused(BpGraph::from_sparse(usize::MAX, &none));
+    refused(BpGraph::from_dense(usize::MAX, vec![4.0], &[]));
+    let many = vec![(4.0, [0]); MAX_MECHANISMS + 1];
+    BpGraph::from_sparse(1, &many[1..]).unwrap();
+    refused(BpGraph::from_sparse(1, &many));
+    // The sizes are tested before detectors, which are repeated here.
+    let detectors = vec![0; MAX_EDGES + 1];
+    refused(BpGraph::from_sparse(1, &[(4.0, &detectors)]));
+    let side = 1025;
+    let matrix = vec![1; side * side];
+    refused(BpGraph::from_dense(side, vec![4.0; side], &matrix));
+}
+
+#[test]
+fn refusal_2() {
+    let refused = |answer| assert_refused(answer, Refusal::ModelListLength, None);
+    refused(BpGraph::from_sparse_lists(2, vec![4.0], &[0], &[]));
+    refused(BpGraph::from_sparse_lists(2, vec![4.0], &[0, 1, 1], &[0]));
+    refused(BpGraph::from_dense(2, vec![4.0; 3], &[1; 5]));
+    refused(BpGraph::from_dense(2, vec![4.0; 3], &[1; 7]));
+    refused(BpGraph::from_lists(
+        3,
+        vec![4.0; 3],
+        model_g().lists().clone(),
+    ));
+    refused(BpGraph::from_lists(2, vec![4.0; 3], GraphLists::default()));
+}
+
+#[test]
+fn refusal_3() {
+    for offsets in [[1, 1], [0, 1], [0, 3], [3, 2]] {
+        assert_refused(
+            BpGraph::from_sparse_lists(2, vec![4.0], &offsets, &[0, 1]),
+            Refusal::BadDetectorOffsets,
+            None,
+        );
+    }
+}
+
+#[test]
+fn refusals_4_to_6() {
+    let model = |second: (f64, Vec<u32>)| {
+        BpGraph::from_sparse(2, &[(4.0, vec![0]), second, (f64::NAN, vec![9])])
+    };
+    for prior in [30.5, -30.5, f64::NAN, f64::INFINITY] {
+        assert_refused(model((prior, vec![9])), Refusal::BadPrior, Some(1));
+    }
+    assert_refused(
+        model((30.0, vec![1, 2, 1])),
+        Refusal::DetectorOutOfRange,
+        Some(1),
+    );
+    assert_refused(
+        model((-30.0, vec![1, 1, 2])),
+        Refusal::DetectorRepeated,
+        Some(1),
+    );
+    assert_refused(model((4.0, vec![1])), Refusal::BadPrior, Some(2));
+    assert_refused(
+        BpGraph::from_dense(1, vec![4.0, 31.0], &[1, 1]),
+        Refusal::BadPrior,
+        Some(1),
+    );
+}
+
+#[test]
+fn refusal_7() {
+    let mut lists = model_g().lists().clone();
+    lists.check_var.swap(0, 1);
+    assert_refused(
+        BpGraph::from_lists(2, vec![4.0; 3], lists),
+        Refusal::NoSuchGraph,
+        None,
+    );
+}
+
+#[test]
+fn refusals_10_to_16() {
+    let above = MAX_COUNT + 1;
+    for alpha in [0.0, -1.0, f64::NAN, f64::INFINITY] {
+        assert_refused(new(|config| config.alpha = alpha), Refusal::BadAlpha, None);
+    }
+    assert_refused(
+        new(|config| config.gamma0 = f64::NAN),
+        Refusal::BadGamma0,
+        None,
+    );
+    for pre in [0, above] {
+        assert_refused(
+            new(|config| config.pre_iterations = pre),
+            Refusal::BadIterations,
+            None,
+        );
+    }
+    assert_refused(
+        min_sum(&model_g(), &[1, 0], above, 1.0, false),
+        Refusal::BadIterations,
+        None,
+    );
+    for legs in [above, usize::MAX] {
+        assert_refused(
+            new(|config| config.num_legs = legs),
+            Refusal::TooManyLegs,
+            None,
+        );
+    }
+    for iterations in [0, above] {
+        assert_refused(
+            new(|config| config.leg_iterations = iterations),
+            Refusal::BadLegIterations,
+            None,
+        );
+    }
+    for range in [(0.5, 0.25), (f64::NAN, 1.0), (-f64::MAX, f64::MAX)] {
+        assert_refused(
+            new(|config| config.gamma_range = range),
+            Refusal::BadGammaInterval,
+            None,
+        );
+    }
+    assert_refused(
+        new(|config| config.stop_after_converged = 0),
+        Refusal::BadStop,
+        None,
+    );
+}
+
+#[test]
+fn refusals_17_to_19() {
+    let explicit =
+        |sets, gammas| new(|config| config.gamma_source = GammaSource::Explicit { sets, gammas });
+    explicit(2, vec![0.5; 6]).unwrap();
+    assert_refused(explicit(0, vec![]), Refusal::NoGammaSets, None);
+    assert_refused(explicit(2, vec![0.5; 5]), Refusal::GammaSetsLength, None);
+    assert_refused(
+        explicit(MAX_COUNT + 1, vec![0.5; 3 * (MAX_COUNT + 1)]),
+        Refusal::GammaSetsLength,
+        None,
+    );
+    let mut gammas = vec![0.5; 6];
+    gammas[4] = f64::INFINITY;
+    assert_refused(explicit(2, gammas), Refusal::GammaNotFinite, Some(4));
+}
+
+#[test]
+fn refusals_20_and_21() {
+    let graph = model_g();
+    let mut decoder = RelayBp::new(graph.clone(), plain(Flooding, 2)).unwrap();
+    let mut state = RelayState::new(&graph);
+    let mut step = |syndrome: &[u8]| {
+        let order = [0, 1];
+        iteration(
+            &graph, Flooding, 1.0, &[0.0; 3], syndrome, &order, &mut state,
+        )
+    };
+    for syndrome in [&[1][..], &[1, 0, 0]] {
+        let refusal = Refusal::SyndromeLength;
+        assert_refused(decoder.decode(syndrome, 0), refusal, None);
+        assert_refused(min_sum(&graph, syndrome, 1, 1.0, false), refusal, None);
+        assert_refused(step(syndrome), refusal, None);
+    }
+    let refusal = Refusal::SyndromeNotBinary;
+    assert_refused(decoder.decode(&[1, 2], 0), refusal, Some(1));
+    assert_refused(step(&[1, 2]), refusal, Some(1));
+    // Beliefs take any byte that is not 0 for 1.
+    assert_eq!(
+        min_sum(&graph, &[2, 0], 1, 1.0, false),
+        min_sum(&graph, &[1, 0], 1, 1.0, false)
+    );
+}
+
+#[test]
+fn refusal_22() {
+    let graph = model_g();
+    let other = BpGraph::from_sparse(2, &[(4.0, [0])]).unwrap();
+    let mut scratch = BpScratch::new(&other);
+    let mut posterior = [9.0; 3];
+    assert_refused(
+        min_sum_into(&graph, &[1, 0], 1, 1.0, false, &mut scratch, &mut posterior),
+        Refusal::LentListLength,
+        None,
+    );
+    let mut scratch = BpScratch::new(&graph);
+    assert_refused(
+        min_sum_into(
+            &graph,
+            &[1, 0],
+            1,
+            1.0,
+            false,
+            &mut scratch,
+            &mut posterior[..2],
+        ),
+        Refusal::LentListLength,
+        None,
+    );
+    assert_eq!(posterior, [9.0; 3]);
+
+    let step = |gamma: &[f64], state: &mut RelayState| {
+        iteration(&graph, Flooding, 1.0, gamma, &[1, 0], &[0, 1], state)
+    };
+    let refusal = Refusal::LentListLength;
+    assert_refused(step(&[0.0; 3], &mut RelayState::new(&other)), refusal, None);
+    assert_refused(step(&[0.0; 2], &mut RelayState::new(&graph)), refusal, None);
+    let mut short = RelayState::new(&graph);
+    short.c_to_v.pop();
+    let before = short.clone();
+    assert_refused(step(&[0.0; 3], &mut short), refusal, None);
+    assert_eq!(short, before);
+}
+
+#[test]
+fn refusals_23_and_24() {
+    let graph = model_g();
+    let mut flooding = RelayBp::new(graph.clone(), plain(Flooding, 2)).unwrap();
+    let mut serial = RelayBp::new(graph.clone(), plain(CheckSerial, 2)).unwrap();
+    for order in [&[][..], &[0], &[0, 0], &[0, 2], &[0, 1, 1]] {
+        let refusal = Refusal::OrderNotEachOnce;
+        assert_refused(flooding.decode_in_order(&[1, 0], 0, order), refusal, None);
+        assert_refused(serial.decode_in_order(&[1, 0], 0, order), refusal, None);
+        let mut state = RelayState::new(&graph);
+        assert_refused(
+            iteration(&graph, Flooding, 1.0, &[0.0; 3], &[1, 0], order, &mut state),
+            refusal,
+            None,
+        );
+    }
+    assert_refused(
+        serial.decode_in_order(&[1, 0], 0, &[1, 0]),
+        Refusal::OrderExchanged,
+        Some(0),
+    );
+}
+
+#[test]
+fn refusal_25() {
+    let graph = model_g();
+    let refused = |gamma: [f64; 3], change: fn(&mut RelayState)| {
+        let mut state = RelayState::new(&graph);
+        change(&mut state);
+        let before = bits(&state.posterior);
+        assert_refused(
+            iteration(&graph, Flooding, 1.0, &gamma, &[1, 0], &[0, 1], &mut state),
+            Refusal::StateNotFinite,
+            None,
+        );
+        assert_eq!(bits(&state.posterior), before);
+    };
+    refused([0.0; 3], |state| state.c_to_v[3] = f64::INFINITY);
+    refused([0.0; 3], |state| state.v_to_c[3] = f64::NAN);
+    refused([0.0; 3], |state| state.posterior[2] = f64::NAN);
+    refused([0.0, f64::NAN, 0.0], |_| {});
+}
+
+/// Mechanism 0 sets off no check, so 1 is the first that a huge scale makes infinite.
+#[test]
+fn refusal_30() {
+    let graph = BpGraph::from_sparse(1, &[(4.0, vec![]), (4.0, vec![0]), (4.0, vec![0])]).unwrap();
+    let huge = 1e308;
+    let config = RelayConfig {
+        alpha: huge,
+        ..RelayConfig::default()
+    };
+    let mut decoder = RelayBp::new(graph.clone(), config).unwrap();
+    assert_refused(decoder.decode(&[1], 0), Refusal::NonFinite, Some(1));
+
+    let mut posterior = [9.0; 3];
+    let mut scratch = BpScratch::new(&graph);
+    assert_refused(
+        min_sum_into(&graph, &[1], 1, huge, false, &mut scratch, &mut posterior),
+        Refusal::NonFinite,
+        Some(1),
+    );
+    assert_eq!(bits(&posterior), bits(&[0.0; 3]));
+
+    let mut state = RelayState::new(&graph);
+    assert_refused(
+        iteration(&graph, Flooding, huge, &[0.0; 3], &[1], &[0], &mut state),
+        Refusal::NonFinite,
+        Some(1),
+    );
+    assert_eq!(bits(&state.posterior), bits(&[0.0; 3]));
+    assert_eq!(bits(&state.c_to_v), bits(&[0.0; 2]));
+    assert_eq!(bits(&state.v_to_c), bits(&[0.0; 2]));
+}
