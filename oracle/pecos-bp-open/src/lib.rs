@@ -1,8 +1,9 @@
-//! The published files with one module more within `relay`: the published updates of checks and variables, in any order of
-//! checks. In index order it runs the published iteration itself.
+//! The published files with one module more within each. In `relay`: the published updates of checks and variables, in any order
+//! of checks; in index order it runs the published iteration itself. In `min_sum`: log ratios that no probability need have.
 
 include!(concat!(env!("OUT_DIR"), "/modules.rs"));
 
+pub use min_sum::priors::with_priors;
 pub use min_sum::{BpGraph, LLR_SATURATION};
 pub use relay::step::{State, iteration};
 pub use relay::{RelayBp, RelayConfig, Schedule};

@@ -1,0 +1,8 @@
+    use super::BpGraph;
+
+    /// The graph with these log ratios in the place of those that its probabilities gave.
+    #[must_use]
+    pub fn with_priors(mut graph: BpGraph, priors: &[f64]) -> BpGraph {
+        graph.prior_llr.copy_from_slice(priors);
+        graph
+    }

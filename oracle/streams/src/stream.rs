@@ -1,0 +1,183 @@
+//! The records of a stream, and their bytes.
+
+#[derive(Clone, Debug)]
+pub struct Mechanism {
+    pub prior: f64,
+    pub detectors: Vec<u32>,
+}
+
+#[derive(Clone, Debug)]
+pub struct Model {
+    pub checks: u32,
+    pub mechanisms: Vec<Mechanism>,
+}
+
+#[derive(Clone, Copy, Debug)]
+pub struct Settings {
+    /// 0 is Flooding, 1 CheckSerial.
+    pub schedule: u8,
+    pub alpha: f64,
+    pub gamma0: f64,
+    pub pre: u32,
+    pub legs: u32,
+    pub leg_iterations: u32,
+    pub low: f64,
+    pub high: f64,
+    pub stop: u32,
+}
+
+pub const MODEL: u16 = 1;
+pub const SETTINGS: u16 = 2;
+pub const SHOT: u16 = 3;
+
+impl Model {
+    pub fn new(checks: u32, mechanisms: &[(f64, &[u32])]) -> Self {
+        let mechanisms = mechanisms.iter().map(|(prior, detectors)| Mechanism {
+            prior: *prior,
+            detectors: detectors.to_vec(),
+        });
+        Self {
+            checks,
+            mechanisms: mechanisms.collect(),
+        }
+    }
+
+    /// Document 01's G.
+    pub fn g() -> Self {
+        Self::new(2, &[(4.0, &[0]), (4.0, &[0, 1]), (4.0, &[1])])
+    }
+
+    pub fn edges(&self) -> usize {
+        let degrees = self.mechanisms.iter().map(|m| m.detectors.len());
+        degrees.sum()
+    }
+
+    /// The parities that a set of mechanisms leaves on the checks.
+    pub fn syndrome_of(&self, bits: &[bool]) -> Vec<u8> {
+        let mut syndrome = vec![0; self.checks as usize];
+        for (mechanism, _) in self.mechanisms.iter().zip(bits).filter(|(_, bit)| **bit) {
+            for &detector in &mechanism.detectors {
+                syndrome[detector as usize] ^= 1;
+            }
+        }
+        syndrome
+    }
+
+    pub fn payload(&self) -> Vec<u8> {
+        let degrees: Vec<u32> = self
+            .mechanisms
+            .iter()
+            .map(|mechanism| mechanism.detectors.len() as u32)
+            .collect();
+        self.payload_saying(self.mechanisms.len() as u32, self.edges() as u32, &degrees)
+    }
+
+    /// The payload with counts and degrees that need not be the model's.
+    pub fn payload_saying(&self, mechanisms: u32, edges: u32, degrees: &[u32]) -> Vec<u8> {
+        let mut bytes = Vec::new();
+        for count in [self.checks, mechanisms, edges] {
+            bytes.extend(count.to_le_bytes());
+        }
+        for (mechanism, degree) in self.mechanisms.iter().zip(degrees) {
+            bytes.extend(mechanism.prior.to_le_bytes());
+            bytes.extend(degree.to_le_bytes());
+        }
+        for detector in self.mechanisms.iter().flat_map(|m| &m.detectors) {
+            bytes.extend(detector.to_le_bytes());
+        }
+        bytes
+    }
+}
+
+impl Settings {
+    /// What document 01's small runs use: alpha 1, gamma0 0, no relayed legs.
+    pub fn plain(schedule: u8, pre: u32) -> Self {
+        Self {
+            schedule,
+            alpha: 1.0,
+            gamma0: 0.0,
+            pre,
+            legs: 0,
+            leg_iterations: 0,
+            low: 0.0,
+            high: 0.0,
+            stop: 1,
+        }
+    }
+
+    /// Relayed legs with the published memory.
+    pub fn relayed(schedule: u8, pre: u32, legs: u32, leg_iterations: u32, stop: u32) -> Self {
+        Self {
+            gamma0: 0.1,
+            legs,
+            leg_iterations,
+            low: -0.24,
+            high: 0.66,
+            stop,
+            ..Self::plain(schedule, pre)
+        }
+    }
+
+    pub fn payload(&self) -> Vec<u8> {
+        let mut bytes = vec![self.schedule];
+        bytes.extend(self.alpha.to_le_bytes());
+        bytes.extend(self.gamma0.to_le_bytes());
+        bytes.extend(self.pre.to_le_bytes());
+        bytes.extend(self.legs.to_le_bytes());
+        bytes.extend(self.leg_iterations.to_le_bytes());
+        bytes.extend(self.low.to_le_bytes());
+        bytes.extend(self.high.to_le_bytes());
+        bytes.extend(self.stop.to_le_bytes());
+        bytes
+    }
+}
+
+/// A stream that grows record by record.
+#[derive(Clone, Debug, Default)]
+pub struct Stream {
+    pub bytes: Vec<u8>,
+}
+
+impl Stream {
+    pub fn new() -> Self {
+        Self::default()
+    }
+
+    /// Document 01's model and settings of its 141 bytes, without the shot.
+    pub fn of_g() -> Self {
+        Self::new()
+            .model(&Model::g())
+            .settings(&Settings::plain(0, 2))
+    }
+
+    pub fn record(self, kind: u16, payload: &[u8]) -> Self {
+        self.record_saying(payload.len() as u32, kind, payload)
+    }
+
+    /// A record whose head says a length that need not be the payload's.
+    pub fn record_saying(mut self, length: u32, kind: u16, payload: &[u8]) -> Self {
+        self.bytes.extend(length.to_le_bytes());
+        self.bytes.extend(kind.to_le_bytes());
+        self.bytes.extend(payload);
+        self
+    }
+
+    pub fn model(self, model: &Model) -> Self {
+        self.record(MODEL, &model.payload())
+    }
+
+    pub fn settings(self, settings: &Settings) -> Self {
+        self.record(SETTINGS, &settings.payload())
+    }
+
+    pub fn shot(self, seed: u64, syndrome: &[u8]) -> Self {
+        let mut payload = seed.to_le_bytes().to_vec();
+        payload.extend(syndrome);
+        self.record(SHOT, &payload)
+    }
+
+    pub fn raw(mut self, bytes: &[u8]) -> Self {
+        self.bytes.extend(bytes);
+        self
+    }
+}
