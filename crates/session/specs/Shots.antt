@@ -2,7 +2,7 @@
 -- Assumes nothing.
 use Prim.Native.Nat.{ℕ, _+_, _%_, _^_}
 use mathlib.Core.Bool.{Bool, true, false, cond}
-use mathlib.Core.List.{List, []}
+use mathlib.Core.List.{List, [], _∷_, _++_}
 use lib.Dec.{eqb}
 use lib.ListN.{length, take, replicate}
 use Rattle.numbers.specs.Loops.{over}
@@ -116,8 +116,7 @@ judged s (Refused r) p model line = taken (stops s r line) model
 -- a whole record: its payload is what was kept of it
 unfoldable pub recordTaken : Session → List ℕ → List ℕ → List ℕ → Taken
 recordTaken s kept model line =
-    let p = take (s .reader .length) kept in
-    judged s (verdict (s .known .«has_model») (s .known .«has_settings») (s .reader) p) p model line
+    judged s (verdict (s .known .«has_model») (s .known .«has_settings») (s .reader) kept) (take (s .reader .length) kept) model line
 
 -- ---- a byte
 
@@ -143,10 +142,24 @@ byteTaken s b kept model line =
 
 -- ---- the end of the input
 
--- the last line: the shots, or 40 for a record that was cut; nothing after a run that has ended
-abbrev pub lastText : Session → Answer → List ℕ
-lastText s Done = endLine (s .shots)
-lastText s (Refused r) = stoppedLine (numberOf r) (s .reader .offset)
+-- the last line: how many shots there were, or 40 for a record that was cut, with its offset
+abbrev pub lastText : ℕ → ℕ → Answer → List ℕ
+lastText shots offset Done = endLine shots
+lastText shots offset (Refused r) = stoppedLine (numberOf r) offset
 
+-- nothing after a run that has ended
 unfoldable pub endText : Session → List ℕ
-endText s = cond (s .stopped) [] (lastText s (atEnd (s .reader)))
+endText s = cond (s .stopped) [] (lastText (s .shots) (s .reader .offset) (atEnd (s .reader)))
+
+-- ---- all that is written
+
+-- what is written of what is told: the front of the line
+abbrev pub textOf : Told → List ℕ
+textOf t = take (t .session .said) (t .line)
+
+-- the lines of the bytes of an input, one after the other, and the last one
+unfoldable pub written : List ℕ → Session → List ℕ → List ℕ → List ℕ → List ℕ
+written [] s kept model line = endText s
+written (b ∷ bs) s kept model line =
+    let l = byteTaken s b kept model line in
+    textOf (l .taken .now) ++ written bs (l .taken .now .session) (l .kept) (l .taken .model) (l .taken .now .line)

@@ -4,8 +4,9 @@ use crate::Session;
 use crate::telling;
 use refusals::Answer;
 ghost use mathlib.Core.Path.{_≡_};
-ghost use Rattle.records.specs.Reading.{keptOf, verdict};
-ghost use Rattle.session.specs.Shots.{told, taken, tells, shotTaken, settingsTaken, modelTaken, kindTaken, judged, recordTaken};
+ghost use lib.ListN.{take};
+ghost use Rattle.records.specs.Reading.{keptOf};
+ghost use Rattle.session.specs.Shots.{told, taken, tells, shotTaken, settingsTaken, modelTaken, kindTaken, recordTaken};
 ghost use Rattle.shots_core.specs.Table.{modelFault, settingsAnswer, shotDecoded};
 
 // Settings: they replace earlier ones, and the model stays.
@@ -106,19 +107,15 @@ fn take_kind(s: Session, payload: &[u8], model: &mut [u8], line: &mut [u8; 512])
     take_shot(s, &model[..n], payload, line)
 }
 
-// A record: 41 to 45, and then by its kind.
-fn take_judged(s: Session, payload: &[u8], model: &mut [u8], line: &mut [u8; 512]) -> Session
-    ensures { λ x. ⌜ taken (told x (now (line .exit))) (now (model .exit)) ≡ judged s (verdict (s .known .«has_model») (s .known .«has_settings») (s .reader) (now (payload .entry))) (now (payload .entry)) (now (model .entry)) (now (line .entry)) ⌝ }
+// Past 41 to 45 the payload is what was kept of it.
+fn take_accepted(s: Session, kept: &[u8], model: &mut [u8], line: &mut [u8; 512]) -> Session
+    ensures { λ x. ⌜ taken (told x (now (line .exit))) (now (model .exit)) ≡ kindTaken s (take (s .reader .length) (now (kept .entry))) (now (model .entry)) (now (line .entry)) ⌝ }
 {
-    let reader = s.reader;
-    let a = records::verdict(reader, payload, s.known.has_model, s.known.has_settings);
-    match a {
-        Answer::Refused(r) => telling::stop(s, r, line),
-        Answer::Done => take_kind(s, payload, model, line),
-    }
+    let n = shots_core::front(kept, s.reader.length);
+    take_kind(s, &kept[..n], model, line)
 }
 
-// The payload is what was kept of it.
+// A record: 41 to 45, and then by its kind.
 pub(crate) fn take_record(
     s: Session,
     kept: &[u8],
@@ -127,6 +124,10 @@ pub(crate) fn take_record(
 ) -> Session
     ensures { λ x. ⌜ taken (told x (now (line .exit))) (now (model .exit)) ≡ recordTaken s (now (kept .entry)) (now (model .entry)) (now (line .entry)) ⌝ }
 {
-    let n = shots_core::front(kept, s.reader.length);
-    take_judged(s, &kept[..n], model, line)
+    let reader = s.reader;
+    let a = records::verdict(reader, kept, s.known.has_model, s.known.has_settings);
+    match a {
+        Answer::Refused(r) => telling::stop(s, r, line),
+        Answer::Done => take_accepted(s, kept, model, line),
+    }
 }

@@ -1,0 +1,127 @@
+-- A record that is met is told as the grammar and the table say, and it leaves the reader where it was. Assumes nothing.
+use Prim.Native.Nat.{ℕ, _+_, _*_, _≤_}
+use mathlib.Core.Path.{_≡_, refl, sym, ap, _∙_}
+use mathlib.Core.Bool.{Bool, true, false, cond}
+use mathlib.Core.List.{List}
+use mathlib.Core.Logic.{⊎-elim}
+use native.Mathlib.Omega.{arith}
+use lib.Dec.{eqb, leb}
+use lib.ListN.{length, take, drop, replicate}
+use lib.Seq.{take-append-seam}
+use borrow.Author.Tests.{leb-true, eqb-true, eq-eqb, ne-eqb}
+use Rattle.numbers.proofs.Cases.{equal-or-not}
+use Rattle.refusals.specs.declared.Refusal.{Refusal}
+use Rattle.refusals.specs.declared.Answer.{Answer}
+use Rattle.refusals.specs.declared.Answer.the-variants.{Done, Refused}
+use Rattle.refusals.specs.Refusal.{numberOf}
+use Rattle.calls_core.specs.declared.Decoded.{Decoded}
+use Rattle.calls_core.specs.declared.Decoded.the-variants as Decoded
+use Rattle.records.specs.declared.Reader.{Reader}
+use Rattle.records.specs.Stream.{Rec, Sayable, encode, lengthSaid, kindSaid, checks, mechanisms, edges, degrees, legs, judge, isOfShot, lengthGood, roomGood}
+use Rattle.records.specs.Reading.{holding, keptOf, verdict}
+use Rattle.records.proofs.Accepted.{passed, model-within}
+use Rattle.records.proofs.Kept.{kept-front}
+use Rattle.records.proofs.Along.{to-its-end}
+use Rattle.records.proofs.Encoding.{length-encode}
+use Rattle.records.proofs.Theorems.{judges}
+use Rattle.shots_core.specs.Table.{modelFault, settingsAnswer, shotDecoded}
+use Rattle.session.specs.declared.Session.{Session}
+use Rattle.session.specs.Shots.{Told, Taken, taken, stops, says, refuses, finds, answers, tells, shotTaken, goesOn, settingsTaken, modelTaken, kindTaken, judged, recordTaken, reads}
+use Rattle.session.specs.Text.{recordSaid}
+
+-- ---- the reader stays
+
+-- of two that leave it
+either-stays : (b : Bool) (x y : Told) (r : Reader) → x .session .reader ≡ r → y .session .reader ≡ r → cond b x y .session .reader ≡ r
+either-stays true x y r h k = h
+either-stays false x y r h k = k
+
+either-taken : (b : Bool) (x y : Taken) (r : Reader) → x .now .session .reader ≡ r → y .now .session .reader ≡ r → cond b x y .now .session .reader ≡ r
+either-taken true x y r h k = h
+either-taken false x y r h k = k
+
+stops-stays : (s : Session) (r : Refusal) (line : List ℕ) → stops s r line .session .reader ≡ s .reader
+unfolding stops
+stops-stays s r line = refl
+
+answers-stays : (s : Session) (d : Decoded) (bits line : List ℕ) → answers s d bits line .session .reader ≡ s .reader
+unfolding finds says refuses
+answers-stays s (Decoded.Converged legs total weight) bits line = refl
+answers-stays s (Decoded.NotConverged legs total) bits line = refl
+answers-stays s (Decoded.Refused r) bits line = either-stays (isOfShot (numberOf r)) _ _ (s .reader) refl (stops-stays s r line)
+
+settings-stays : (s : Session) (a : Answer) (p line : List ℕ) → settingsTaken s a p line .session .reader ≡ s .reader
+unfolding goesOn
+settings-stays s Done p line = refl
+settings-stays s (Refused r) p line = stops-stays s r line
+
+model-stays : (s : Session) (a : Answer) (p model line : List ℕ) → modelTaken s a p model line .now .session .reader ≡ s .reader
+unfolding goesOn
+model-stays s Done p model line = refl
+model-stays s (Refused r) p model line = stops-stays s r line
+
+shot-stays : (s : Session) (model p line : List ℕ) → shotTaken s model p line .session .reader ≡ s .reader
+unfolding shotTaken tells
+shot-stays s model p line =
+    let d = shotDecoded model (s .known .settings) p (take (mechanisms model) (replicate 256 0)) in
+    answers-stays s (d .answer) (d .correction) line
+
+judged-stays : (s : Session) (a : Answer) (p model line : List ℕ) → judged s a p model line .now .session .reader ≡ s .reader
+unfolding kindTaken
+judged-stays s Done p model line =
+    let x = modelTaken s (modelFault p) p model line in
+    let y = taken (settingsTaken s (settingsAnswer p) p line) model in
+    let m = take (s .known .«model_length») model in
+    let z = taken (shotTaken s m p line) model in
+    either-taken (eqb (s .reader .kind) 1) x (cond (eqb (s .reader .kind) 2) y z) (s .reader) (model-stays s (modelFault p) p model line)
+    (either-taken (eqb (s .reader .kind) 2) y z (s .reader) (settings-stays s (settingsAnswer p) p line) (shot-stays s m p line))
+judged-stays s (Refused r) p model line = stops-stays s r line
+
+pub record-stays : (s : Session) (kept model line : List ℕ) → recordTaken s kept model line .now .session .reader ≡ s .reader
+unfolding recordTaken
+record-stays s kept model line =
+    judged-stays s (verdict (s .known .«has_model») (s .known .«has_settings») (s .reader) kept) (take (s .reader .length) kept) model line
+
+-- ---- the payload finds room, where 41 to 45 let it through
+
+pub fits-room : (kind size c m e sum l : ℕ) → lengthGood kind size m e sum ≡ true → roomGood kind size c m e l ≡ true → size ≤ 5132
+unfolding lengthGood roomGood
+fits-room kind size c m e sum l h k = ⊎-elim one (λ n. ⊎-elim (two n) (three n) (equal-or-not kind 2)) (equal-or-not kind 1)
+  where
+    one : kind ≡ 1 → size ≤ 5132
+    one q = let w = model-within size c m e sum l (rw q at h) (rw q at k) in omega (arith, w .sizeFits, w .mechanismsFit, w .edgesFit)
+
+    two : (kind ≡ 1 → ⊥) → kind ≡ 2 → size ≤ 5132
+    two n q = let e : (eqb size 49 ≡ true) = rw (ne-eqb kind 1 n, eq-eqb kind 2 q) at h in omega (arith, eqb-true size 49 e)
+
+    three : (kind ≡ 1 → ⊥) → (kind ≡ 2 → ⊥) → size ≤ 5132
+    three n q = let e : (leb size 136 ≡ true) = rw (ne-eqb kind 1 n, ne-eqb kind 2 q) at k in omega (arith, leb-true size 136 e)
+
+-- ---- a record that is met
+
+-- a refused payload is not looked at
+same-payload : (s : Session) (a : Answer) (q p model line : List ℕ) → (a ≡ Done → q ≡ p) → judged s a q model line ≡ judged s a p model line
+same-payload s Done q p model line h = ap (λ x. kindTaken s x model line) (h refl)
+same-payload s (Refused r) q p model line h = refl
+
+module _ (r : Rec) (sayable : Sayable r) (offset : ℕ) (room : List ℕ) (large : 5132 ≤ length room) where
+  abbrev bytes : List ℕ
+  bytes = encode (r .kind) (r .payload)
+
+  -- the head says the payload's length
+  said : lengthSaid bytes ≡ length (r .payload)
+  said = omega (arith, to-its-end r sayable offset room, length-encode (r .kind) (r .payload))
+
+  -- what 41 to 45 let through is kept whole
+  kept-whole : (hasModel hasSettings : Bool) → verdict hasModel hasSettings (holding offset bytes) (keptOf (r .payload) room) ≡ Done
+      → take (lengthSaid bytes) (keptOf (r .payload) room) ≡ r .payload
+  kept-whole hasModel hasSettings d =
+      let p = passed hasModel hasSettings (holding offset bytes) (keptOf (r .payload) room) d in
+      let l = fits-room _ _ _ _ _ _ _ (p .size) (p .room) in
+      rw (said, kept-front (r .payload) room (omega (arith, l, said, large))) (take-append-seam (r .payload) (drop (length (r .payload)) room))
+
+  pub record-told : (s : Session) (model line : List ℕ) → recordTaken (reads s (holding offset bytes)) (keptOf (r .payload) room) model line ≡ recordSaid s offset r model line
+  unfolding recordTaken recordSaid reads
+  record-told s model line =
+      same-payload _ _ _ _ model line (kept-whole (s .known .«has_model») (s .known .«has_settings»))
+      ∙ ap (λ a. judged (reads s (holding offset bytes)) a (r .payload) model line) (judges (s .known .«has_model») (s .known .«has_settings») r offset room sayable (omega (arith, large)))

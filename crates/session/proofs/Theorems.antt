@@ -1,0 +1,58 @@
+-- What a reader of this crate may rely on: what `shots` writes, byte by byte, is what the grammar and the table say of its records, on every input. Assumes nothing.
+use Prim.Native.Nat.{ℕ, _≤_}
+use mathlib.Core.Path.{_≡_, refl, sym, ap, _∙_}
+use mathlib.Core.Bool.{false}
+use mathlib.Core.List.{List, _++_}
+use lib.ListN.{length}
+use Rattle.records.specs.Stream.{AreBytes, Rec, AllSayable, stream, isComplete}
+use Rattle.records.specs.Reading.{fresh, held, fed}
+use Rattle.records.proofs.Theorems.{told-apart, meets}
+use Rattle.session.specs.declared.Session.{Session}
+use Rattle.session.specs.Shots.{Left, start, byteTaken, endText, written}
+use Rattle.session.specs.Text.{recordsText}
+use Rattle.session.proofs.Written.{metText, written-met}
+use Rattle.session.proofs.Ended.{ends-at, met-told}
+
+-- ---- the stream
+
+-- "`shots` reads standard input": of records and what is left over it writes what the grammar and the table say, with each refusal's number and offset, where a payload of
+-- 5,132 bytes can be kept, the longest within the room
+pub writes : (rs : List Rec) (rest room model line : List ℕ) → AllSayable rs → AreBytes rest → isComplete rest ≡ false → 5132 ≤ length room
+    → written (stream rs ++ rest) start room model line ≡ recordsText rs 0 rest start model line
+writes rs rest room model line s f c l =
+    let final = fed (stream rs ++ rest) (held (fresh 0) room) .reader in
+    written-met (stream rs ++ rest) start room model line refl
+    ∙ ap (λ hs. metText hs final start model line) (meets rs rest 0 room s f c)
+    ∙ met-told rs rest 0 room final start model line s l refl (λ n. ends-at n rs rest 0 room s f c)
+
+-- every input is such a stream
+pub record Written (xs room model line : List ℕ) : Type 0 where
+  pub records : List Rec
+  pub rest : List ℕ
+  pub sayable : AllSayable records
+  pub same : xs ≡ stream records ++ rest
+  pub cut : isComplete rest ≡ false
+  pub text : written xs start room model line ≡ recordsText records 0 rest start model line
+
+pub every-input : (xs room model line : List ℕ) → AreBytes xs → 5132 ≤ length room → Written xs room model line
+every-input xs room model line f l =
+    let t = told-apart xs f in
+    record {
+      records = t .records;
+      rest = t .rest;
+      sayable = t .sayable;
+      same = t .same;
+      cut = t .cut;
+      text = ap (λ ys. written ys start room model line) (t .same) ∙ writes (t .records) (t .rest) room model line (t .sayable) (t .bytes) (t .cut) l;
+    }
+
+-- ---- two results that a contract allows coincide
+
+pub start-once : (x y : Session) → x ≡ start → y ≡ start → x ≡ y
+start-once x y p q = p ∙ sym q
+
+pub byte-once : (s : Session) (b : ℕ) (kept model line : List ℕ) (x y : Left) → x ≡ byteTaken s b kept model line → y ≡ byteTaken s b kept model line → x ≡ y
+byte-once s b kept model line x y p q = p ∙ sym q
+
+pub end-once : (s : Session) (x y : List ℕ) → x ≡ endText s → y ≡ endText s → x ≡ y
+end-once s x y p q = p ∙ sym q
