@@ -16,7 +16,7 @@ use Rattle.refusals.specs.declared.Refusal.the-variants.{SyndromeLength}
 use Rattle.refusals.specs.declared.Answer.{Answer}
 use Rattle.refusals.specs.declared.Answer.the-variants.{Done, Refused}
 use Rattle.refusals.specs.Tests.{isDone, unless, orElse, firstOf, unlessRefused}
-use Rattle.refusals.proofs.Tests.{done-is, or-first, or-second, or-done, unless-done}
+use Rattle.refusals.proofs.Tests.{done-is, or-done, unless-done}
 use Rattle.graph.specs.Graph.{Graph, graph}
 use Rattle.graph.specs.Model.{graphFault}
 use Rattle.graph.proofs.GraphTests.{graph-told}
@@ -33,15 +33,7 @@ use Rattle.calls_core.specs.Calls.{byteFault, syndromeFault, StepLists, 
 use Rattle.orders_core.proofs.All.{all-at}
 use Rattle.orders_core.proofs.Counts.{names-below, names-once-is}
 
--- ---- one test after another
-
--- `if !is_done(a) { return a; }`, taken
-pub or-refused : (a g x : Answer) (b : Bool) → a ≡ g → b ≡ isDone a → not b ≡ true → a ≡ orElse g x
-or-refused a g x b e d t = e ∙ sym (or-first g x (ap isDone (sym e) ∙ sym d ∙ not-true b t))
-
--- and not taken
-pub or-passed : (a g x r : Answer) (b : Bool) → a ≡ g → b ≡ isDone a → not b ≡ false → r ≡ x → r ≡ orElse g x
-or-passed a g x r b e d t q = q ∙ sym (or-second g x (sym e ∙ done-is a (sym d ∙ not-false b t)))
+-- ---- what the tests tell
 
 -- a graph that passes has no more checks than it may have
 pub checks-few : (edges : ℕ) (prior : List Float) (g : Graph) (a : Answer) (b : Bool) → a ≡ graphFault edges prior g → b ≡ isDone a → not b ≡ false

@@ -1,10 +1,10 @@
 -- A decode past its tests, as the code has it: the lists that are zeroed, and the leg lists with their surplus. Assumes nothing.
 use mathlib.Core.Path.{_≡_, refl, sym, ap, _∙_}
 use mathlib.Core.Bool.{Bool, true, false, not, cond, false≢true}
-use mathlib.Core.List.{List, [], _∷_, _++_}
+use mathlib.Core.List.{List, [], _++_}
 use mathlib.Core.Logic.{_⊎_, inl, inr}
 use mathlib.Core.Option.{Option, none, some}
-use Prim.Native.Nat.{ℕ, zero, suc, _+_, _-_, _*_, _≤_}
+use Prim.Native.Nat.{ℕ, suc, _+_, _-_, _*_, _≤_}
 use native.Mathlib.Nat.{sub-zero}
 use native.Mathlib.Numerals.{add-one}
 use native.Mathlib.Omega.{arith}
@@ -17,15 +17,10 @@ use Rattle.numbers.proofs.Cases.{either}
 use Rattle.settings.specs.declared.Settings.{Settings}
 use Rattle.calls_core.specs.declared.Decoded.{Decoded}
 use Rattle.orders_core.specs.Order.{upto}
+use Rattle.orders_core.proofs.OrderWords.{upto-length}
 use Rattle.calls_core.specs.Decode.{Shot, Run, Ended, decoded, refused, decodeLegs, correctionOf}
 use Rattle.calls_core.specs.Calls.{Lists, Outcome, outcome, answered, leftBy, zeroed, afterLegs}
 use Rattle.legs_core.specs.Kept.{shotOf, Reads, answerOf, isRefused, Results, results, resultsOf, started}
-
--- the index order's length
-upto-length : (n : ℕ) → length (upto n) ≡ n
-unfolding upto
-upto-length zero = refl
-upto-length (suc n) = length-append (upto n) (n ∷ []) ∙ omega (arith, upto-length n)
 
 -- a run that has ended is not refused
 not-refused : (run : Run) (best : Option Float) → isRefused (answered run best) ≡ false

@@ -13,16 +13,13 @@ use messages_core::first_not_finite;
 use refusals::Answer;
 use settings::Settings;
 ghost use mathlib.Core.Path.{_≡_};
-ghost use mathlib.Core.Bool.{false, _||_, not, cond};
+ghost use mathlib.Core.Bool.{false, cond};
 ghost use Prim.Native.Nat.{_*_, _≤_, suc};
-ghost use lib.Dec.{leb};
 ghost use lib.ListN.{length, replicate};
 ghost use Rattle.numbers.specs.Floats.{zero⁺};
-ghost use Rattle.refusals.specs.declared.Answer.the-variants.{Done};
-ghost use Rattle.refusals.specs.Tests.{isDone};
 ghost use Rattle.calls_core.specs.Decode.{decodeLegs};
 ghost use Rattle.calls_core.specs.Calls.{outcome, afterLegs};
-ghost use Rattle.legs_core.specs.Kept.{shotOf, Reads, bestOf, answerOf, isRefused, answerBy, results, resultsOf, started};
+ghost use Rattle.legs_core.specs.Kept.{shotOf, Reads, answerOf, isRefused, results, resultsOf, started};
 
 // Leg after leg, from the posterior and the empty records that are lent. After a refusal the lists hold what the legs left.
 fn run_legs(

@@ -8,10 +8,10 @@ use lib.ListN.{length, replicate}
 use borrow.Author.Tests.{not-true, not-false, eqb-true}
 use Rattle.numbers.proofs.Cases.{and-both}
 use Rattle.numbers.specs.Floats.{zero⁺}
-use Rattle.refusals.proofs.Tests.{done-is, or-first, or-second, or-done, unless-done}
+use Rattle.refusals.proofs.Tests.{done-is, or-done, unless-done}
 use Rattle.refusals.specs.declared.Answer.{Answer}
 use Rattle.refusals.specs.declared.Answer.the-variants.{Done, Refused}
-use Rattle.refusals.specs.Tests.{isDone, orElse, firstOf, unlessRefused}
+use Rattle.refusals.specs.Tests.{isDone, firstOf, unlessRefused}
 use Rattle.graph.specs.Graph.{Graph, graph}
 use Rattle.graph.specs.Messages.{cleared, fromVariables, valueFault, posteriorFault}
 use Rattle.graph.proofs.GraphTests.{graph-told}
@@ -19,16 +19,6 @@ use Rattle.messages_core.specs.Needs.{Walks, walked}
 use Rattle.messages_core.proofs.Walks.{graph-walks}
 use Rattle.min_sum.specs.MinSum.{skipped, updateCheck, rawPosterior, updateVariable, parallelCheck, checksTo, variablesTo, parallelIteration, serialCheck, serialTo, serialIteration, averagedTo, averaged, startRound, turned, turn, roundTo, round, rounds, chosenTo, minSumBp}
 use Rattle.min_sum.specs.Beliefs.{Lists, lists, Outcome, outcome, listsFit, beliefsFault, ran, afterTests, beliefs}
-
--- ---- one test after another
-
--- `if !is_done(a) { return a; }`, taken
-pub or-refused : (a g x : Answer) (b : Bool) → a ≡ g → b ≡ isDone a → not b ≡ true → a ≡ orElse g x
-or-refused a g x b e d t = e ∙ sym (or-first g x (ap isDone (sym e) ∙ sym d ∙ not-true b t))
-
--- and not taken
-pub or-passed : (a g x r : Answer) (b : Bool) → a ≡ g → b ≡ isDone a → not b ≡ false → r ≡ x → r ≡ orElse g x
-or-passed a g x r b e d t q = q ∙ sym (or-second g x (sym e ∙ done-is a (sym d ∙ not-false b t)))
 
 -- ---- what a run leaves
 

@@ -6,3 +6,4 @@ pub mod Bits
 pub mod Order
 pub mod Loops
 pub mod Product
+pub mod Room

@@ -146,7 +146,7 @@ module _ (g : Graph) (order : List ℕ) where
 -- ---- the index order is accepted
 
 -- its length, and what stands where
-upto-length : (n : ℕ) → length (upto n) ≡ n
+pub upto-length : (n : ℕ) → length (upto n) ≡ n
 unfolding upto
 upto-length zero = refl
 upto-length (suc n) = length-append (upto n) (n ∷ []) ∙ omega (arith, upto-length n)

@@ -2,13 +2,3 @@
 pub mod Bytes
 pub mod Steps
 pub mod Fills
-pub mod Degrees
-pub mod Holding
-pub mod Encoding
-pub mod Whole
-pub mod Judging
-pub mod Along
-pub mod Accepted
-pub mod Kept
-pub mod ReadBack
-pub mod Theorems

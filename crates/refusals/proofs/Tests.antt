@@ -26,6 +26,14 @@ pub or-second : (a b : Answer) → a ≡ Done → orElse a b ≡ b
 unfolding orElse
 or-second a b h = rw h
 
+-- `if !is_done(a) { return a; }`, taken
+pub or-refused : (a g x : Answer) (b : Bool) → a ≡ g → b ≡ isDone a → not b ≡ true → a ≡ orElse g x
+or-refused a g x b e d t = e ∙ sym (or-first g x (ap isDone (sym e) ∙ sym d ∙ not-true b t))
+
+-- and not taken
+pub or-passed : (a g x r : Answer) (b : Bool) → a ≡ g → b ≡ isDone a → not b ≡ false → r ≡ x → r ≡ orElse g x
+or-passed a g x r b e d t q = q ∙ sym (or-second g x (sym e ∙ done-is a (sym d ∙ not-false b t)))
+
 -- an answer refuses nothing, or something
 done-or-not : (a : Answer) → (isDone a ≡ true) ⊎ (isDone a ≡ false)
 done-or-not Done = inl refl

@@ -1,6 +1,3 @@
+-- The laws that stand by themselves, for the proofs of this crate and of `stream_laws`.
 pub mod Cases
 pub mod Keeping
-pub mod Recorded
-pub mod Written
-pub mod Ended
-pub mod Theorems

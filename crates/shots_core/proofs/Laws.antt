@@ -1,14 +1,13 @@
 -- A model read and then built, a shot decoded over what was built, and the room that the tests leave. Assumes nothing.
 use Prim.Native.Nat.{ℕ, _+_, _≤_}
 use mathlib.Core.Path.{_≡_, sym, ap, subst, _∙_}
-use mathlib.Core.Bool.{Bool, true, false, _&&_, cond}
+use mathlib.Core.Bool.{Bool, true, false, _&&_}
 use mathlib.Core.List.{List, []}
-use native.Mathlib.Omega.{arith}
 use lib.Dec.{leb}
 use lib.Ieee.{Float}
 use Rattle.numbers.specs.Floats.{zero⁺}
-use lib.ListN.{length, take, drop, replicate, length-replicate, drop-of-length-le}
-use lib.Seq.{length-take-le, take-all, take-length, drop-length}
+use lib.ListN.{length, take, drop, replicate, drop-of-length-le}
+use lib.Seq.{take-all, take-length, drop-length}
 use Rattle.refusals.specs.declared.Refusal.the-variants.{BeyondRoom}
 use Rattle.refusals.specs.declared.Answer.{Answer}
 use Rattle.refusals.specs.declared.Answer.the-variants.{Refused}
@@ -26,10 +25,6 @@ use Rattle.records.proofs.Fills.{room-parts}
 use Rattle.shots_core.specs.Table.{floats, counts, modelRoom, graphRoom, shotRoom, within, builtFrom, modelFault, decodedFrom, Decoding, decoding, found, shotDecoded}
 
 -- ---- lists
-
--- the first n of an array's equal elements are n
-pub part-length : {A : Type 0} (x : A) (n room : ℕ) → n ≤ room → n ≡ length (take n (replicate room x))
-part-length x n room h = sym (length-take-le n (replicate room x) (subst (λ k. n ≤ k) (sym (length-replicate room x)) h))
 
 -- past the end of a list nothing is taken and nothing left
 pub past-end : (xs : List ℕ) (n : ℕ) → length xs ≤ n → (take (length xs) xs ≡ take n xs) × (drop (length xs) xs ≡ drop n xs)

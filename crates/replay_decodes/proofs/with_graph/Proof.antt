@@ -1,6 +1,6 @@
 -- `replay_decodes::with_graph` is safe: the parts of its arrays have the lengths that the tests allow. Assumes nothing.
 use native.Mathlib.Omega.{arith}
-use Rattle.replay_core.proofs.Room.{part-length, again-fits, again-length, spare, one-more}
+use Rattle.numbers.proofs.Room.{part-length, again-fits, again-length, spare, one-more}
 use borrow.Author.Needs.{needs}
 use Rattle.replay_decodes.proofs.with_graph.Statement.{statement}
 use Rattle.replay_decodes.proofs.with_graph.Tie as tie

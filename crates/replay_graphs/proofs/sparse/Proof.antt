@@ -1,6 +1,6 @@
 -- `replay_graphs::sparse` is safe: the parts of its arrays have the lengths that the tests allow. Assumes nothing.
 use native.Mathlib.Omega.{arith}
-use Rattle.replay_core.proofs.Room.{part-length}
+use Rattle.numbers.proofs.Room.{part-length}
 use borrow.Author.Needs.{needs}
 use Rattle.replay_graphs.proofs.sparse.Statement.{statement}
 use Rattle.replay_graphs.proofs.sparse.Tie as tie

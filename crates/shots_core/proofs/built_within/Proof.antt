@@ -1,6 +1,7 @@
 -- `shots_core::built_within` meets its contract. The parts of its arrays have the lengths that the room allows. Assumes nothing.
 use native.Mathlib.Omega.{arith}
-use Rattle.shots_core.proofs.Laws.{part-length, built-parts}
+use Rattle.numbers.proofs.Room.{part-length}
+use Rattle.shots_core.proofs.Laws.{built-parts}
 use borrow.Author.Needs.{needs}
 use Rattle.shots_core.proofs.built_within.Statement.{statement}
 use Rattle.shots_core.proofs.built_within.Tie as tie

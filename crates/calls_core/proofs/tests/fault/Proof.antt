@@ -1,7 +1,8 @@
 -- `calls_core::tests::fault` meets its contract. The graph's tests refuse, or those of the step answer.
 -- Assumes nothing.
 use Rattle.calls_core.specs.Calls.{stepFault, stepFits}
-use Rattle.calls_core.proofs.Calls.{or-refused, or-passed, checks-few}
+use Rattle.refusals.proofs.Tests.{or-refused, or-passed}
+use Rattle.calls_core.proofs.Calls.{checks-few}
 use borrow.Author.Needs.{needs}
 use Rattle.calls_core.proofs.tests.fault.Statement.{statement}
 use Rattle.calls_core.proofs.tests.fault.Tie as tie

@@ -1,6 +1,6 @@
 -- `decode_core::decode_tests::order_fault` meets its contract. The index order passes both tests; another is tested by one, then by the other.
 -- Assumes nothing.
-use Rattle.calls_core.proofs.Calls.{or-refused, or-passed}
+use Rattle.refusals.proofs.Tests.{or-refused, or-passed}
 use Rattle.decode_core.proofs.Faults.{index-passes, names-passed}
 use borrow.Author.Needs.{needs}
 use Rattle.decode_core.proofs.decode_tests.order_fault.Statement.{statement}

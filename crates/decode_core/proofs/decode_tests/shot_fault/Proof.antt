@@ -4,7 +4,7 @@ use mathlib.Core.List.{[]}
 use Rattle.graph.specs.Graph.{graph}
 use Rattle.legs_core.specs.Kept.{shotFault}
 use Rattle.decode_core.proofs.WholeGraph.{whole}
-use Rattle.calls_core.proofs.Calls.{or-refused, or-passed}
+use Rattle.refusals.proofs.Tests.{or-refused, or-passed}
 use Rattle.decode_core.proofs.Faults.{mechanisms-few, lists-fault, settings-passed}
 use borrow.Author.Needs.{needs}
 use Rattle.decode_core.proofs.decode_tests.shot_fault.Statement.{statement}

@@ -1,5 +1,4 @@
 -- `exports::decodes::tell_refusal` meets its contract: 30 writes zeros, and any other refusal nothing. Assumes nothing.
-use mathlib.Core.Path.{refl}
 use lib.Ieee.{ofBits}
 use Rattle.exports.proofs.Codes.{thirty, not-thirty}
 use borrow.Author.Needs.{needs}

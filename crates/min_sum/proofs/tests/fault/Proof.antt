@@ -1,6 +1,6 @@
 -- `min_sum::tests::fault` meets its contract: the graph's tests refuse, or those of the run answer. Assumes nothing.
 use borrow.Author.Needs.{needs}
-use Rattle.min_sum.proofs.Calls.{or-refused, or-passed}
+use Rattle.refusals.proofs.Tests.{or-refused, or-passed}
 use Rattle.min_sum.proofs.tests.fault.Statement.{statement}
 use Rattle.min_sum.proofs.tests.fault.Tie as tie
 

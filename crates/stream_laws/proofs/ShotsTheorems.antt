@@ -1,4 +1,4 @@
--- What a reader of this crate may rely on: what `shots` writes, byte by byte, is what the grammar and the table say of its records, on every input. Assumes nothing.
+-- What a reader may rely on of `shots`: what its session says, byte by byte, is what the grammar and the table say of the records, on every input. Assumes nothing.
 use Prim.Native.Nat.{ℕ, _≤_}
 use mathlib.Core.Path.{_≡_, refl, sym, ap, _∙_}
 use mathlib.Core.Bool.{false}
@@ -6,14 +6,12 @@ use mathlib.Core.List.{List, _++_}
 use lib.ListN.{length}
 use Rattle.records.specs.Stream.{AreBytes, Rec, AllSayable, stream, isComplete}
 use Rattle.records.specs.Reading.{fresh, held, fed}
-use Rattle.records.proofs.Theorems.{told-apart, meets}
 use Rattle.session.specs.declared.Session.{Session}
 use Rattle.session.specs.Shots.{Left, start, byteTaken, endText, written}
 use Rattle.session.specs.Text.{recordsText}
-use Rattle.session.proofs.Written.{metText, written-met}
-use Rattle.session.proofs.Ended.{ends-at, met-told}
-
--- ---- the stream
+use Rattle.stream_laws.proofs.Theorems.{told-apart, meets}
+use Rattle.stream_laws.proofs.Written.{metText, written-met}
+use Rattle.stream_laws.proofs.Ended.{ends-at, met-told}
 
 -- "`shots` reads standard input": of records and what is left over it writes what the grammar and the table say, with each refusal's number and offset, where a payload of
 -- 5,132 bytes can be kept, the longest within the room

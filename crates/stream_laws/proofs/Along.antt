@@ -12,10 +12,10 @@ use borrow.Author.Tests.{eq-eqb}
 use Rattle.numbers.proofs.Cases.{either}
 use Rattle.refusals.specs.declared.Refusal.the-variants.{CutRecord}
 use Rattle.refusals.specs.Tests.{unless}
 use Rattle.records.specs.Stream.{AreBytes, Rec, Sayable, encode, lengthSaid}
 use Rattle.records.specs.Reading.{fresh, holding, isWhole, opened, keptOf, Held, held, pushed, fed, met, atEnd}
-use Rattle.records.proofs.Encoding.{length-encode, length-said, payload-said, bytes-encode}
-use Rattle.records.proofs.Whole.{not-whole, read-first, read-all}
+use Rattle.stream_laws.proofs.Encoding.{length-encode, length-said, payload-said, bytes-encode}
+use Rattle.stream_laws.proofs.Whole.{not-whole, read-first, read-all}
 
 -- ---- two pieces
 

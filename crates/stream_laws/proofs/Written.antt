@@ -1,17 +1,16 @@
 -- What is written byte by byte is what the records that the reader meets say, and then the end. Assumes nothing.
-use Prim.Native.Nat.{ℕ, _+_, _%_, _^_}
+use Prim.Native.Nat.{ℕ}
 use mathlib.Core.Path.{_≡_, refl, sym, ap, _∙_}
-use mathlib.Core.Bool.{Bool, true, false, cond}
-use mathlib.Core.List.{List, [], _∷_, _++_, foldl, append-assoc}
+use mathlib.Core.Bool.{true, false, cond}
+use mathlib.Core.List.{List, [], _∷_, _++_}
 use mathlib.Core.Logic.{⊎-elim}
-use lib.ListN.{length, take}
 use Rattle.numbers.proofs.Cases.{either}
 use Rattle.records.specs.declared.Reader.{Reader}
-use Rattle.records.specs.Reading.{Held, held, pushed, fed, met, isWhole, atEnd}
+use Rattle.records.specs.Reading.{Held, held, pushed, fed, met, isWhole}
 use Rattle.session.specs.declared.Session.{Session}
-use Rattle.session.specs.Shots.{Told, told, Taken, taken, recordTaken, Left, left, reads, byteTaken, lastText, endText, textOf, written}
+use Rattle.session.specs.Shots.{told, Taken, taken, recordTaken, Left, left, reads, byteTaken, endText, textOf, written}
 use Rattle.session.proofs.Cases.{chosen, other, byte-after, byte-whole, byte-more}
-use Rattle.session.proofs.Recorded.{record-stays}
+use Rattle.stream_laws.proofs.Recorded.{record-stays}
 
 -- the text of the records that a reader meets, until one ends the run; then the end, with what the reader holds there
 unfoldable pub metText : List Held → Reader → Session → List ℕ → List ℕ → List ℕ

@@ -1,6 +1,6 @@
 -- A record that is met is told as the grammar and the table say, and it leaves the reader where it was. Assumes nothing.
-use Prim.Native.Nat.{ℕ, _+_, _*_, _≤_}
-use mathlib.Core.Path.{_≡_, refl, sym, ap, _∙_}
+use Prim.Native.Nat.{ℕ, _≤_}
+use mathlib.Core.Path.{_≡_, refl, ap, _∙_}
 use mathlib.Core.Bool.{Bool, true, false, cond}
 use mathlib.Core.List.{List}
 use mathlib.Core.Logic.{⊎-elim}
@@ -17,17 +17,17 @@ use Rattle.refusals.specs.Refusal.{numberOf}
 use Rattle.calls_core.specs.declared.Decoded.{Decoded}
 use Rattle.calls_core.specs.declared.Decoded.the-variants as Decoded
 use Rattle.records.specs.declared.Reader.{Reader}
-use Rattle.records.specs.Stream.{Rec, Sayable, encode, lengthSaid, kindSaid, checks, mechanisms, edges, degrees, legs, judge, isOfShot, lengthGood, roomGood}
+use Rattle.records.specs.Stream.{Rec, Sayable, encode, lengthSaid, mechanisms, legs, isOfShot, lengthGood, roomGood}
 use Rattle.records.specs.Reading.{holding, keptOf, verdict}
-use Rattle.records.proofs.Accepted.{passed, model-within}
-use Rattle.records.proofs.Kept.{kept-front}
-use Rattle.records.proofs.Along.{to-its-end}
-use Rattle.records.proofs.Encoding.{length-encode}
-use Rattle.records.proofs.Theorems.{judges}
+use Rattle.stream_laws.proofs.Accepted.{passed, model-within}
+use Rattle.stream_laws.proofs.Kept.{kept-front}
+use Rattle.stream_laws.proofs.Along.{to-its-end}
+use Rattle.stream_laws.proofs.Encoding.{length-encode}
+use Rattle.stream_laws.proofs.Theorems.{judges}
 use Rattle.shots_core.specs.Table.{modelFault, settingsAnswer, shotDecoded}
 use Rattle.session.specs.declared.Session.{Session}
 use Rattle.session.specs.Shots.{Told, Taken, taken, stops, says, refuses, finds, answers, tells, shotTaken, goesOn, settingsTaken, modelTaken, kindTaken, judged, recordTaken, reads}
 use Rattle.session.specs.Text.{recordSaid}
 
 -- ---- the reader stays
 

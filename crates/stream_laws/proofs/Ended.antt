@@ -3,28 +3,26 @@ use Prim.Native.Nat.{ℕ, _+_, _%_, _^_, _≤_}
 use mathlib.Core.Path.{_≡_, refl, sym, ap, _∙_}
 use mathlib.Core.Bool.{Bool, true, false, cond}
 use mathlib.Core.List.{List, [], _∷_, _++_, foldl, foldl-append, append-assoc}
-use mathlib.Core.Logic.{⊎-elim}
 use native.Mathlib.Omega.{arith}
 use lib.Dec.{eqb}
 use lib.ListN.{length}
 use borrow.Author.Tests.{leb-false}
-use Rattle.numbers.proofs.Cases.{either}
 use Rattle.refusals.specs.declared.Refusal.the-variants.{CutRecord}
 use Rattle.refusals.specs.declared.Answer.the-variants.{Done}
 use Rattle.refusals.specs.Tests.{unless}
 use Rattle.records.specs.declared.Reader.{Reader}
-use Rattle.records.specs.Stream.{AreBytes, Rec, Sayable, AllSayable, none, more, encode, stream, lengthSaid, isComplete, leftOver}
+use Rattle.records.specs.Stream.{AreBytes, Rec, Sayable, AllSayable, more, encode, stream, lengthSaid, isComplete, leftOver}
 use Rattle.records.specs.Reading.{fresh, holding, Held, held, pushed, fed, isWhole, opened, keptOf, atEnd, toMeet}
-use Rattle.records.proofs.Encoding.{length-encode}
-use Rattle.records.proofs.Whole.{read-all, length-kept}
-use Rattle.records.proofs.Along.{push-next, whole, fed-record}
-use Rattle.records.proofs.Theorems.{ends}
+use Rattle.stream_laws.proofs.Encoding.{length-encode}
+use Rattle.stream_laws.proofs.Whole.{read-all, length-kept}
+use Rattle.stream_laws.proofs.Along.{push-next, whole, fed-record}
+use Rattle.stream_laws.proofs.Theorems.{ends}
 use Rattle.session.specs.declared.Session.{Session}
 use Rattle.session.specs.Shots.{Taken, reads, lastText, endText, textOf}
 use Rattle.session.specs.Text.{recordSaid, recordsText}
 use Rattle.session.proofs.Cases.{chosen, other}
-use Rattle.session.proofs.Recorded.{record-told}
-use Rattle.session.proofs.Written.{metText}
+use Rattle.stream_laws.proofs.Recorded.{record-told}
+use Rattle.stream_laws.proofs.Written.{metText}
 
 -- the last text after n shots, by what the reader holds
 abbrev pub endOf : ℕ → Reader → List ℕ

@@ -10,20 +10,20 @@ use lib.ListN.{length, take, drop, length-drop}
 use lib.Seq.{length-take-le}
 use borrow.Author.Tests.{leb-true, leb-false, ne-eqb}
 use Rattle.numbers.proofs.Cases.{either}
 use Rattle.records.specs.Stream.{seed, syndrome, AreBytes, Rec, rec, Sayable, AllSayable, none, more, encode, stream, lengthSaid, kindSaid, isComplete, judge, leftOver, isOfShot}
 use Rattle.refusals.specs.declared.Answer.{Answer}
 use Rattle.settings.specs.declared.Settings.{Settings}
 use Rattle.records.specs.declared.Reader.{Reader}
 use Rattle.records.specs.declared.Counts.{Counts}
 use Rattle.records.specs.Fields.{countsOf, ModelLists, modelRead, settingsOf}
 use Rattle.records.specs.Reading.{fresh, holding, isWhole, opened, keptOf, Held, held, pushed, fed, met, toMeet, verdict, atEnd}
 use Rattle.records.proofs.Bytes.{bytes-take, bytes-drop, number-bound}
-use Rattle.records.proofs.Encoding.{length-said, kind-said, payload-said, complete-is}
-use Rattle.records.proofs.Whole.{read-all}
+use Rattle.stream_laws.proofs.Encoding.{length-said, kind-said, payload-said, complete-is}
+use Rattle.stream_laws.proofs.Whole.{read-all}
 use Rattle.records.specs.Payloads.{encodeShot, SettingsFields, encodeSettings, Mechanism, encodeModel}
-use Rattle.records.proofs.Judging.{judged}
-use Rattle.records.proofs.ReadBack.{shot-seed, shot-syndrome, SettingsFit, SettingsRead, settings-read, ModelFit, ModelRead, model-read}
-use Rattle.records.proofs.Along.{met-append, met-cut, met-then, end-then, follows, to-its-end}
+use Rattle.stream_laws.proofs.Judging.{judged}
+use Rattle.stream_laws.proofs.ReadBack.{shot-seed, shot-syndrome, SettingsFit, SettingsRead, settings-read, ModelFit, ModelRead, model-read}
+use Rattle.stream_laws.proofs.Along.{met-append, met-cut, met-then, end-then, follows, to-its-end}
 
 -- ---- the encoding
 

@@ -1,0 +1,15 @@
+-- The record stream: what its reader and a session of `shots` say, against the grammar. No code: these stand apart from `records` and `session` so that an edit there is tried quickly.
+pub mod Encoding
+pub mod Holding
+pub mod Degrees
+pub mod Whole
+pub mod Along
+pub mod Judging
+pub mod Accepted
+pub mod Kept
+pub mod ReadBack
+pub mod Theorems
+pub mod Recorded
+pub mod Written
+pub mod Ended
+pub mod ShotsTheorems
