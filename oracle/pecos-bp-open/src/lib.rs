@@ -4,5 +4,5 @@
 include!(concat!(env!("OUT_DIR"), "/modules.rs"));
 
 pub use min_sum::{BpGraph, LLR_SATURATION};
-pub use relay::step::{State, iteration};
+pub use relay::step::{State, iteration, load, step, store};
 pub use relay::{RelayBp, RelayConfig, Schedule};
