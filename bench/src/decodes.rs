@@ -127,7 +127,7 @@ fn decodes(edges: usize, serial: bool, way: Way) -> Row {
     }
     let all = syndromes.len();
     match way {
-        Way::Early => println!("# {converged} of {all} converge"),
+        Way::Early => assert!(10 * converged >= 9 * all),
         Way::Never | Way::InOrder => assert_eq!(converged, 0),
     }
     let work = Work {

@@ -243,7 +243,12 @@ fn drawn(rows: &[Row]) -> Result<String, std::fmt::Error> {
         let top = TOP + NEXT_DOWN * (place / 2) as f64;
         panel(&mut out, one, rows, left, top)?;
     }
-    writeln!(out, "</svg>")?;
+    writeln!(
+        out,
+        "<text class=\"small\" x=\"{LEFT}\" y=\"{}\">Three detectors a mechanism, but 16 at 1,048,576 edges: \
+         there each update of CheckSerial sums 16 messages.</text>\n</svg>",
+        HEIGHT - 14.0
+    )?;
     Ok(out)
 }
 

@@ -61,7 +61,6 @@ pub fn run() -> Vec<(&'static str, usize)> {
             used(&mut || assert_eq!(ask(&mut lent), Ok(()))) - nothing
         });
         let most = most.into_iter().max().unwrap_or(0);
-        println!("stack/{call:30} {most:>8}");
         rows.push((call, most));
     }
     rows

@@ -2,11 +2,11 @@
 
 use std::time::{Duration, Instant};
 
-/// How long the two take together before a row is done.
-const ROOM: Duration = Duration::from_millis(1000);
+/// How long the two take together before a row is done, for this pass.
+const ROOM: Duration = Duration::from_millis(400);
 
-/// The least turns of each.
-const TURNS: usize = 7;
+/// The least turns of each in a pass.
+const TURNS: usize = 3;
 
 /// A turn, which says how long its timed part took.
 pub type Turn<'a> = &'a mut dyn FnMut() -> Duration;
@@ -43,6 +43,30 @@ impl Row {
         (self.call != "build_dense").then_some(time / each)
     }
 
+    /// The lesser times of two passes over one row.
+    pub fn or_less(mut self, other: &Self) -> Self {
+        assert_eq!((self.name(), self.edges), (other.name(), other.edges));
+        self.proved = self.proved.min(other.proved);
+        self.rust = self.rust.zip(other.rust).map(|(one, other)| one.min(other));
+        self
+    }
+
+    /// A line of words without spaces, to be read by its columns.
+    pub fn line(&self) -> String {
+        let name = self.name().replace(", ", "/").replace(' ', "_");
+        let number = |value: Option<f64>, digits: usize| {
+            value.map_or("-".to_string(), |value| format!("{value:.digits$}"))
+        };
+        format!(
+            "{name:36} {:>8} {:>10} {:>12.0} {:>12} {:>7}",
+            self.edges,
+            number(self.iterations, 1),
+            self.proved,
+            number(self.rust, 0),
+            number(self.ratio(), 2),
+        )
+    }
+
     pub fn ratio(&self) -> Option<f64> {
         self.rust.map(|rust| self.proved / rust)
     }
@@ -61,7 +85,7 @@ pub struct Work {
 }
 
 impl Work {
-    /// Times both, and prints the row.
+    /// Times both.
     pub fn beside(self, rust: Turn, proved: Turn) -> Row {
         let (mut least_rust, mut least_proved) = (Duration::MAX, Duration::MAX);
         let start = Instant::now();
@@ -88,27 +112,13 @@ impl Work {
 
     fn row(self, proved: Duration, rust: Option<Duration>) -> Row {
         let one = |turn: Duration| turn.as_nanos() as f64 / self.runs as f64;
-        let row = Row {
+        Row {
             call: self.call,
             way: self.way,
             edges: self.edges,
             iterations: self.iterations,
             proved: one(proved),
             rust: rust.map(one),
-        };
-        // Words without spaces, so that a line can be read by its columns.
-        let name = row.name().replace(", ", "/").replace(' ', "_");
-        let number = |value: Option<f64>, digits: usize| {
-            value.map_or("-".to_string(), |value| format!("{value:.digits$}"))
-        };
-        println!(
-            "{name:36} {:>8} {:>10} {:>12.0} {:>12} {:>7}",
-            row.edges,
-            number(row.iterations, 1),
-            row.proved,
-            number(row.rust, 0),
-            number(row.ratio(), 2),
-        );
-        row
+        }
     }
 }
