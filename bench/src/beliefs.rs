@@ -1,8 +1,8 @@
 //! Runs of min-sum, 20 iterations. The port tests the lent graph first and clears its work lists after, in the time that is
 //! taken; the Rust's graph was tested as it was built.
 
-use crate::models::{EDGES, sized};
-use crate::timing::row;
+use crate::models::{EDGES, bits, sized};
+use crate::timing::{Row, Work, timed};
 use oracle::exact::bp::{BpScratch, min_sum_bp_into};
 use oracle::exact::drive;
 use proved::{Beliefs, Run};
@@ -11,15 +11,15 @@ use std::hint::black_box;
 const ITERATIONS: usize = 20;
 const SCALE: f64 = 0.75;
 
-pub fn run() {
-    for edges in EDGES {
-        for serial in [false, true] {
-            beliefs(edges, serial);
-        }
+pub fn run() -> Vec<Row> {
+    let mut rows = Vec::new();
+    for serial in [false, true] {
+        rows.extend(EDGES.into_iter().map(|edges| beliefs(edges, serial)));
     }
+    rows
 }
 
-fn beliefs(edges: usize, serial: bool) {
+fn beliefs(edges: usize, serial: bool) -> Row {
     let sized = sized(edges);
     let syndromes = sized.syndromes(100);
     let graph = drive::sparse_graph(&sized.model).expect("the model builds");
@@ -27,48 +27,51 @@ fn beliefs(edges: usize, serial: bool) {
     let mut posterior = vec![0.0; sized.size.mechanisms];
     let lists = sized.lists();
     let mut ours = Beliefs::filled(sized.size, 0.0);
-    let name = if serial {
-        "beliefs, serial"
-    } else {
-        "beliefs, not serial"
-    };
-    row(
-        name,
+    let work = Work {
+        call: "beliefs",
+        way: if serial { "serial" } else { "not serial" },
         edges,
-        syndromes.len(),
+        iterations: Some(ITERATIONS as f64),
+        runs: syndromes.len(),
+    };
+    let row = work.beside(
         &mut || {
-            for syndrome in &syndromes {
-                min_sum_bp_into(
-                    black_box(&graph),
-                    syndrome,
-                    ITERATIONS,
-                    SCALE,
-                    serial,
-                    &mut scratch,
-                    black_box(&mut posterior),
-                )
-                .expect("the beliefs are finite");
-            }
+            timed(|| {
+                for syndrome in &syndromes {
+                    min_sum_bp_into(
+                        black_box(&graph),
+                        syndrome,
+                        ITERATIONS,
+                        SCALE,
+                        serial,
+                        &mut scratch,
+                        black_box(&mut posterior),
+                    )
+                    .expect("the beliefs are finite");
+                }
+            })
         },
         &mut || {
-            for syndrome in &syndromes {
-                let run = Run {
-                    syndrome,
-                    iterations: ITERATIONS,
-                    scale: SCALE,
-                    serial,
-                };
-                let answer = proved::beliefs(
-                    sized.size,
-                    black_box(&sized.priors),
-                    &lists,
-                    run,
-                    black_box(&mut ours),
-                );
-                assert_eq!(answer, Ok(()));
-            }
+            timed(|| {
+                for syndrome in &syndromes {
+                    let run = Run {
+                        syndrome,
+                        iterations: ITERATIONS,
+                        scale: SCALE,
+                        serial,
+                    };
+                    let answer = proved::beliefs(
+                        sized.size,
+                        black_box(&sized.priors),
+                        &lists,
+                        run,
+                        black_box(&mut ours),
+                    );
+                    assert_eq!(answer, Ok(()));
+                }
+            })
         },
     );
-    let bits = |list: &[f64]| list.iter().map(|x| x.to_bits()).collect::<Vec<_>>();
     assert_eq!(bits(&posterior), bits(&ours.posterior));
+    row
 }

@@ -2,22 +2,35 @@
 //! that the caller keeps and is handed the log ratios. Both test the model.
 
 use crate::models::{EDGES, sized};
-use crate::timing::row;
+use crate::timing::{Row, Work, timed};
 use oracle::exact::bp::BpGraph;
 use pecos_decoder_core::dem::{DemCheckMatrix, Matrix, SparseDem};
-use proved::{Lists, Size};
+use proved::Size;
 use std::hint::black_box;
 
-pub fn run() {
-    for edges in EDGES {
-        sparse(edges);
-    }
-    dense();
+/// Edges of the dense rows, and how large the matrix is: checks times mechanisms.
+const DENSE: [(usize, &str); 3] = [
+    (512, "14 kB matrix"),
+    (4096, "931 kB matrix"),
+    (24_000, "32 MB matrix"),
+];
+
+pub fn run() -> Vec<Row> {
+    let sparse = EDGES.into_iter().map(sparse);
+    sparse.chain(DENSE.into_iter().map(dense)).collect()
 }
 
-/// Sparse building, and the test of the built lists, which has nothing beside it in the Rust: it too is timed against the
-/// Rust's building.
-fn sparse(edges: usize) {
+fn work(call: &'static str, way: &'static str, edges: usize) -> Work {
+    Work {
+        call,
+        way,
+        edges,
+        iterations: None,
+        runs: 1,
+    }
+}
+
+fn sparse(edges: usize) -> Row {
     let sized = sized(edges);
     let mechanisms = sized.model.probabilities.iter().zip(&sized.model.detectors);
     let dem = SparseDem {
@@ -26,35 +39,32 @@ fn sparse(edges: usize) {
             .collect(),
         num_detectors: sized.model.checks,
     };
-    let mut rust = || {
-        black_box(BpGraph::from_sparse_dem(black_box(&dem)).expect("the model builds"));
-    };
     let mut lists = sized.lists();
-    let mut proved = || {
-        let answer = proved::build_sparse(
-            sized.size,
-            black_box(&sized.priors),
-            &sized.offsets,
-            &sized.detectors,
-            black_box(&mut lists),
-        );
-        assert_eq!(answer, Ok(()));
-    };
-    row("build_sparse", edges, 1, &mut rust, &mut proved);
-    let built = sized.lists();
-    let mut test = || {
-        let answer = proved::check_graph(sized.size, black_box(&sized.priors), black_box(&built));
-        assert_eq!(answer, Ok(()));
-    };
-    row("check_graph / Rust builds", edges, 1, &mut rust, &mut test);
+    work("build_sparse", "", edges).beside(
+        &mut || {
+            timed(|| {
+                black_box(BpGraph::from_sparse_dem(black_box(&dem)).expect("the model builds"));
+            })
+        },
+        &mut || {
+            timed(|| {
+                let answer = proved::build_sparse(
+                    sized.size,
+                    black_box(&sized.priors),
+                    &sized.offsets,
+                    &sized.detectors,
+                    black_box(&mut lists),
+                );
+                assert_eq!(answer, Ok(()));
+            })
+        },
+    )
 }
 
-fn dense() {
-    let sized = sized(6000);
+fn dense((edges, way): (usize, &'static str)) -> Row {
+    let sized = sized(edges);
     let Size {
-        checks,
-        mechanisms,
-        edges,
+        checks, mechanisms, ..
     } = sized.size;
     let mut matrix = vec![0; checks * mechanisms];
     for (mechanism, detectors) in sized.model.detectors.iter().enumerate() {
@@ -67,23 +77,24 @@ fn dense() {
         error_priors: sized.model.probabilities.clone(),
         num_detectors: checks,
     };
-    let mut lists = Lists::filled(sized.size, 0);
-    row(
-        "build_dense, 2 MB",
-        edges,
-        1,
+    let mut lists = sized.lists();
+    work("build_dense", way, edges).beside(
         &mut || {
-            black_box(BpGraph::from_dcm(black_box(&dcm)));
+            timed(|| {
+                black_box(BpGraph::from_dcm(black_box(&dcm)));
+            })
         },
         &mut || {
-            let answer = proved::build_dense(
-                checks,
-                mechanisms,
-                black_box(&sized.priors),
-                &matrix,
-                black_box(&mut lists),
-            );
-            assert_eq!(answer, Ok(()));
+            timed(|| {
+                let answer = proved::build_dense(
+                    checks,
+                    mechanisms,
+                    black_box(&sized.priors),
+                    &matrix,
+                    black_box(&mut lists),
+                );
+                assert_eq!(answer, Ok(()));
+            })
         },
-    );
+    )
 }

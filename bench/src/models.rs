@@ -5,8 +5,8 @@ use oracle::model::Model;
 use oracle::splitmix::SplitMix64;
 use proved::{Lists, Size};
 
-/// Edges of the rows: small, that of a usual circuit, and the limit.
-pub const EDGES: [usize; 3] = [512, 24_000, 1_048_576];
+/// Edges of the rows, up to the limit; 24,000 is that of a usual circuit.
+pub const EDGES: [usize; 5] = [512, 4096, 24_000, 131_072, 1_048_576];
 
 /// A model in both shapes: as the Rust takes it, and flat.
 pub struct Sized {
@@ -35,35 +35,52 @@ pub fn sized(edges: usize) -> Sized {
         near.sort_unstable();
         detectors.push(near);
     }
-    let model = Model {
+    flat(Model {
         checks,
         probabilities: (0..mechanisms)
             .map(|_| 1e-3 + 0.1 * random.unit())
             .collect(),
         detectors,
-    };
+    })
+}
+
+/// No check and no mechanism.
+pub fn nothing() -> Sized {
+    flat(Model {
+        checks: 0,
+        probabilities: vec![],
+        detectors: vec![],
+    })
+}
+
+fn flat(model: Model) -> Sized {
     let mut offsets = vec![0];
     for list in &model.detectors {
         offsets.push(offsets[offsets.len() - 1] + list.len() as u32);
     }
+    let detectors = model.detectors.concat();
     Sized {
         size: Size {
-            checks,
-            mechanisms,
-            edges,
+            checks: model.checks,
+            mechanisms: model.probabilities.len(),
+            edges: detectors.len(),
         },
         priors: drive::priors(&model.probabilities),
         offsets,
-        detectors: model.detectors.concat(),
+        detectors,
         model,
     }
 }
 
 impl Sized {
-    /// What a turn runs, one after the other: in each one mechanism in `rarity` happened, more or less. A processor learns the branches of
-    /// one small run by heart, and a lab's shots differ; so a turn has several where they are small.
+    /// How many runs a turn has, one after the other. A processor learns the branches of one small run by heart, and a lab's shots
+    /// differ; so a turn has several where they are small.
+    pub fn runs(&self) -> usize {
+        (100_000 / self.size.edges.max(1)).clamp(1, 64)
+    }
+
+    /// The syndromes of a turn: in each one mechanism in `rarity` happened, more or less.
     pub fn syndromes(&self, rarity: usize) -> Vec<Vec<u8>> {
-        let count = (100_000 / self.size.edges).clamp(1, 64) as u64;
         let syndrome = |seed: u64| {
             let mut random = SplitMix64::new(seed);
             let happened: Vec<bool> = (0..self.size.mechanisms)
@@ -71,7 +88,19 @@ impl Sized {
                 .collect();
             self.model.syndrome_of(&happened)
         };
-        (3..3 + count).map(syndrome).collect()
+        (3..3 + self.runs() as u64).map(syndrome).collect()
+    }
+
+    /// So many syndromes of checks drawn at random: nothing makes them, or nothing that a few iterations find.
+    pub fn drawn(&self, count: usize) -> Vec<Vec<u8>> {
+        let mut random = SplitMix64::new(11);
+        (0..count)
+            .map(|_| {
+                (0..self.size.checks)
+                    .map(|_| random.below(2) as u8)
+                    .collect()
+            })
+            .collect()
     }
 
     /// The graph's lists.
@@ -87,4 +116,58 @@ impl Sized {
         assert_eq!(answer, Ok(()));
         lists
     }
+
+    pub fn index_order(&self) -> Vec<u32> {
+        (0..self.size.checks as u32).collect()
+    }
+
+    /// The checks in an order that was drawn.
+    pub fn shuffled_order(&self) -> Vec<u32> {
+        let mut random = SplitMix64::new(13);
+        let mut order = self.index_order();
+        for place in (1..order.len()).rev() {
+            order.swap(place, random.below(place + 1));
+        }
+        order
+    }
+
+    /// An order that every decode takes, and not the index order: neighbours that share no mechanism are exchanged.
+    pub fn kept_order(&self, lists: &Lists) -> Vec<u32> {
+        let mut order = self.index_order();
+        for _ in 0..4 {
+            for at in 1..order.len() {
+                if !share(lists, order[at - 1], order[at]) {
+                    order.swap(at - 1, at);
+                }
+            }
+        }
+        order
+    }
+
+    /// An order that CheckSerial refuses at the last check: the last two exchanged.
+    pub fn late_order(&self, lists: &Lists) -> Vec<u32> {
+        let mut order = self.index_order();
+        let last = order.len() - 1;
+        let other = (0..last)
+            .rev()
+            .find(|&other| share(lists, order[other], order[last]))
+            .expect("the last check shares a mechanism");
+        order[other..].rotate_left(1);
+        order
+    }
+}
+
+fn share(lists: &Lists, one: u32, other: u32) -> bool {
+    let part = |check: u32| {
+        let at = check as usize;
+        &lists.check_var[lists.check_offset[at] as usize..lists.check_offset[at + 1] as usize]
+    };
+    // Both rise.
+    part(one)
+        .iter()
+        .any(|mechanism| part(other).binary_search(mechanism).is_ok())
+}
+
+pub fn bits(list: &[f64]) -> Vec<u64> {
+    list.iter().map(|value| value.to_bits()).collect()
 }

@@ -156,12 +156,17 @@ fn write(tally: &mut Tally, name: &str, lines: impl Iterator<Item = String>) -> 
     let text = format!("{:x}\n{}\n", lines.len(), lines.join("\n"));
     let path = path(name);
     let before = std::fs::read_to_string(&path).ok();
-    let (holds, seen) = match before {
-        None => (true, "new"),
-        Some(before) if before == text => (true, "as it stood"),
-        Some(_) => (false, "CHANGED against what stood there"),
+    // What stands there already is not written again: files that are younger than the archive have it made anew.
+    let (holds, seen, written) = match before {
+        Some(before) if before == text => (true, "as it stood", Ok(())),
+        None => (true, "new", std::fs::write(&path, &text)),
+        Some(_) => (
+            false,
+            "CHANGED against what stood there",
+            std::fs::write(&path, &text),
+        ),
     };
-    if let Err(error) = std::fs::write(&path, &text) {
+    if let Err(error) = written {
         tally.check(name, false, &format!("{}: {error}", path.display()));
     } else {
         let seen = format!("{} cases, {} bytes, {seen}", lines.len(), text.len());

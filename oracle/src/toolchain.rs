@@ -13,7 +13,13 @@ pub fn print() {
     println!("toolchain processor: {}", processor());
 }
 
-fn processor() -> String {
+/// The compiler's own line about itself.
+pub fn rustc() -> &'static str {
+    env!("ORACLE_RUSTC").split('|').next().unwrap_or_default()
+}
+
+/// The architecture, and the processor as the system names it.
+pub fn processor() -> String {
     let architecture = std::env::consts::ARCH;
     let text = std::fs::read_to_string("/proc/cpuinfo").unwrap_or_default();
     let value = |name: &str| {

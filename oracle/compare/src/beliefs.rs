@@ -5,11 +5,11 @@
 use crate::counts::Counts;
 use crate::damage::{damage_lists, nudge_length};
 use crate::given::{Given, model_of};
+use crate::rounds::{Part, Rate};
 use crate::table::wanted_lists;
 use oracle::answers::Refusal;
 use oracle::belief_cases::{BeliefCase, SCALES, nan_sign_decides, random_syndrome};
 use oracle::counted;
-use oracle::counted::bp::count::{NanSign, read_nan_sign};
 use oracle::exact;
 use oracle::graph_cases::GraphCase;
 use oracle::model::random_model;
@@ -18,26 +18,27 @@ use proved::{Answer, Beliefs, Run, Size};
 
 const MOST_ITERATIONS: usize = 65_535;
 
-pub fn run(count: u64, seed: u64) -> Counts {
-    read_nan_sign(NanSign::Positive);
-    let mut random = SplitMix64::new(seed);
-    let mut all = Counts::default();
-    let mut apart = 0;
-    all.add("small runs", small(count, &mut random, &mut apart));
-    all.add("large runs", large(&mut random, &mut apart));
-    println!(
-        "a NaN's sign decided {apart} of these runs: there the Rust answers otherwise on this processor"
-    );
-    let mut made = Counts::default();
-    apart = 0;
-    compare(&nan_sign_decides(), &mut random, &mut made, &mut apart);
-    made.check(apart == 1, || {
-        "the Rust reads a NaN's sign as positive here".into()
-    });
-    all.add("the case made for a NaN's sign", made);
-    all.add("damaged", damaged(count / 4, &mut random));
-    all
-}
+/// In these the Rust answers otherwise on this processor.
+const DECIDED: &str = "beliefs, runs that a NaN's sign decides";
+
+pub const PARTS: &[Part] = &[
+    Part {
+        rate: Rate::Each(1),
+        case: small,
+    },
+    Part {
+        rate: Rate::Every(3000),
+        case: large,
+    },
+    Part {
+        rate: Rate::First(1),
+        case: made,
+    },
+    Part {
+        rate: Rate::Every(4),
+        case: damaged,
+    },
+];
 
 fn bits(list: &[f64]) -> Vec<u64> {
     list.iter().map(|value| value.to_bits()).collect()
@@ -57,8 +58,13 @@ fn told(answer: Result<Vec<f64>, Refusal>) -> Told {
     }
 }
 
-/// One run, both ways.
-fn compare(case: &BeliefCase, random: &mut SplitMix64, counts: &mut Counts, apart: &mut u64) {
+/// One run, both ways. Tells whether a NaN's sign decides it.
+fn compare(
+    name: &'static str,
+    case: &BeliefCase,
+    random: &mut SplitMix64,
+    counts: &mut Counts,
+) -> bool {
     let mut given = Given::of(&GraphCase::sparse(case.model.clone()), random);
     let built = given.build_sparse();
     let mut lists = Beliefs::filled(given.size, random.pick(&[1.5, -0.0, f64::NAN]));
@@ -70,19 +76,20 @@ fn compare(case: &BeliefCase, random: &mut SplitMix64, counts: &mut Counts, apar
     };
     let answer = proved::beliefs(given.size, &given.priors, &given.lists, run, &mut lists);
     let wanted = told(counted::drive::beliefs(case));
-    if told(exact::drive::beliefs(case)) != wanted {
-        *apart += 1;
-    }
+    let decided = told(exact::drive::beliefs(case)) != wanted;
     let same = match (answer, &wanted) {
         (Ok(()), Ok(posterior)) => bits(&lists.posterior) == *posterior,
         (Err(refusal), Err(other)) => refusal == *other && is_zero(&lists.posterior),
         _ => false,
     };
     let cleared = is_zero(&lists.ewa_posterior) && is_zero(&lists.c_to_v) && is_zero(&lists.v_to_c);
-    counts.wanted(wanted.as_ref().map(|_| ()).map_err(|refusal| *refusal));
-    counts.check(built == Ok(()) && same && cleared, || {
-        format!("{answer:?}, {:?} for {wanted:?}: {case:?}", lists.posterior)
-    });
+    counts.check(
+        name,
+        wanted.as_ref().map(|_| ()).map_err(|refusal| *refusal),
+        built == Ok(()) && same && cleared,
+        || format!("{answer:?}, {:?} for {wanted:?}: {case:?}", lists.posterior),
+    );
+    decided
 }
 
 fn any_scale(random: &mut SplitMix64) -> f64 {
@@ -93,55 +100,59 @@ fn any_scale(random: &mut SplitMix64) -> f64 {
     }
 }
 
-fn small(count: u64, random: &mut SplitMix64, apart: &mut u64) -> Counts {
-    let mut counts = Counts::default();
-    for _ in 0..count {
-        let most = random.pick(&[2, 4, 6, 9, 14, 24]);
-        let model = random_model(random, most, most * 3 / 2);
-        let case = BeliefCase {
-            syndrome: random_syndrome(random, model.checks),
-            model,
-            iterations: if random.once_in(200) {
-                random.between(21, 600)
-            } else {
-                random.below(21)
-            },
-            scale: any_scale(random),
-            serial: random.once_in(2),
-        };
-        compare(&case, random, &mut counts, apart);
-    }
-    counts
+fn small(_: u64, random: &mut SplitMix64, counts: &mut Counts) {
+    let most = random.pick(&[2, 4, 6, 9, 14, 24]);
+    let model = random_model(random, most, most * 3 / 2);
+    let case = BeliefCase {
+        syndrome: random_syndrome(random, model.checks),
+        model,
+        iterations: if random.once_in(200) {
+            random.between(21, 600)
+        } else {
+            random.below(21)
+        },
+        scale: any_scale(random),
+        serial: random.once_in(2),
+    };
+    let decided = compare("beliefs, small", &case, random, counts);
+    counts.note(DECIDED, u64::from(decided));
 }
 
-fn large(random: &mut SplitMix64, apart: &mut u64) -> Counts {
-    let mut counts = Counts::default();
-    for (checks, mechanisms, edges, iterations) in [
-        (65_536, 65_536, 1_048_576, 3),
-        (1024, 65_536, 1_048_576, 7),
-        (65_536, 16_384, 131_072, 12),
-        (4000, 8000, 24_000, 20),
-        (300, 900, 2700, 400),
-        (2, 65_536, 131_072, 6),
-    ] {
-        for serial in [false, true] {
-            let size = Size {
-                checks,
-                mechanisms,
-                edges,
-            };
-            let model = model_of(size, random);
-            let case = BeliefCase {
-                syndrome: random_syndrome(random, checks),
-                model,
-                iterations,
-                scale: 0.3 + random.unit(),
-                serial,
-            };
-            compare(&case, random, &mut counts, apart);
-        }
-    }
-    counts
+/// Checks, mechanisms, edges, iterations.
+const LARGE: [(usize, usize, usize, usize); 6] = [
+    (65_536, 65_536, 1_048_576, 3),
+    (1024, 65_536, 1_048_576, 7),
+    (65_536, 16_384, 131_072, 12),
+    (4000, 8000, 24_000, 20),
+    (300, 900, 2700, 400),
+    (2, 65_536, 131_072, 6),
+];
+
+fn large(case: u64, random: &mut SplitMix64, counts: &mut Counts) {
+    let (checks, mechanisms, edges, iterations) = LARGE[case as usize / 2 % LARGE.len()];
+    let size = Size {
+        checks,
+        mechanisms,
+        edges,
+    };
+    let case = BeliefCase {
+        model: model_of(size, random),
+        syndrome: random_syndrome(random, checks),
+        iterations,
+        scale: 0.3 + random.unit(),
+        serial: !case.is_multiple_of(2),
+    };
+    let decided = compare("beliefs, large", &case, random, counts);
+    counts.note(DECIDED, u64::from(decided));
+}
+
+/// The case made for a NaN's sign: there it decides.
+fn made(_: u64, random: &mut SplitMix64, counts: &mut Counts) {
+    let name = "beliefs, the case made for a NaN's sign";
+    let decided = compare(name, &nan_sign_decides(), random, counts);
+    counts.check(name, Ok(()), decided, || {
+        "the Rust reads a NaN's sign as positive here".into()
+    });
 }
 
 /// What document 01's table says before the run: the tests of the graph, then 12, 20 and 22.
@@ -168,47 +179,42 @@ fn wanted_before(given: &Given, run: Run, lists: &Beliefs) -> Answer {
     Ok(())
 }
 
-fn damaged(count: u64, random: &mut SplitMix64) -> Counts {
-    let mut counts = Counts::default();
-    for _ in 0..count {
-        let most = random.pick(&[1, 2, 3, 8]);
-        let model = random_model(random, most, most);
-        let mut syndrome = random_syndrome(random, model.checks);
-        let mut given = Given::of(&GraphCase::sparse(model), random);
-        let built = given.build_sparse();
-        let mut lists = Beliefs::filled(given.size, 1.5);
-        let mut iterations = random.below(4);
-        for _ in 0..random.between(1, 2) {
-            match random.below(6) {
-                0 => nudge_length(random, &mut syndrome, 1),
-                1 => iterations = random.pick(&[MOST_ITERATIONS + 1, 1 << 32, usize::MAX]),
-                2 | 3 => {
-                    let which = random.below(4);
-                    nudge_length(random, lists.each()[which], 2.5);
-                }
-                _ => damage_lists(random, &mut given),
+fn damaged(_: u64, random: &mut SplitMix64, counts: &mut Counts) {
+    let most = random.pick(&[1, 2, 3, 8]);
+    let model = random_model(random, most, most);
+    let mut syndrome = random_syndrome(random, model.checks);
+    let mut given = Given::of(&GraphCase::sparse(model), random);
+    let built = given.build_sparse();
+    let mut lists = Beliefs::filled(given.size, 1.5);
+    let mut iterations = random.below(4);
+    for _ in 0..random.between(1, 2) {
+        match random.below(6) {
+            0 => nudge_length(random, &mut syndrome, 1),
+            1 => iterations = random.pick(&[MOST_ITERATIONS + 1, 1 << 32, usize::MAX]),
+            2 | 3 => {
+                let which = random.below(4);
+                nudge_length(random, lists.each()[which], 2.5);
             }
+            _ => damage_lists(random, &mut given),
         }
-        let run = Run {
-            syndrome: &syndrome,
-            iterations,
-            scale: 0.5,
-            serial: random.once_in(2),
-        };
-        let mut before = lists.clone();
-        let wanted = wanted_before(&given, run, &lists);
-        let answer = proved::beliefs(given.size, &given.priors, &given.lists, run, &mut lists);
-        let kept = lists
-            .each()
-            .iter()
-            .zip(before.each())
-            .all(|(now, before)| bits(now) == bits(before));
-        counts.wanted(wanted);
-        // Past the tests these runs stay finite: that they are right is what the others show.
-        let good = answer == wanted && (kept || wanted == Ok(()));
-        counts.check(good && built == Ok(()), || {
-            format!("{answer:?} for {wanted:?}: {given:?}, {run:?}, {lists:?}")
-        });
     }
-    counts
+    let run = Run {
+        syndrome: &syndrome,
+        iterations,
+        scale: 0.5,
+        serial: random.once_in(2),
+    };
+    let mut before = lists.clone();
+    let wanted = wanted_before(&given, run, &lists);
+    let answer = proved::beliefs(given.size, &given.priors, &given.lists, run, &mut lists);
+    let kept = lists
+        .each()
+        .iter()
+        .zip(before.each())
+        .all(|(now, before)| bits(now) == bits(before));
+    // Past the tests these runs stay finite: that they are right is what the others show.
+    let good = answer == wanted && (kept || wanted == Ok(()));
+    counts.check("beliefs, damaged", wanted, good && built == Ok(()), || {
+        format!("{answer:?} for {wanted:?}: {given:?}, {run:?}, {lists:?}")
+    });
 }

@@ -1,45 +1,115 @@
 //! How many comparisons held.
 
+use proved::Answer;
 use std::collections::BTreeMap;
 
+/// As much of a failed comparison is told as this many characters hold, unless its round is run alone.
+const TOLD: usize = 2000;
+
 #[derive(Default)]
-pub struct Counts {
-    pub passed: u64,
-    pub failed: u64,
+struct Tally {
+    passed: u64,
+    failed: u64,
     /// How often each number of refusal was wanted; 0 for none.
-    numbers: BTreeMap<u64, u64>,
+    wanted: BTreeMap<u64, u64>,
+}
+
+/// The comparisons of one kind, under a name each, in the order in which they first came.
+pub struct Counts {
+    tallies: Vec<(&'static str, Tally)>,
+    notes: Vec<(&'static str, u64)>,
+    /// How to do the round again that is under way.
+    again: String,
+    tells_all: bool,
 }
 
 impl Counts {
-    /// One comparison. What fails is told.
-    pub fn check(&mut self, holds: bool, told: impl FnOnce() -> String) {
+    pub fn new(tells_all: bool) -> Self {
+        Self {
+            tallies: Vec::new(),
+            notes: Vec::new(),
+            again: String::new(),
+            tells_all,
+        }
+    }
+
+    pub fn start_round(&mut self, again: String) {
+        self.again = again;
+    }
+
+    /// One comparison, with the answer that was wanted. What fails is told.
+    pub fn check(
+        &mut self,
+        name: &'static str,
+        wanted: Answer,
+        holds: bool,
+        told: impl FnOnce() -> String,
+    ) {
+        let tally = entry(&mut self.tallies, name);
+        let number = wanted.err().map_or(0, |(number, _)| number);
+        *tally.wanted.entry(number).or_insert(0) += 1;
         if holds {
-            self.passed += 1;
-        } else {
-            self.failed += 1;
-            println!("FAIL {}", told());
+            tally.passed += 1;
+            return;
         }
+        tally.failed += 1;
+        let mut text = told();
+        if !self.tells_all
+            && let Some((end, _)) = text.char_indices().nth(TOLD)
+        {
+            text.truncate(end);
+            text += " .. (the rest where the round is run alone)";
+        }
+        println!("FAIL {name}: {text}\n  again: {}", self.again);
     }
 
-    /// Note the answer that was wanted of a comparison.
-    pub fn wanted(&mut self, answer: proved::Answer) {
-        let number = answer.err().map_or(0, |(number, _)| number);
-        *self.numbers.entry(number).or_insert(0) += 1;
+    /// Counts something that is neither right nor wrong.
+    pub fn note(&mut self, name: &'static str, times: u64) {
+        *entry(&mut self.notes, name) += times;
     }
 
-    /// Prints a line for a part of the comparisons, and takes it in.
-    pub fn add(&mut self, name: &str, part: Counts) {
-        let mut line = format!("{name}: {} passed, {} failed", part.passed, part.failed);
-        if !part.numbers.is_empty() {
-            let words = part
-                .numbers
-                .iter()
-                .map(|(n, count)| format!("{n}: {count}"));
-            line += "; by number of refusal (0: none): ";
-            line += &words.collect::<Vec<_>>().join(", ");
-        }
-        println!("{line}");
-        self.passed += part.passed;
-        self.failed += part.failed;
+    pub fn passed(&self) -> u64 {
+        self.tallies.iter().map(|(_, tally)| tally.passed).sum()
     }
+
+    pub fn failed(&self) -> u64 {
+        self.tallies.iter().map(|(_, tally)| tally.failed).sum()
+    }
+
+    /// A line for each name.
+    pub fn print(&self) {
+        for (name, tally) in &self.tallies {
+            let Tally { passed, failed, .. } = tally;
+            println!("{name}: {passed} passed, {failed} failed{}", tally.split());
+        }
+        for (name, times) in &self.notes {
+            println!("{name}: {times}");
+        }
+    }
+}
+
+impl Tally {
+    /// How many were to be taken and how many to be refused, where any was refused.
+    fn split(&self) -> String {
+        let refused: Vec<String> = self
+            .wanted
+            .iter()
+            .filter(|(number, _)| **number != 0)
+            .map(|(number, count)| format!("{count} with {number}"))
+            .collect();
+        if refused.is_empty() {
+            return String::new();
+        }
+        let taken = self.wanted.get(&0).unwrap_or(&0);
+        format!(" ({taken} taken; refused: {})", refused.join(", "))
+    }
+}
+
+fn entry<'a, T: Default>(list: &'a mut Vec<(&'static str, T)>, name: &'static str) -> &'a mut T {
+    let place = list.iter().position(|(other, _)| *other == name);
+    let place = place.unwrap_or_else(|| {
+        list.push((name, T::default()));
+        list.len() - 1
+    });
+    &mut list[place].1
 }

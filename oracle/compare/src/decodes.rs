@@ -4,10 +4,12 @@
 use crate::counts::Counts;
 use crate::damage::{damage_lists, nudge_length};
 use crate::given::{Given, model_of};
+use crate::rounds::{Part, Rate};
 use crate::steps::{is_zero, names_each_once, random_order};
 use crate::table::wanted_lists;
 use oracle::answers::{Decoded, Refusal};
 use oracle::decode_cases::{DecodeCase, Settings as CaseSettings, Source, random_case};
+use oracle::exact::bp::RelayConfig;
 use oracle::exact::drive;
 use oracle::graph_cases::GraphCase;
 use oracle::splitmix::SplitMix64;
@@ -17,25 +19,34 @@ use std::collections::BTreeSet;
 const MOST: usize = 65_535;
 const ORDERS: usize = 3;
 
-pub fn run(count: u64, seed: u64) -> Counts {
-    let mut random = SplitMix64::new(seed);
-    let mut all = Counts::default();
-    let (mut decodes, mut orders) = (Counts::default(), Counts::default());
-    let step = (count / 10).max(1);
-    for round in 0..count {
-        if round > 0 && round % step == 0 {
-            eprintln!("decodes: {round} of {count}");
-        }
-        let case = random_case(&mut random, round as usize);
-        compare(&case, &mut random, &mut decodes, &mut orders);
-    }
-    for case in large(&mut random) {
-        compare(&case, &mut random, &mut decodes, &mut orders);
-    }
-    all.add("decodes", decodes);
-    all.add("orders of them", orders);
-    all.add("damaged", damaged(count / 4, &mut random));
-    all
+pub const PARTS: &[Part] = &[
+    Part {
+        rate: Rate::Each(1),
+        case: small,
+    },
+    Part {
+        rate: Rate::Every(4000),
+        case: large,
+    },
+    Part {
+        rate: Rate::Every(4),
+        case: damaged,
+    },
+    Part {
+        rate: Rate::First(1),
+        case: published,
+    },
+];
+
+fn small(case: u64, random: &mut SplitMix64, counts: &mut Counts) {
+    let case = random_case(random, case as usize);
+    compare(
+        "decodes, small",
+        "orders of small decodes",
+        &case,
+        random,
+        counts,
+    );
 }
 
 fn settings_of(case: &CaseSettings) -> Settings {
@@ -113,8 +124,24 @@ fn wanted_left(size: Size, legs: usize, before: &Decode, outcome: Option<&Decode
     left
 }
 
+/// Whether the record of each of the legs reads as the lists have it.
+fn legs_read(left: &Decode, legs: usize) -> bool {
+    (0..legs).all(|leg| {
+        let (state, iterations, weight) = proved::leg_record(left, leg);
+        state == u64::from(left.leg_state[leg])
+            && iterations == u64::from(left.leg_steps[leg])
+            && weight.to_bits() == left.leg_weight[leg].to_bits()
+    })
+}
+
 /// One decode both ways, and then in other orders.
-fn compare(case: &DecodeCase, random: &mut SplitMix64, decodes: &mut Counts, orders: &mut Counts) {
+fn compare(
+    name: &'static str,
+    orders: &'static str,
+    case: &DecodeCase,
+    random: &mut SplitMix64,
+    counts: &mut Counts,
+) {
     let mut given = Given::of(&GraphCase::sparse(case.model.clone()), random);
     let built = given.build_sparse();
     let settings = settings_of(&case.settings);
@@ -143,9 +170,10 @@ fn compare(case: &DecodeCase, random: &mut SplitMix64, decodes: &mut Counts, ord
     let wanted = told(&rust);
     let wanted_bits = wanted_left(given.size, legs, &before, rust.as_ref().ok()).bits();
     let (answer, left) = run(shot);
-    decodes.wanted(wanted);
-    decodes.check(
-        built == Ok(()) && answer == wanted && left.bits() == wanted_bits,
+    counts.check(
+        name,
+        wanted,
+        built == Ok(()) && answer == wanted && left.bits() == wanted_bits && legs_read(&left, legs),
         || format!("{answer:?}, {left:?} for {rust:?}: {case:?}"),
     );
     for _ in 0..ORDERS {
@@ -155,12 +183,11 @@ fn compare(case: &DecodeCase, random: &mut SplitMix64, decodes: &mut Counts, ord
             order: Some(&order),
             ..shot
         });
-        orders.wanted(refused);
         let good = match refused {
             Ok(()) => in_order == wanted && left.bits() == wanted_bits,
             Err(_) => in_order == refused && left.bits() == before.bits(),
         };
-        orders.check(good, || {
+        counts.check(orders, refused, good, || {
             format!("{in_order:?} for {refused:?}, {wanted:?}: {order:?}, {case:?}")
         });
     }
@@ -224,53 +251,78 @@ fn wanted_of_order(given: &Given, serial: bool, order: &[u32]) -> Answer {
     Ok(())
 }
 
-fn large(random: &mut SplitMix64) -> Vec<DecodeCase> {
-    let mut cases = Vec::new();
-    for (checks, mechanisms, edges, pre_iterations, num_legs) in [
-        (65_536, 65_536, 262_144, 4, 1),
-        (1024, 4096, 12_288, 10, 3),
-        (1025, 2048, 6144, 10, 2),
-        (300, 900, 2700, 30, 16),
-    ] {
-        for serial in [false, true] {
-            let size = Size {
-                checks,
-                mechanisms,
-                edges,
-            };
-            let mut model = model_of(size, random);
-            for probability in &mut model.probabilities {
-                *probability = 0.01 + 0.1 * random.unit();
-            }
-            let bits: Vec<bool> = (0..mechanisms).map(|_| random.once_in(200)).collect();
-            cases.push(DecodeCase {
-                syndrome: model.syndrome_of(&bits),
-                model,
-                settings: CaseSettings {
-                    serial,
-                    pre_iterations,
-                    num_legs,
-                    leg_iterations: 5,
-                    stop: 2,
-                    ..CaseSettings::default_point()
-                },
-                seed: random.draw(),
-            });
-        }
-    }
-    cases
-}
+/// Checks, mechanisms, edges, iterations of leg zero, relayed legs.
+const LARGE: [(usize, usize, usize, usize, usize); 4] = [
+    (65_536, 65_536, 262_144, 4, 1),
+    (1024, 4096, 12_288, 10, 3),
+    (1025, 2048, 6144, 10, 2),
+    (300, 900, 2700, 30, 16),
+];
 
-/// What document 01's table says before the legs: 1, 2, 4, 7, 10 to 24.
-fn wanted_before(given: &Given, settings: Settings, shot: Shot, left: &Decode) -> Answer {
-    wanted_lists(given)?;
-    let Size {
+fn large(case: u64, random: &mut SplitMix64, counts: &mut Counts) {
+    let (checks, mechanisms, edges, pre_iterations, num_legs) =
+        LARGE[case as usize / 2 % LARGE.len()];
+    let size = Size {
         checks,
         mechanisms,
         edges,
-    } = given.size;
+    };
+    let mut model = model_of(size, random);
+    for probability in &mut model.probabilities {
+        *probability = 0.01 + 0.1 * random.unit();
+    }
+    let bits: Vec<bool> = (0..mechanisms).map(|_| random.once_in(200)).collect();
+    let case = DecodeCase {
+        syndrome: model.syndrome_of(&bits),
+        model,
+        settings: CaseSettings {
+            serial: !case.is_multiple_of(2),
+            pre_iterations,
+            num_legs,
+            leg_iterations: 5,
+            stop: 2,
+            ..CaseSettings::default_point()
+        },
+        seed: random.draw(),
+    };
+    compare(
+        "decodes, large",
+        "orders of large decodes",
+        &case,
+        random,
+        counts,
+    );
+}
+
+/// The published operating point, which the Rust's settings have by default.
+fn published(_: u64, _: &mut SplitMix64, counts: &mut Counts) {
+    let ours = proved::published();
+    let theirs = format!("{:?}", RelayConfig::default());
+    let case = CaseSettings {
+        serial: ours.serial,
+        alpha: ours.alpha,
+        gamma0: ours.gamma0,
+        pre_iterations: ours.pre_iterations,
+        num_legs: ours.num_legs,
+        leg_iterations: ours.leg_iterations,
+        low: ours.low,
+        high: ours.high,
+        stop: ours.stop,
+        source: Source::Seeded,
+    };
+    let same = format!("{:?}", drive::config(&case, None)) == theirs;
+    counts.check("decodes, the published point", Ok(()), same, || {
+        format!("{ours:?} for {theirs}")
+    });
+}
+
+fn test(good: bool, number: u64) -> Answer {
+    if good { Ok(()) } else { Err((number, 0)) }
+}
+
+/// What document 01's table says of settings over as many mechanisms: 10 to 19.
+fn wanted_settings(settings: Settings, gammas: &[f64], mechanisms: usize) -> Answer {
     let finite = |value: f64| value.is_finite();
-    let test = |good: bool, number: u64| if good { Ok(()) } else { Err((number, 0)) };
     test(finite(settings.alpha) && settings.alpha > 0.0, 10)?;
     test(finite(settings.gamma0), 11)?;
     test((1..=MOST).contains(&settings.pre_iterations), 12)?;
@@ -286,18 +338,32 @@ fn wanted_before(given: &Given, settings: Settings, shot: Shot, left: &Decode) -
         15,
     )?;
     test(settings.stop > 0, 16)?;
-    if let Some(sets) = settings.sets {
-        test(legs == 0 || sets > 0, 17)?;
-        let long = sets as u128 * mechanisms as u128;
-        test(sets <= MOST && long == shot.gammas.len() as u128, 18)?;
-        if let Some(place) = shot.gammas.iter().position(|gamma| !finite(*gamma)) {
-            return Err((19, place as u64));
-        }
+    let Some(sets) = settings.sets else {
+        return Ok(());
+    };
+    test(legs == 0 || sets > 0, 17)?;
+    let long = sets as u128 * mechanisms as u128;
+    test(sets <= MOST && long == gammas.len() as u128, 18)?;
+    match gammas.iter().position(|gamma| !finite(*gamma)) {
+        Some(place) => Err((19, place as u64)),
+        None => Ok(()),
     }
+}
+
+/// What it says before the legs: 1, 2, 4, 7, 10 to 24.
+fn wanted_before(given: &Given, settings: Settings, shot: Shot, left: &Decode) -> Answer {
+    wanted_lists(given)?;
+    let Size {
+        checks,
+        mechanisms,
+        edges,
+    } = given.size;
+    wanted_settings(settings, shot.gammas, mechanisms)?;
     test(shot.syndrome.len() == checks, 20)?;
     if let Some(check) = shot.syndrome.iter().position(|&byte| byte > 1) {
         return Err((21, check as u64));
     }
+    let legs = settings.num_legs;
     let rows = [
         left.leg_state.len(),
         left.leg_steps.len(),
@@ -339,82 +405,83 @@ fn damage_settings(random: &mut SplitMix64, settings: &mut Settings) {
     }
 }
 
-fn damaged(count: u64, random: &mut SplitMix64) -> Counts {
-    let mut counts = Counts::default();
-    for _ in 0..count {
-        let round = random.below(2);
-        let mut case = random_case(random, round);
-        let mut given = Given::of(&GraphCase::sparse(case.model.clone()), random);
-        let built = given.build_sparse();
-        let mut settings = settings_of(&case.settings);
-        settings.num_legs = settings.num_legs.min(2);
-        let mut gammas = flat_of(&case.settings);
-        let mut order = some_order(&given, random);
-        let mut left = Decode::filled(given.size, settings.num_legs + 1, 9);
-        for _ in 0..random.between(1, 2) {
-            match random.below(8) {
-                0 => nudge_length(random, &mut case.syndrome, 1),
-                1 if !case.syndrome.is_empty() => {
-                    let at = random.below(case.syndrome.len());
-                    case.syndrome[at] = random.pick(&[2, 3, 255]);
+fn damaged(_: u64, random: &mut SplitMix64, counts: &mut Counts) {
+    let round = random.below(2);
+    let mut case = random_case(random, round);
+    let mut given = Given::of(&GraphCase::sparse(case.model.clone()), random);
+    let built = given.build_sparse();
+    let mut settings = settings_of(&case.settings);
+    settings.num_legs = settings.num_legs.min(2);
+    let mut gammas = flat_of(&case.settings);
+    let mut order = some_order(&given, random);
+    let mut left = Decode::filled(given.size, settings.num_legs + 1, 9);
+    for _ in 0..random.between(1, 2) {
+        match random.below(8) {
+            0 => nudge_length(random, &mut case.syndrome, 1),
+            1 if !case.syndrome.is_empty() => {
+                let at = random.below(case.syndrome.len());
+                case.syndrome[at] = random.pick(&[2, 3, 255]);
+            }
+            2 => match random.below(10) {
+                0 => nudge_length(random, &mut left.leg_state, 9),
+                1 => nudge_length(random, &mut left.leg_steps, 9),
+                2 => nudge_length(random, &mut left.leg_weight, 9.0),
+                3 => nudge_length(random, &mut left.rows, 9),
+                4 => nudge_length(random, &mut left.correction, 9),
+                5 => nudge_length(random, &mut left.posterior, 9.0),
+                6 => nudge_length(random, &mut left.gamma, 9.0),
+                7 => nudge_length(random, &mut left.bias, 9.0),
+                8 => nudge_length(random, &mut left.c_to_v, 9.0),
+                _ => nudge_length(random, &mut left.v_to_c, 9.0),
+            },
+            3 => match random.below(2) {
+                0 => nudge_length(random, &mut gammas, 0.5),
+                _ if !gammas.is_empty() => {
+                    let at = random.below(gammas.len());
+                    gammas[at] = random.pick(&[f64::NAN, f64::INFINITY]);
                 }
-                2 => match random.below(10) {
-                    0 => nudge_length(random, &mut left.leg_state, 9),
-                    1 => nudge_length(random, &mut left.leg_steps, 9),
-                    2 => nudge_length(random, &mut left.leg_weight, 9.0),
-                    3 => nudge_length(random, &mut left.rows, 9),
-                    4 => nudge_length(random, &mut left.correction, 9),
-                    5 => nudge_length(random, &mut left.posterior, 9.0),
-                    6 => nudge_length(random, &mut left.gamma, 9.0),
-                    7 => nudge_length(random, &mut left.bias, 9.0),
-                    8 => nudge_length(random, &mut left.c_to_v, 9.0),
-                    _ => nudge_length(random, &mut left.v_to_c, 9.0),
-                },
-                3 => match random.below(2) {
-                    0 => nudge_length(random, &mut gammas, 0.5),
-                    _ if !gammas.is_empty() => {
-                        let at = random.below(gammas.len());
-                        gammas[at] = random.pick(&[f64::NAN, f64::INFINITY]);
-                    }
-                    _ => {}
-                },
-                4 => damage_lists(random, &mut given),
-                5 => order = (0..given.size.checks.min(70_000) as u32).collect(),
-                _ => damage_settings(random, &mut settings),
-            }
+                _ => {}
+            },
+            4 => damage_lists(random, &mut given),
+            5 => order = (0..given.size.checks.min(70_000) as u32).collect(),
+            _ => damage_settings(random, &mut settings),
         }
-        let shot = Shot {
-            gammas: &gammas,
-            syndrome: &case.syndrome,
-            seed: case.seed,
-            order: random.once_in(2).then_some(&order),
-        };
-        let wanted = wanted_before(&given, settings, shot, &left);
-        // Tens of thousands of iterations show nothing here.
-        if wanted.is_ok() && settings.pre_iterations + settings.leg_iterations > 1000 {
-            continue;
-        }
-        let before = left.bits();
-        let answer = proved::decode(
-            given.size,
-            &given.priors,
-            &given.lists,
-            settings,
-            shot,
-            &mut left,
-        );
-        counts.wanted(wanted);
-        let good = match wanted {
-            // What the legs leave is what the others show.
-            Ok(()) => {
-                is_zero(&left.c_to_v)
-                    && (answer.is_ok() || answer.is_err_and(|(number, _)| number == 30))
-            }
-            Err(_) => answer == wanted && left.bits() == before,
-        };
-        counts.check(good && built == Ok(()), || {
-            format!("{answer:?} for {wanted:?}: {settings:?}, {shot:?}, {given:?}")
-        });
     }
-    counts
+    let shot = Shot {
+        gammas: &gammas,
+        syndrome: &case.syndrome,
+        seed: case.seed,
+        order: random.once_in(2).then_some(&order),
+    };
+    let mechanisms = given.size.mechanisms;
+    let wanted = wanted_settings(settings, &gammas, mechanisms);
+    let answer = proved::check_settings(settings, &gammas, mechanisms);
+    counts.check("settings, damaged", wanted, answer == wanted, || {
+        format!("{answer:?} for {wanted:?}: {settings:?}, {mechanisms} mechanisms, {gammas:?}")
+    });
+    let wanted = wanted_before(&given, settings, shot, &left);
+    // Tens of thousands of iterations show nothing here.
+    if wanted.is_ok() && settings.pre_iterations + settings.leg_iterations > 1000 {
+        return;
+    }
+    let before = left.bits();
+    let answer = proved::decode(
+        given.size,
+        &given.priors,
+        &given.lists,
+        settings,
+        shot,
+        &mut left,
+    );
+    let good = match wanted {
+        // What the legs leave is what the others show.
+        Ok(()) => {
+            is_zero(&left.c_to_v)
+                && (answer.is_ok() || answer.is_err_and(|(number, _)| number == 30))
+        }
+        Err(_) => answer == wanted && left.bits() == before,
+    };
+    counts.check("decodes, damaged", wanted, good && built == Ok(()), || {
+        format!("{answer:?} for {wanted:?}: {settings:?}, {shot:?}, {given:?}")
+    });
 }

@@ -1,5 +1,5 @@
-//! The proved code against the Rust, in one process, on fresh random inputs: `compare numbers|graphs|beliefs|iterations|decodes [COUNT [SEED]]`.
-//! Every float is compared by its bits, but a NaN with any NaN. The last line says 'N passed, M failed'.
+//! The proved code against the Rust, in one process, on fresh random inputs: what `oracle/beside` runs. Every float is compared by its
+//! bits, but a NaN with any NaN. The last line says 'N passed, M failed'.
 
 mod beliefs;
 mod counts;
@@ -8,42 +8,113 @@ mod decodes;
 mod given;
 mod graphs;
 mod numbers;
+mod progress;
+mod rounds;
 mod steps;
 mod table;
 
 use counts::Counts;
+use oracle::counted::bp::count::{NanSign, read_nan_sign};
+use oracle::toolchain;
+use rounds::{Kind, Length};
 use std::process::ExitCode;
+use std::time::Duration;
 
-const USAGE: &str = "usage: compare numbers|graphs|beliefs|iterations|decodes [COUNT [SEED]]";
+const USAGE: &str = "usage: oracle/beside [KIND] [--minutes M | --rounds N | --round R] [--seed S]
+  KIND         numbers, graphs, beliefs, iterations or decodes; without it, everything
+  --minutes M  as many rounds as M minutes hold; 1 if nothing is said
+  --rounds N   the first N rounds
+  --round R    round R alone, from 0, and all that is known of what fails
+  --seed S     the seed, 1 if nothing is said";
 
-/// What is compared: its name, how often where no count is given, and how.
-type Subject = (&'static str, u64, fn(u64, u64) -> Counts);
-
-const SUBJECTS: [Subject; 5] = [
-    ("numbers", 1_000_000, numbers::run),
-    ("graphs", 100_000, graphs::run),
-    ("beliefs", 200_000, beliefs::run),
-    ("iterations", 300_000, steps::run),
-    ("decodes", 300_000, decodes::run),
+/// A kind's place and a part's place in it choose the part's random numbers.
+const KINDS: [Kind; 5] = [
+    Kind {
+        name: "numbers",
+        parts: numbers::PARTS,
+    },
+    Kind {
+        name: "graphs",
+        parts: graphs::PARTS,
+    },
+    Kind {
+        name: "beliefs",
+        parts: beliefs::PARTS,
+    },
+    Kind {
+        name: "iterations",
+        parts: steps::PARTS,
+    },
+    Kind {
+        name: "decodes",
+        parts: decodes::PARTS,
+    },
 ];
+
+struct Asked {
+    kind: Option<String>,
+    length: Length,
+    seed: u64,
+}
+
+fn asked(words: &[String]) -> Option<Asked> {
+    let mut asked = Asked {
+        kind: None,
+        length: Length::Time(Duration::from_secs(60)),
+        seed: 1,
+    };
+    let mut words = words.iter();
+    while let Some(word) = words.next() {
+        let mut number = || words.next()?.parse::<u64>().ok();
+        match word.as_str() {
+            "--seed" => asked.seed = number()?,
+            "--rounds" => asked.length = Length::Rounds(number()?),
+            "--round" => asked.length = Length::Alone(number()?),
+            "--minutes" => {
+                let minutes: f64 = words.next()?.parse().ok()?;
+                let time = Duration::try_from_secs_f64(minutes * 60.0).ok()?;
+                asked.length = Length::Time(time);
+            }
+            name if KINDS.iter().any(|kind| kind.name == name) && asked.kind.is_none() => {
+                asked.kind = Some(name.to_string());
+            }
+            _ => return None,
+        }
+    }
+    Some(asked)
+}
 
 fn main() -> ExitCode {
     let words: Vec<String> = std::env::args().skip(1).collect();
-    let number = |at: usize, default: u64| match words.get(at) {
-        Some(word) => word.parse().ok(),
-        None => Some(default),
-    };
-    let named = |(name, _, _): &&Subject| words.first().is_some_and(|word| word == name);
-    let Some(&(name, usual, run)) = SUBJECTS.iter().find(named) else {
+    let Some(Asked { kind, length, seed }) = asked(&words) else {
         eprintln!("{USAGE}");
         return ExitCode::from(2);
     };
-    let (Some(count), Some(seed)) = (number(1, usual), number(2, 1)) else {
-        eprintln!("{USAGE}");
-        return ExitCode::from(2);
-    };
-    println!("{name}: {count} rounds from seed {seed}");
-    let Counts { passed, failed, .. } = run(count, seed);
+    toolchain::print();
+    if let Err(why) = toolchain::sums_start_at_negative_zero() {
+        eprintln!("oracle: refused: {why}");
+        return ExitCode::from(3);
+    }
+    // A NaN's sign is open in the Rust and positive in the port: the counted copy of the Rust reads it so.
+    read_nan_sign(NanSign::Positive);
+    let kinds: Vec<(usize, &Kind)> = KINDS
+        .iter()
+        .enumerate()
+        .filter(|(_, one)| kind.as_ref().is_none_or(|name| name == one.name))
+        .collect();
+    let (counts, rounds) = rounds::run(&kinds, length, seed);
+    counts.iter().for_each(Counts::print);
+    match length {
+        Length::Alone(round) => println!("round {round} alone, from seed {seed}"),
+        _ => {
+            let name = kind.map_or(String::new(), |name| name + " ");
+            println!(
+                "{rounds} rounds from seed {seed}; the same again: oracle/beside {name}--rounds {rounds} --seed {seed}"
+            );
+        }
+    }
+    let passed: u64 = counts.iter().map(Counts::passed).sum();
+    let failed: u64 = counts.iter().map(Counts::failed).sum();
     println!("{passed} passed, {failed} failed");
     if failed == 0 {
         ExitCode::SUCCESS

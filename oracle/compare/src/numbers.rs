@@ -1,7 +1,13 @@
 //! The calls of the crate `numbers` against Rust's own operations.
 
 use crate::counts::Counts;
+use crate::rounds::{Part, Rate};
 use oracle::splitmix::SplitMix64;
+
+pub const PARTS: &[Part] = &[Part {
+    rate: Rate::Each(16),
+    case,
+}];
 
 /// Floats at which a sign or a test turns.
 const EDGES: [f64; 14] = [
@@ -35,30 +41,25 @@ fn same(a: f64, b: f64) -> bool {
     a.to_bits() == b.to_bits() || a.is_nan() && b.is_nan()
 }
 
-/// `count` rounds. A NaN's sign is positive in the port, so `copysign`'s is compared off a NaN.
-pub fn run(count: u64, seed: u64) -> Counts {
-    let mut g = SplitMix64::new(seed);
-    let mut counts = Counts::default();
-    for round in 0..count {
-        let x = any_float(&mut g);
-        let (low, high) = (any_float(&mut g), any_float(&mut g));
-        let (a, b) = (g.draw(), g.draw() >> (g.draw() % 64));
-        let negative = !x.is_nan() && x.is_sign_negative();
-        let message_sign = if x < 0.0 { -1.0 } else { 1.0 };
-        let mut other = SplitMix64::new(a);
-        let draw = other.draw();
-        let unit = SplitMix64::new(a).unit();
-        let good = same(proved::magnitude(x), x.abs())
-            && proved::is_finite(x) == x.is_finite()
-            && proved::is_negative(x) == negative
-            && same(proved::message_sign(x), message_sign)
-            && proved::wrapping_mul(a, b) == a.wrapping_mul(b)
-            && proved::draw(a) == draw
-            && proved::next_state(a) == other.state()
-            && same(proved::gamma(low, high, draw), low + (high - low) * unit);
-        counts.check(good, || {
-            format!("round {round}: x {x:e}, interval {low:e} to {high:e}, numbers {a:x} and {b:x}")
-        });
-    }
-    counts
+/// A NaN's sign is positive in the port, so `copysign`'s is compared off a NaN.
+fn case(_: u64, g: &mut SplitMix64, counts: &mut Counts) {
+    let x = any_float(g);
+    let (low, high) = (any_float(g), any_float(g));
+    let (a, b) = (g.draw(), g.draw() >> (g.draw() % 64));
+    let negative = !x.is_nan() && x.is_sign_negative();
+    let message_sign = if x < 0.0 { -1.0 } else { 1.0 };
+    let mut other = SplitMix64::new(a);
+    let draw = other.draw();
+    let unit = SplitMix64::new(a).unit();
+    let good = same(proved::magnitude(x), x.abs())
+        && proved::is_finite(x) == x.is_finite()
+        && proved::is_negative(x) == negative
+        && same(proved::message_sign(x), message_sign)
+        && proved::wrapping_mul(a, b) == a.wrapping_mul(b)
+        && proved::draw(a) == draw
+        && proved::next_state(a) == other.state()
+        && same(proved::gamma(low, high, draw), low + (high - low) * unit);
+    counts.check("numbers", Ok(()), good, || {
+        format!("x {x:e}, interval {low:e} to {high:e}, numbers {a:x} and {b:x}")
+    });
 }

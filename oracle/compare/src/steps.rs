@@ -2,7 +2,8 @@
 
 use crate::counts::Counts;
 use crate::damage::{damage_lists, nudge_length};
-use crate::given::Given;
+use crate::given::{Given, model_of};
+use crate::rounds::{Part, Rate};
 use crate::table::wanted_lists;
 use oracle::graph_cases::GraphCase;
 use oracle::model::{Model, random_model};
@@ -13,13 +14,20 @@ use proved::{Answer, Iteration, Size, Step};
 
 const ALPHAS: [f64; 6] = [1.0, 0.5, 0.9, 1e-300, 1e200, 1e308];
 
-pub fn run(count: u64, seed: u64) -> Counts {
-    let mut random = SplitMix64::new(seed);
-    let mut all = Counts::default();
-    all.add("iterations", good(count, &mut random));
-    all.add("damaged", damaged(count / 4, &mut random));
-    all
-}
+pub const PARTS: &[Part] = &[
+    Part {
+        rate: Rate::Each(4),
+        case: small,
+    },
+    Part {
+        rate: Rate::Every(4000),
+        case: large,
+    },
+    Part {
+        rate: Rate::Each(1),
+        case: damaged,
+    },
+];
 
 pub fn bits(list: &[f64]) -> Vec<u64> {
     list.iter().map(|value| value.to_bits()).collect()
@@ -40,18 +48,25 @@ pub fn random_order(random: &mut SplitMix64, count: usize) -> Vec<u32> {
     order
 }
 
-fn value(random: &mut SplitMix64) -> f64 {
+/// How far the numbers of a state go. Among the many of a large model one of every kind stands, so that nearly all would overflow.
+#[derive(Clone, Copy, PartialEq, Eq)]
+enum Reach {
+    Usual,
+    Any,
+}
+
+fn value(random: &mut SplitMix64, reach: Reach) -> f64 {
     match random.below(16) {
         0 => 0.0,
         1 => -0.0,
-        2 => random.pick(&[30.0, -30.0, 1e300, -1e300, 5e-324]),
+        2 if reach == Reach::Any => random.pick(&[30.0, -30.0, 1e300, -1e300, 5e-324]),
         3 => random.pick(&[2.0, -2.0]),
         _ => random.unit() * 8.0 - 4.0,
     }
 }
 
-fn values(random: &mut SplitMix64, count: usize) -> Vec<f64> {
-    (0..count).map(|_| value(random)).collect()
+fn values(random: &mut SplitMix64, reach: Reach, count: usize) -> Vec<f64> {
+    (0..count).map(|_| value(random, reach)).collect()
 }
 
 /// What a case is of, beside its graph.
@@ -65,17 +80,20 @@ struct Case {
 }
 
 impl Case {
-    fn of(model: &Model, size: Size, random: &mut SplitMix64) -> Self {
+    fn of(model: &Model, size: Size, reach: Reach, random: &mut SplitMix64) -> Self {
         Self {
             serial: random.once_in(2),
-            alpha: random.pick(&ALPHAS),
-            gamma: values(random, size.mechanisms),
+            alpha: match reach {
+                Reach::Usual => 0.5 + random.unit(),
+                Reach::Any => random.pick(&ALPHAS),
+            },
+            gamma: values(random, reach, size.mechanisms),
             syndrome: (0..size.checks).map(|_| random.below(2) as u8).collect(),
             order: random_order(random, model.checks),
             step: Step {
-                c_to_v: values(random, size.edges),
-                v_to_c: values(random, size.edges),
-                posterior: values(random, size.mechanisms),
+                c_to_v: values(random, reach, size.edges),
+                v_to_c: values(random, reach, size.edges),
+                posterior: values(random, reach, size.mechanisms),
                 bias: vec![1.5; size.mechanisms],
             },
         }
@@ -141,46 +159,76 @@ fn not_finite(given: &Given, state: &State) -> Option<usize> {
     })
 }
 
-fn good(count: u64, random: &mut SplitMix64) -> Counts {
-    let mut counts = Counts::default();
-    for _ in 0..count {
-        let most = random.pick(&[2, 4, 6, 9, 14, 24]);
-        let model = random_model(random, most, most * 3 / 2);
-        let mut given = Given::of(&GraphCase::sparse(model.clone()), random);
-        let built = given.build_sparse();
-        let case = Case::of(&model, given.size, random);
-        let mut left = case.step.clone();
-        let answer = proved::iteration(
-            given.size,
-            &given.priors,
-            &given.lists,
-            case.iteration(),
-            &mut left,
-        );
-        let state = rust(&model, &case);
-        let wanted = match not_finite(&given, &state) {
-            Some(mechanism) => Err((30, mechanism as u64)),
-            None => Ok(()),
-        };
-        let same = if wanted.is_ok() {
-            bits(&left.c_to_v) == bits(&state.c_to_v)
-                && bits(&left.v_to_c) == bits(&state.v_to_c)
-                && bits(&left.posterior) == bits(&state.posterior)
-        } else {
-            is_zero(&left.c_to_v) && is_zero(&left.v_to_c) && is_zero(&left.posterior)
-        };
-        counts.wanted(wanted);
-        counts.check(
-            built == Ok(()) && answer == wanted && same && is_zero(&left.bias),
-            || {
-                format!(
-                    "{answer:?}, {left:?} for {wanted:?}, {state:?}: {model:?}, {:?}",
-                    case.iteration()
-                )
-            },
-        );
-    }
-    counts
+fn small(_: u64, random: &mut SplitMix64, counts: &mut Counts) {
+    let most = random.pick(&[2, 4, 6, 9, 14, 24]);
+    let model = random_model(random, most, most * 3 / 2);
+    compare("iterations, small", &model, Reach::Any, random, counts);
+}
+
+/// Checks, mechanisms, edges.
+const LARGE: [(usize, usize, usize); 6] = [
+    (65_536, 65_536, 1_048_576),
+    (1024, 65_536, 1_048_576),
+    (65_536, 16_384, 131_072),
+    (4000, 8000, 24_000),
+    (300, 900, 2700),
+    (2, 65_536, 131_072),
+];
+
+fn large(case: u64, random: &mut SplitMix64, counts: &mut Counts) {
+    let (checks, mechanisms, edges) = LARGE[case as usize % LARGE.len()];
+    let size = Size {
+        checks,
+        mechanisms,
+        edges,
+    };
+    let model = model_of(size, random);
+    let reach = random.pick(&[Reach::Usual, Reach::Usual, Reach::Usual, Reach::Any]);
+    compare("iterations, large", &model, reach, random, counts);
+}
+
+/// One iteration over the model from a random state, both ways.
+fn compare(
+    name: &'static str,
+    model: &Model,
+    reach: Reach,
+    random: &mut SplitMix64,
+    counts: &mut Counts,
+) {
+    let mut given = Given::of(&GraphCase::sparse(model.clone()), random);
+    let built = given.build_sparse();
+    let case = Case::of(model, given.size, reach, random);
+    let mut left = case.step.clone();
+    let answer = proved::iteration(
+        given.size,
+        &given.priors,
+        &given.lists,
+        case.iteration(),
+        &mut left,
+    );
+    let state = rust(model, &case);
+    let wanted = match not_finite(&given, &state) {
+        Some(mechanism) => Err((30, mechanism as u64)),
+        None => Ok(()),
+    };
+    let same = if wanted.is_ok() {
+        bits(&left.c_to_v) == bits(&state.c_to_v)
+            && bits(&left.v_to_c) == bits(&state.v_to_c)
+            && bits(&left.posterior) == bits(&state.posterior)
+    } else {
+        is_zero(&left.c_to_v) && is_zero(&left.v_to_c) && is_zero(&left.posterior)
+    };
+    counts.check(
+        name,
+        wanted,
+        built == Ok(()) && answer == wanted && same && is_zero(&left.bias),
+        || {
+            format!(
+                "{answer:?}, {left:?} for {wanted:?}, {state:?}: {model:?}, {:?}",
+                case.iteration()
+            )
+        },
+    );
 }
 
 /// 23: as many as there are checks, each once.
@@ -228,78 +276,78 @@ fn wanted_before(given: &Given, case: &Case) -> Answer {
     Ok(())
 }
 
-fn damaged(count: u64, random: &mut SplitMix64) -> Counts {
-    let mut counts = Counts::default();
-    for _ in 0..count {
-        let most = random.pick(&[1, 2, 3, 8]);
-        let model = random_model(random, most, most);
-        let mut given = Given::of(&GraphCase::sparse(model.clone()), random);
-        let built = given.build_sparse();
-        let mut case = Case::of(&model, given.size, random);
-        for _ in 0..random.between(1, 2) {
-            match random.below(9) {
-                0 => nudge_length(random, &mut case.syndrome, 1),
-                1 => {
-                    let bad = [0.0, -0.0, -1.0, f64::NAN, f64::INFINITY, f64::NEG_INFINITY];
-                    case.alpha = random.pick(&bad);
-                }
-                2 if !case.syndrome.is_empty() => {
-                    let at = random.below(case.syndrome.len());
-                    case.syndrome[at] = random.pick(&[2, 3, 255]);
-                }
-                3 => {
-                    let which = random.below(5);
-                    match which {
-                        4 => nudge_length(random, &mut case.gamma, 0.5),
-                        _ => nudge_length(random, case.step.each()[which], 2.5),
-                    }
-                }
-                4 => nudge_length(random, &mut case.order, 0),
-                5 if !case.order.is_empty() => {
-                    let at = random.below(case.order.len());
-                    case.order[at] = random.pick(&[0, 1, 65_535, 65_536, u32::MAX]);
-                }
-                6 => {
-                    let which = random.below(4);
-                    let list = match which {
-                        3 => &mut case.gamma,
-                        _ => &mut *case.step.each()[which],
-                    };
-                    if !list.is_empty() {
-                        let at = random.below(list.len());
-                        list[at] =
-                            random.pick(&[f64::NAN, -f64::NAN, f64::INFINITY, f64::NEG_INFINITY]);
-                    }
-                }
-                _ => damage_lists(random, &mut given),
+fn damaged(_: u64, random: &mut SplitMix64, counts: &mut Counts) {
+    let most = random.pick(&[1, 2, 3, 8]);
+    let model = random_model(random, most, most);
+    let mut given = Given::of(&GraphCase::sparse(model.clone()), random);
+    let built = given.build_sparse();
+    let mut case = Case::of(&model, given.size, Reach::Any, random);
+    for _ in 0..random.between(1, 2) {
+        match random.below(9) {
+            0 => nudge_length(random, &mut case.syndrome, 1),
+            1 => {
+                let bad = [0.0, -0.0, -1.0, f64::NAN, f64::INFINITY, f64::NEG_INFINITY];
+                case.alpha = random.pick(&bad);
             }
+            2 if !case.syndrome.is_empty() => {
+                let at = random.below(case.syndrome.len());
+                case.syndrome[at] = random.pick(&[2, 3, 255]);
+            }
+            3 => {
+                let which = random.below(5);
+                match which {
+                    4 => nudge_length(random, &mut case.gamma, 0.5),
+                    _ => nudge_length(random, case.step.each()[which], 2.5),
+                }
+            }
+            4 => nudge_length(random, &mut case.order, 0),
+            5 if !case.order.is_empty() => {
+                let at = random.below(case.order.len());
+                case.order[at] = random.pick(&[0, 1, 65_535, 65_536, u32::MAX]);
+            }
+            6 => {
+                let which = random.below(4);
+                let list = match which {
+                    3 => &mut case.gamma,
+                    _ => &mut *case.step.each()[which],
+                };
+                if !list.is_empty() {
+                    let at = random.below(list.len());
+                    list[at] =
+                        random.pick(&[f64::NAN, -f64::NAN, f64::INFINITY, f64::NEG_INFINITY]);
+                }
+            }
+            _ => damage_lists(random, &mut given),
         }
-        let wanted = wanted_before(&given, &case);
-        let mut left = case.step.clone();
-        let answer = proved::iteration(
-            given.size,
-            &given.priors,
-            &given.lists,
-            case.iteration(),
-            &mut left,
-        );
-        let kept = left
-            .each()
-            .iter()
-            .zip(case.step.each())
-            .all(|(now, before)| bits(now) == bits(before));
-        counts.wanted(wanted);
-        let good = match wanted {
-            // What the step leaves is what the others show.
-            Ok(()) => answer.is_ok() || answer.is_err_and(|(number, _)| number == 30),
-            Err(_) => answer == wanted && kept,
-        };
-        counts.check(good && built == Ok(()), || {
+    }
+    let wanted = wanted_before(&given, &case);
+    let mut left = case.step.clone();
+    let answer = proved::iteration(
+        given.size,
+        &given.priors,
+        &given.lists,
+        case.iteration(),
+        &mut left,
+    );
+    let kept = left
+        .each()
+        .iter()
+        .zip(case.step.each())
+        .all(|(now, before)| bits(now) == bits(before));
+    let good = match wanted {
+        // What the step leaves is what the others show.
+        Ok(()) => answer.is_ok() || answer.is_err_and(|(number, _)| number == 30),
+        Err(_) => answer == wanted && kept,
+    };
+    counts.check(
+        "iterations, damaged",
+        wanted,
+        good && built == Ok(()),
+        || {
             format!(
                 "{answer:?} for {wanted:?}: {given:?}, {:?}",
                 case.iteration()
             )
-        });
-    }
-    counts
+        },
+    );
 }

@@ -5,5 +5,5 @@ include!(concat!(env!("OUT_DIR"), "/modules.rs"));
 
 pub use min_sum::priors::with_priors;
 pub use min_sum::{BpGraph, LLR_SATURATION};
-pub use relay::step::{State, iteration};
+pub use relay::step::{State, iteration, load, step, store};
 pub use relay::{RelayBp, RelayConfig, Schedule};

@@ -18,20 +18,35 @@
         order: &[u32],
         state: &mut State,
     ) {
+        load(decoder, gamma, state);
+        let by_index = order.iter().enumerate().all(|(place, &check)| place == check as usize);
+        step(decoder, syndrome, (!by_index).then_some(order));
+        store(decoder, state);
+    }
+
+    /// Makes a state the decoder's own.
+    pub fn load(decoder: &mut RelayBp, gamma: &[f64], state: &State) {
         decoder.gamma.copy_from_slice(gamma);
         decoder.c_to_v.copy_from_slice(&state.c_to_v);
         decoder.v_to_c.copy_from_slice(&state.v_to_c);
         decoder.posterior.copy_from_slice(&state.posterior);
-        let by_index = order.iter().enumerate().all(|(place, &check)| place == check as usize);
-        match (decoder.config.schedule, by_index) {
-            (Schedule::Flooding, true) => decoder.flooding_iteration(syndrome),
-            (Schedule::CheckSerial, true) => decoder.check_serial_iteration(syndrome),
-            (Schedule::Flooding, false) => flooding(decoder, syndrome, order),
-            (Schedule::CheckSerial, false) => serial(decoder, syndrome, order),
-        }
+    }
+
+    /// Reads the decoder's own state.
+    pub fn store(decoder: &RelayBp, state: &mut State) {
         state.c_to_v.copy_from_slice(&decoder.c_to_v);
         state.v_to_c.copy_from_slice(&decoder.v_to_c);
         state.posterior.copy_from_slice(&decoder.posterior);
+    }
+
+    /// One iteration on the decoder's own state: the published one, or the published updates in an order of checks.
+    pub fn step(decoder: &mut RelayBp, syndrome: &[u8], order: Option<&[u32]>) {
+        match (decoder.config.schedule, order) {
+            (Schedule::Flooding, None) => decoder.flooding_iteration(syndrome),
+            (Schedule::CheckSerial, None) => decoder.check_serial_iteration(syndrome),
+            (Schedule::Flooding, Some(order)) => flooding(decoder, syndrome, order),
+            (Schedule::CheckSerial, Some(order)) => serial(decoder, syndrome, order),
+        }
     }
 
     fn check(decoder: &mut RelayBp, syndrome: &[u8], check: u32) {

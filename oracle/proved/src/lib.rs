@@ -1,5 +1,5 @@
-//! The calls of the crate `exports`, in safe Rust. Nothing checks these declarations against the Rattle source, so they
-//! stand in this one file, in its order.
+//! The calls of the crate `exports`, in safe Rust, over lists of any length: the crate of `bindings/rust` makes lists that fit, and
+//! so can't ask for most refusals. `bindings/agree` compares the declarations with the Rattle sources.
 
 mod raw {
     // A slice is a pointer and then a length.
@@ -146,6 +146,23 @@ mod raw {
             bias_len: usize,
         ) -> u64;
 
+        pub unsafe fn chowderkite_published(floats: *mut [f64; 4], counts: *mut [u64; 4]);
+        pub unsafe fn chowderkite_check_settings(
+            schedule: u8,
+            alpha: f64,
+            gamma0: f64,
+            pre_iterations: usize,
+            num_legs: usize,
+            leg_iterations: usize,
+            gamma_low: f64,
+            gamma_high: f64,
+            stop_after_converged: usize,
+            explicit: u8,
+            sets: usize,
+            mechanisms: usize,
+            gammas: *const f64,
+            gammas_len: usize,
+        ) -> u64;
         pub unsafe fn chowderkite_decode_in_order(
             checks: usize,
             mechanisms: usize,
@@ -260,6 +277,17 @@ mod raw {
             v_to_c: *mut f64,
             v_to_c_len: usize,
             counts: *mut [u64; 3],
+            weight: *mut [f64; 1],
+        ) -> u64;
+        pub unsafe fn chowderkite_leg_record(
+            leg_state: *const u8,
+            leg_state_len: usize,
+            leg_steps: *const u32,
+            leg_steps_len: usize,
+            leg_weight: *const f64,
+            leg_weight_len: usize,
+            leg: usize,
+            iterations: *mut [u64; 1],
             weight: *mut [f64; 1],
         ) -> u64;
     }
@@ -605,6 +633,49 @@ pub struct Settings {
     pub sets: Option<usize>,
 }
 
+/// The published operating point.
+pub fn published() -> Settings {
+    let mut floats = [0.0; 4];
+    let mut counts = [0; 4];
+    unsafe { raw::chowderkite_published(&raw mut floats, &raw mut counts) };
+    let [alpha, gamma0, low, high] = floats;
+    let [pre_iterations, num_legs, leg_iterations, stop] = counts.map(|count: u64| count as usize);
+    Settings {
+        serial: false,
+        alpha,
+        gamma0,
+        pre_iterations,
+        num_legs,
+        leg_iterations,
+        low,
+        high,
+        stop,
+        sets: None,
+    }
+}
+
+/// The test of settings over as many mechanisms.
+pub fn check_settings(settings: Settings, gammas: &[f64], mechanisms: usize) -> Answer {
+    answer(unsafe {
+        raw::chowderkite_check_settings(
+            u8::from(settings.serial),
+            settings.alpha,
+            settings.gamma0,
+            settings.pre_iterations,
+            settings.num_legs,
+            settings.leg_iterations,
+            settings.low,
+            settings.high,
+            settings.stop,
+            u8::from(settings.sets.is_some()),
+            settings.sets.unwrap_or(0),
+            mechanisms,
+            gammas.as_ptr(),
+            gammas.len(),
+        )
+    })
+}
+
 /// A decode: what is asked for beside the graph and the settings.
 #[derive(Clone, Copy, Debug)]
 pub struct Shot<'a> {
@@ -809,4 +880,23 @@ pub fn decode(
             )
         },
     })
+}
+
+/// A leg's state (2 converged, 1 ran out, 0 not executed), iterations and weight.
+pub fn leg_record(left: &Decode, leg: usize) -> (u64, u64, f64) {
+    let (mut iterations, mut weight) = ([0], [0.0]);
+    let state = unsafe {
+        raw::chowderkite_leg_record(
+            left.leg_state.as_ptr(),
+            left.leg_state.len(),
+            left.leg_steps.as_ptr(),
+            left.leg_steps.len(),
+            left.leg_weight.as_ptr(),
+            left.leg_weight.len(),
+            leg,
+            &raw mut iterations,
+            &raw mut weight,
+        )
+    };
+    (state, iterations[0], weight[0])
 }
