@@ -77,9 +77,6 @@
 #![deny(unsafe_code)]
 #![deny(unsafe_op_in_unsafe_fn)]
 
-#[cfg(not(target_pointer_width = "64"))]
-compile_error!("the archive is for machines of 64 bits");
-
 mod error;
 #[allow(unsafe_code)]
 mod ffi;
