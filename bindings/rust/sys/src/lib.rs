@@ -3,7 +3,7 @@
 //! A slice passes as a pointer and then its length, an array as a pointer alone, and an answer as a code: 0, or a refusal's
 //! number plus 65,536 times its place. `bindings/c/chowderkite.h` says of each call which lengths its lists have, what it leaves
 //! in them and what it refuses; `crates/exports/src` has the contract that it is proved to meet. `bindings/agree` holds these
-//! declarations and the header to that source. The crate `chowderkite` makes safe Rust of them.
+//! declarations and the header to that source. [`calls`] has the same over slices, in safe Rust.
 //!
 //! # Safety
 //!
@@ -20,6 +20,8 @@
 
 #[cfg(not(target_pointer_width = "64"))]
 compile_error!("the archive is for machines of 64 bits");
+
+pub mod calls;
 
 unsafe extern "C" {
     /// Builds the graph of a sparse model.
