@@ -1,295 +1,16 @@
-//! The archive's calls, and the only unsafe code of the crate.
-//!
-//! Each wrapper takes slices, so that every pointer goes with the length of its own list, and a list that is written is
-//! borrowed alone. That is all that a call asks: it tests the rest itself, and answers a code. `bindings/agree` compares the
-//! declarations with the Rattle sources.
+//! The archive's calls over the types of this crate: what each is lent, and what its code says.
+
+use chowderkite_sys::calls;
 
 use crate::iteration::RelayState;
 use crate::min_sum::BpScratch;
 use crate::relay::{DecodeLists, GammaSource, RelayConfig, Schedule};
-use crate::{BpGraph, Error};
+use crate::{BpGraph, Error, GraphLists};
 
-mod raw {
-    extern "C" {
-        pub fn chowderkite_build_sparse(
-            checks: usize,
-            mechanisms: usize,
-            edges: usize,
-            priors: *const f64,
-            priors_len: usize,
-            detector_offsets: *const u32,
-            detector_offsets_len: usize,
-            detectors: *const u32,
-            detectors_len: usize,
-            check_var: *mut u32,
-            check_var_len: usize,
-            check_message: *mut u32,
-            check_message_len: usize,
-            check_offset: *mut u32,
-            check_offset_len: usize,
-            var_check: *mut u32,
-            var_check_len: usize,
-            var_message: *mut u32,
-            var_message_len: usize,
-            var_offset: *mut u32,
-            var_offset_len: usize,
-        ) -> u64;
-        pub fn chowderkite_count_edges(matrix: *const u8, matrix_len: usize) -> usize;
-        pub fn chowderkite_build_dense(
-            checks: usize,
-            mechanisms: usize,
-            priors: *const f64,
-            priors_len: usize,
-            matrix: *const u8,
-            matrix_len: usize,
-            check_var: *mut u32,
-            check_var_len: usize,
-            check_message: *mut u32,
-            check_message_len: usize,
-            check_offset: *mut u32,
-            check_offset_len: usize,
-            var_check: *mut u32,
-            var_check_len: usize,
-            var_message: *mut u32,
-            var_message_len: usize,
-            var_offset: *mut u32,
-            var_offset_len: usize,
-        ) -> u64;
-        pub fn chowderkite_check_graph(
-            checks: usize,
-            mechanisms: usize,
-            edges: usize,
-            priors: *const f64,
-            priors_len: usize,
-            check_var: *const u32,
-            check_var_len: usize,
-            check_message: *const u32,
-            check_message_len: usize,
-            check_offset: *const u32,
-            check_offset_len: usize,
-            var_check: *const u32,
-            var_check_len: usize,
-            var_message: *const u32,
-            var_message_len: usize,
-            var_offset: *const u32,
-            var_offset_len: usize,
-        ) -> u64;
-        pub fn chowderkite_beliefs(
-            checks: usize,
-            mechanisms: usize,
-            edges: usize,
-            priors: *const f64,
-            priors_len: usize,
-            check_var: *const u32,
-            check_var_len: usize,
-            check_message: *const u32,
-            check_message_len: usize,
-            check_offset: *const u32,
-            check_offset_len: usize,
-            var_check: *const u32,
-            var_check_len: usize,
-            var_message: *const u32,
-            var_message_len: usize,
-            var_offset: *const u32,
-            var_offset_len: usize,
-            syndrome: *const u8,
-            syndrome_len: usize,
-            iterations: usize,
-            scale: f64,
-            serial: u8,
-            posterior: *mut f64,
-            posterior_len: usize,
-            ewa_posterior: *mut f64,
-            ewa_posterior_len: usize,
-            c_to_v: *mut f64,
-            c_to_v_len: usize,
-            v_to_c: *mut f64,
-            v_to_c_len: usize,
-        ) -> u64;
-        pub fn chowderkite_iteration(
-            checks: usize,
-            mechanisms: usize,
-            edges: usize,
-            priors: *const f64,
-            priors_len: usize,
-            check_var: *const u32,
-            check_var_len: usize,
-            check_message: *const u32,
-            check_message_len: usize,
-            check_offset: *const u32,
-            check_offset_len: usize,
-            var_check: *const u32,
-            var_check_len: usize,
-            var_message: *const u32,
-            var_message_len: usize,
-            var_offset: *const u32,
-            var_offset_len: usize,
-            schedule: u8,
-            alpha: f64,
-            gamma: *const f64,
-            gamma_len: usize,
-            syndrome: *const u8,
-            syndrome_len: usize,
-            order: *const u32,
-            order_len: usize,
-            c_to_v: *mut f64,
-            c_to_v_len: usize,
-            v_to_c: *mut f64,
-            v_to_c_len: usize,
-            posterior: *mut f64,
-            posterior_len: usize,
-            bias: *mut f64,
-            bias_len: usize,
-        ) -> u64;
-        pub fn chowderkite_published(floats: *mut [f64; 4], counts: *mut [u64; 4]);
-        pub fn chowderkite_check_settings(
-            schedule: u8,
-            alpha: f64,
-            gamma0: f64,
-            pre_iterations: usize,
-            num_legs: usize,
-            leg_iterations: usize,
-            gamma_low: f64,
-            gamma_high: f64,
-            stop_after_converged: usize,
-            explicit: u8,
-            sets: usize,
-            mechanisms: usize,
-            gammas: *const f64,
-            gammas_len: usize,
-        ) -> u64;
-        pub fn chowderkite_decode(
-            checks: usize,
-            mechanisms: usize,
-            edges: usize,
-            priors: *const f64,
-            priors_len: usize,
-            check_var: *const u32,
-            check_var_len: usize,
-            check_message: *const u32,
-            check_message_len: usize,
-            check_offset: *const u32,
-            check_offset_len: usize,
-            var_check: *const u32,
-            var_check_len: usize,
-            var_message: *const u32,
-            var_message_len: usize,
-            var_offset: *const u32,
-            var_offset_len: usize,
-            schedule: u8,
-            alpha: f64,
-            gamma0: f64,
-            pre_iterations: usize,
-            num_legs: usize,
-            leg_iterations: usize,
-            gamma_low: f64,
-            gamma_high: f64,
-            stop_after_converged: usize,
-            explicit: u8,
-            sets: usize,
-            gammas: *const f64,
-            gammas_len: usize,
-            syndrome: *const u8,
-            syndrome_len: usize,
-            seed: u64,
-            leg_state: *mut u8,
-            leg_state_len: usize,
-            leg_steps: *mut u32,
-            leg_steps_len: usize,
-            leg_weight: *mut f64,
-            leg_weight_len: usize,
-            rows: *mut u8,
-            rows_len: usize,
-            correction: *mut u8,
-            correction_len: usize,
-            posterior: *mut f64,
-            posterior_len: usize,
-            gamma: *mut f64,
-            gamma_len: usize,
-            bias: *mut f64,
-            bias_len: usize,
-            c_to_v: *mut f64,
-            c_to_v_len: usize,
-            v_to_c: *mut f64,
-            v_to_c_len: usize,
-            counts: *mut [u64; 3],
-            weight: *mut [f64; 1],
-        ) -> u64;
-        pub fn chowderkite_decode_in_order(
-            checks: usize,
-            mechanisms: usize,
-            edges: usize,
-            priors: *const f64,
-            priors_len: usize,
-            check_var: *const u32,
-            check_var_len: usize,
-            check_message: *const u32,
-            check_message_len: usize,
-            check_offset: *const u32,
-            check_offset_len: usize,
-            var_check: *const u32,
-            var_check_len: usize,
-            var_message: *const u32,
-            var_message_len: usize,
-            var_offset: *const u32,
-            var_offset_len: usize,
-            schedule: u8,
-            alpha: f64,
-            gamma0: f64,
-            pre_iterations: usize,
-            num_legs: usize,
-            leg_iterations: usize,
-            gamma_low: f64,
-            gamma_high: f64,
-            stop_after_converged: usize,
-            explicit: u8,
-            sets: usize,
-            gammas: *const f64,
-            gammas_len: usize,
-            syndrome: *const u8,
-            syndrome_len: usize,
-            seed: u64,
-            order: *const u32,
-            order_len: usize,
-            leg_state: *mut u8,
-            leg_state_len: usize,
-            leg_steps: *mut u32,
-            leg_steps_len: usize,
-            leg_weight: *mut f64,
-            leg_weight_len: usize,
-            rows: *mut u8,
-            rows_len: usize,
-            correction: *mut u8,
-            correction_len: usize,
-            posterior: *mut f64,
-            posterior_len: usize,
-            gamma: *mut f64,
-            gamma_len: usize,
-            bias: *mut f64,
-            bias_len: usize,
-            c_to_v: *mut f64,
-            c_to_v_len: usize,
-            v_to_c: *mut f64,
-            v_to_c_len: usize,
-            counts: *mut [u64; 3],
-            weight: *mut [f64; 1],
-        ) -> u64;
-        pub fn chowderkite_leg_record(
-            leg_state: *const u8,
-            leg_state_len: usize,
-            leg_steps: *const u32,
-            leg_steps_len: usize,
-            leg_weight: *const f64,
-            leg_weight_len: usize,
-            leg: usize,
-            iterations: *mut [u64; 1],
-            weight: *mut [f64; 1],
-        ) -> u64;
-        pub fn chowderkite_next_state(state: u64) -> u64;
-        pub fn chowderkite_draw(state: u64) -> u64;
-        pub fn chowderkite_gamma(low: f64, high: f64, draw: u64) -> f64;
-    }
-}
+pub use calls::count_edges;
+pub use chowderkite_sys::{
+    chowderkite_draw as draw, chowderkite_gamma as gamma, chowderkite_next_state as next_state,
+};
 
 const fn byte_of(schedule: Schedule) -> u8 {
     match schedule {
@@ -298,11 +19,68 @@ const fn byte_of(schedule: Schedule) -> u8 {
     }
 }
 
-/// The byte for explicit or not, the number of sets, and the flat list. Drawn gammas have no list.
-fn parts_of(source: &GammaSource) -> (u8, usize, &[f64]) {
-    match source {
+fn graph_of(graph: &BpGraph) -> calls::Graph<'_> {
+    let lists = &graph.lists;
+    calls::Graph {
+        checks: graph.checks,
+        mechanisms: graph.mechanisms,
+        edges: graph.edges,
+        priors: &graph.priors,
+        check_var: &lists.check_var,
+        check_message: &lists.check_message,
+        check_offset: &lists.check_offset,
+        var_check: &lists.var_check,
+        var_message: &lists.var_message,
+        var_offset: &lists.var_offset,
+    }
+}
+
+fn graph_lists_of(lists: &mut GraphLists) -> calls::GraphLists<'_> {
+    calls::GraphLists {
+        check_var: &mut lists.check_var,
+        check_message: &mut lists.check_message,
+        check_offset: &mut lists.check_offset,
+        var_check: &mut lists.var_check,
+        var_message: &mut lists.var_message,
+        var_offset: &mut lists.var_offset,
+    }
+}
+
+fn settings_of(config: &RelayConfig) -> calls::Settings<'_> {
+    let (explicit, sets, gammas): (u8, usize, &[f64]) = match &config.gamma_source {
         GammaSource::Seeded => (0, 0, &[]),
         GammaSource::Explicit { sets, gammas } => (1, *sets, gammas),
+    };
+    calls::Settings {
+        schedule: byte_of(config.schedule),
+        alpha: config.alpha,
+        gamma0: config.gamma0,
+        pre_iterations: config.pre_iterations,
+        num_legs: config.num_legs,
+        leg_iterations: config.leg_iterations,
+        gamma_low: config.gamma_range.0,
+        gamma_high: config.gamma_range.1,
+        stop_after_converged: config.stop_after_converged,
+        explicit,
+        sets,
+        gammas,
+    }
+}
+
+fn decode_lists_of(left: &mut DecodeLists) -> calls::DecodeLists<'_> {
+    calls::DecodeLists {
+        leg_state: &mut left.leg_state,
+        leg_steps: &mut left.leg_steps,
+        leg_weight: &mut left.leg_weight,
+        rows: &mut left.rows,
+        correction: &mut left.correction,
+        posterior: &mut left.posterior,
+        gamma: &mut left.gamma,
+        bias: &mut left.bias,
+        c_to_v: &mut left.c_to_v,
+        v_to_c: &mut left.v_to_c,
+        counts: &mut left.counts,
+        weight: &mut left.weight,
     }
 }
 
@@ -312,95 +90,31 @@ pub fn build_sparse(
     detector_offsets: &[u32],
     detectors: &[u32],
 ) -> Result<(), Error> {
-    let lists = &mut graph.lists;
-    // SAFETY: each pointer goes with the length of its own slice or `Vec`. The six lists that are written are `Vec`s of
-    // their own, borrowed alone.
-    Error::of_code(unsafe {
-        raw::chowderkite_build_sparse(
-            graph.checks,
-            graph.mechanisms,
-            graph.edges,
-            graph.priors.as_ptr(),
-            graph.priors.len(),
-            detector_offsets.as_ptr(),
-            detector_offsets.len(),
-            detectors.as_ptr(),
-            detectors.len(),
-            lists.check_var.as_mut_ptr(),
-            lists.check_var.len(),
-            lists.check_message.as_mut_ptr(),
-            lists.check_message.len(),
-            lists.check_offset.as_mut_ptr(),
-            lists.check_offset.len(),
-            lists.var_check.as_mut_ptr(),
-            lists.var_check.len(),
-            lists.var_message.as_mut_ptr(),
-            lists.var_message.len(),
-            lists.var_offset.as_mut_ptr(),
-            lists.var_offset.len(),
-        )
-    })
-}
-
-/// How many bytes of a matrix are not 0.
-pub fn count_edges(matrix: &[u8]) -> usize {
-    // SAFETY: the pointer goes with its slice's length, and nothing is written.
-    unsafe { raw::chowderkite_count_edges(matrix.as_ptr(), matrix.len()) }
+    Error::of_code(calls::build_sparse(
+        graph.checks,
+        graph.mechanisms,
+        graph.edges,
+        &graph.priors,
+        detector_offsets,
+        detectors,
+        graph_lists_of(&mut graph.lists),
+    ))
 }
 
 /// Fills the graph's lists from a dense matrix.
 pub fn build_dense(graph: &mut BpGraph, matrix: &[u8]) -> Result<(), Error> {
-    let lists = &mut graph.lists;
-    // SAFETY: as in `build_sparse`.
-    Error::of_code(unsafe {
-        raw::chowderkite_build_dense(
-            graph.checks,
-            graph.mechanisms,
-            graph.priors.as_ptr(),
-            graph.priors.len(),
-            matrix.as_ptr(),
-            matrix.len(),
-            lists.check_var.as_mut_ptr(),
-            lists.check_var.len(),
-            lists.check_message.as_mut_ptr(),
-            lists.check_message.len(),
-            lists.check_offset.as_mut_ptr(),
-            lists.check_offset.len(),
-            lists.var_check.as_mut_ptr(),
-            lists.var_check.len(),
-            lists.var_message.as_mut_ptr(),
-            lists.var_message.len(),
-            lists.var_offset.as_mut_ptr(),
-            lists.var_offset.len(),
-        )
-    })
+    Error::of_code(calls::build_dense(
+        graph.checks,
+        graph.mechanisms,
+        &graph.priors,
+        matrix,
+        graph_lists_of(&mut graph.lists),
+    ))
 }
 
 /// Tests the graph's lists and priors.
 pub fn check_graph(graph: &BpGraph) -> Result<(), Error> {
-    let lists = &graph.lists;
-    // SAFETY: each pointer goes with its own list's length, and nothing is written.
-    Error::of_code(unsafe {
-        raw::chowderkite_check_graph(
-            graph.checks,
-            graph.mechanisms,
-            graph.edges,
-            graph.priors.as_ptr(),
-            graph.priors.len(),
-            lists.check_var.as_ptr(),
-            lists.check_var.len(),
-            lists.check_message.as_ptr(),
-            lists.check_message.len(),
-            lists.check_offset.as_ptr(),
-            lists.check_offset.len(),
-            lists.var_check.as_ptr(),
-            lists.var_check.len(),
-            lists.var_message.as_ptr(),
-            lists.var_message.len(),
-            lists.var_offset.as_ptr(),
-            lists.var_offset.len(),
-        )
-    })
+    Error::of_code(calls::check_graph(graph_of(graph)))
 }
 
 /// Min-sum beliefs.
@@ -413,43 +127,20 @@ pub fn beliefs(
     scratch: &mut BpScratch,
     posterior: &mut [f64],
 ) -> Result<(), Error> {
-    let lists = &graph.lists;
-    // SAFETY: each pointer goes with its own list's length. The posterior and the three lists of the scratch are borrowed
-    // alone, so none overlaps another or a list that is read.
-    Error::of_code(unsafe {
-        raw::chowderkite_beliefs(
-            graph.checks,
-            graph.mechanisms,
-            graph.edges,
-            graph.priors.as_ptr(),
-            graph.priors.len(),
-            lists.check_var.as_ptr(),
-            lists.check_var.len(),
-            lists.check_message.as_ptr(),
-            lists.check_message.len(),
-            lists.check_offset.as_ptr(),
-            lists.check_offset.len(),
-            lists.var_check.as_ptr(),
-            lists.var_check.len(),
-            lists.var_message.as_ptr(),
-            lists.var_message.len(),
-            lists.var_offset.as_ptr(),
-            lists.var_offset.len(),
-            syndrome.as_ptr(),
-            syndrome.len(),
-            iterations,
-            scale,
-            u8::from(serial),
-            posterior.as_mut_ptr(),
-            posterior.len(),
-            scratch.ewa_posterior.as_mut_ptr(),
-            scratch.ewa_posterior.len(),
-            scratch.c_to_v.as_mut_ptr(),
-            scratch.c_to_v.len(),
-            scratch.v_to_c.as_mut_ptr(),
-            scratch.v_to_c.len(),
-        )
-    })
+    let lists = calls::BeliefLists {
+        posterior,
+        ewa_posterior: &mut scratch.ewa_posterior,
+        c_to_v: &mut scratch.c_to_v,
+        v_to_c: &mut scratch.v_to_c,
+    };
+    Error::of_code(calls::beliefs(
+        graph_of(graph),
+        syndrome,
+        iterations,
+        scale,
+        u8::from(serial),
+        lists,
+    ))
 }
 
 /// One Relay iteration.
@@ -462,57 +153,29 @@ pub fn iteration(
     order: &[u32],
     state: &mut RelayState,
 ) -> Result<(), Error> {
-    let lists = &graph.lists;
-    // SAFETY: each pointer goes with its own list's length. The four lists of the state are borrowed alone, so none overlaps
-    // another or a list that is read.
-    Error::of_code(unsafe {
-        raw::chowderkite_iteration(
-            graph.checks,
-            graph.mechanisms,
-            graph.edges,
-            graph.priors.as_ptr(),
-            graph.priors.len(),
-            lists.check_var.as_ptr(),
-            lists.check_var.len(),
-            lists.check_message.as_ptr(),
-            lists.check_message.len(),
-            lists.check_offset.as_ptr(),
-            lists.check_offset.len(),
-            lists.var_check.as_ptr(),
-            lists.var_check.len(),
-            lists.var_message.as_ptr(),
-            lists.var_message.len(),
-            lists.var_offset.as_ptr(),
-            lists.var_offset.len(),
-            byte_of(schedule),
-            alpha,
-            gamma.as_ptr(),
-            gamma.len(),
-            syndrome.as_ptr(),
-            syndrome.len(),
-            order.as_ptr(),
-            order.len(),
-            state.c_to_v.as_mut_ptr(),
-            state.c_to_v.len(),
-            state.v_to_c.as_mut_ptr(),
-            state.v_to_c.len(),
-            state.posterior.as_mut_ptr(),
-            state.posterior.len(),
-            state.bias.as_mut_ptr(),
-            state.bias.len(),
-        )
-    })
+    let lists = calls::IterationLists {
+        c_to_v: &mut state.c_to_v,
+        v_to_c: &mut state.v_to_c,
+        posterior: &mut state.posterior,
+        bias: &mut state.bias,
+    };
+    Error::of_code(calls::iteration(
+        graph_of(graph),
+        byte_of(schedule),
+        alpha,
+        gamma,
+        syndrome,
+        order,
+        lists,
+    ))
 }
 
 /// The published operating point.
 pub fn published() -> RelayConfig {
-    let mut floats = [0.0; 4];
-    let mut counts = [0; 4];
-    // SAFETY: both are arrays of the length that the call writes, and apart.
-    unsafe { raw::chowderkite_published(&mut floats, &mut counts) };
+    let (floats, counts) = calls::published();
     let [alpha, gamma0, low, high] = floats;
     let [pre_iterations, num_legs, leg_iterations, stop_after_converged] =
-        counts.map(|count: u64| count as usize);
+        counts.map(|count| count as usize);
     RelayConfig {
         schedule: Schedule::Flooding,
         alpha,
@@ -528,26 +191,7 @@ pub fn published() -> RelayConfig {
 
 /// Tests settings over so many mechanisms.
 pub fn check_settings(config: &RelayConfig, mechanisms: usize) -> Result<(), Error> {
-    let (explicit, sets, gammas) = parts_of(&config.gamma_source);
-    // SAFETY: the pointer goes with its slice's length, and nothing is written.
-    Error::of_code(unsafe {
-        raw::chowderkite_check_settings(
-            byte_of(config.schedule),
-            config.alpha,
-            config.gamma0,
-            config.pre_iterations,
-            config.num_legs,
-            config.leg_iterations,
-            config.gamma_range.0,
-            config.gamma_range.1,
-            config.stop_after_converged,
-            explicit,
-            sets,
-            mechanisms,
-            gammas.as_ptr(),
-            gammas.len(),
-        )
-    })
+    Error::of_code(calls::check_settings(settings_of(config), mechanisms))
 }
 
 /// A decode, the checks in index order.
@@ -558,69 +202,13 @@ pub fn decode(
     seed: u64,
     left: &mut DecodeLists,
 ) -> Result<(), Error> {
-    let lists = &graph.lists;
-    let (explicit, sets, gammas) = parts_of(&config.gamma_source);
-    // SAFETY: each pointer goes with its own list's length, and the two arrays have the length that the call writes. All that
-    // is written is part of `left`, borrowed alone, each a list of its own.
-    Error::of_code(unsafe {
-        raw::chowderkite_decode(
-            graph.checks,
-            graph.mechanisms,
-            graph.edges,
-            graph.priors.as_ptr(),
-            graph.priors.len(),
-            lists.check_var.as_ptr(),
-            lists.check_var.len(),
-            lists.check_message.as_ptr(),
-            lists.check_message.len(),
-            lists.check_offset.as_ptr(),
-            lists.check_offset.len(),
-            lists.var_check.as_ptr(),
-            lists.var_check.len(),
-            lists.var_message.as_ptr(),
-            lists.var_message.len(),
-            lists.var_offset.as_ptr(),
-            lists.var_offset.len(),
-            byte_of(config.schedule),
-            config.alpha,
-            config.gamma0,
-            config.pre_iterations,
-            config.num_legs,
-            config.leg_iterations,
-            config.gamma_range.0,
-            config.gamma_range.1,
-            config.stop_after_converged,
-            explicit,
-            sets,
-            gammas.as_ptr(),
-            gammas.len(),
-            syndrome.as_ptr(),
-            syndrome.len(),
-            seed,
-            left.leg_state.as_mut_ptr(),
-            left.leg_state.len(),
-            left.leg_steps.as_mut_ptr(),
-            left.leg_steps.len(),
-            left.leg_weight.as_mut_ptr(),
-            left.leg_weight.len(),
-            left.rows.as_mut_ptr(),
-            left.rows.len(),
-            left.correction.as_mut_ptr(),
-            left.correction.len(),
-            left.posterior.as_mut_ptr(),
-            left.posterior.len(),
-            left.gamma.as_mut_ptr(),
-            left.gamma.len(),
-            left.bias.as_mut_ptr(),
-            left.bias.len(),
-            left.c_to_v.as_mut_ptr(),
-            left.c_to_v.len(),
-            left.v_to_c.as_mut_ptr(),
-            left.v_to_c.len(),
-            &mut left.counts,
-            &mut left.weight,
-        )
-    })
+    Error::of_code(calls::decode(
+        graph_of(graph),
+        settings_of(config),
+        syndrome,
+        seed,
+        decode_lists_of(left),
+    ))
 }
 
 /// A decode, the checks in a given order.
@@ -632,107 +220,19 @@ pub fn decode_in_order(
     order: &[u32],
     left: &mut DecodeLists,
 ) -> Result<(), Error> {
-    let lists = &graph.lists;
-    let (explicit, sets, gammas) = parts_of(&config.gamma_source);
-    // SAFETY: as in `decode`.
-    Error::of_code(unsafe {
-        raw::chowderkite_decode_in_order(
-            graph.checks,
-            graph.mechanisms,
-            graph.edges,
-            graph.priors.as_ptr(),
-            graph.priors.len(),
-            lists.check_var.as_ptr(),
-            lists.check_var.len(),
-            lists.check_message.as_ptr(),
-            lists.check_message.len(),
-            lists.check_offset.as_ptr(),
-            lists.check_offset.len(),
-            lists.var_check.as_ptr(),
-            lists.var_check.len(),
-            lists.var_message.as_ptr(),
-            lists.var_message.len(),
-            lists.var_offset.as_ptr(),
-            lists.var_offset.len(),
-            byte_of(config.schedule),
-            config.alpha,
-            config.gamma0,
-            config.pre_iterations,
-            config.num_legs,
-            config.leg_iterations,
-            config.gamma_range.0,
-            config.gamma_range.1,
-            config.stop_after_converged,
-            explicit,
-            sets,
-            gammas.as_ptr(),
-            gammas.len(),
-            syndrome.as_ptr(),
-            syndrome.len(),
-            seed,
-            order.as_ptr(),
-            order.len(),
-            left.leg_state.as_mut_ptr(),
-            left.leg_state.len(),
-            left.leg_steps.as_mut_ptr(),
-            left.leg_steps.len(),
-            left.leg_weight.as_mut_ptr(),
-            left.leg_weight.len(),
-            left.rows.as_mut_ptr(),
-            left.rows.len(),
-            left.correction.as_mut_ptr(),
-            left.correction.len(),
-            left.posterior.as_mut_ptr(),
-            left.posterior.len(),
-            left.gamma.as_mut_ptr(),
-            left.gamma.len(),
-            left.bias.as_mut_ptr(),
-            left.bias.len(),
-            left.c_to_v.as_mut_ptr(),
-            left.c_to_v.len(),
-            left.v_to_c.as_mut_ptr(),
-            left.v_to_c.len(),
-            &mut left.counts,
-            &mut left.weight,
-        )
-    })
+    Error::of_code(calls::decode_in_order(
+        graph_of(graph),
+        settings_of(config),
+        syndrome,
+        seed,
+        order,
+        decode_lists_of(left),
+    ))
 }
 
 /// A leg's state, iterations and weight: 2 is converged, 1 ran out, 0 not executed.
 pub fn leg_record(left: &DecodeLists, leg: usize) -> (u64, usize, f64) {
-    let mut iterations = [0];
-    let mut weight = [0.0];
-    // SAFETY: each pointer goes with its own list's length; what is written are two arrays of one, apart.
-    let state = unsafe {
-        raw::chowderkite_leg_record(
-            left.leg_state.as_ptr(),
-            left.leg_state.len(),
-            left.leg_steps.as_ptr(),
-            left.leg_steps.len(),
-            left.leg_weight.as_ptr(),
-            left.leg_weight.len(),
-            leg,
-            &mut iterations,
-            &mut weight,
-        )
-    };
-    (state, iterations[0] as usize, weight[0])
-}
-
-/// SplitMix64's state after a draw.
-pub fn next_state(state: u64) -> u64 {
-    // SAFETY: numbers alone.
-    unsafe { raw::chowderkite_next_state(state) }
-}
-
-/// SplitMix64's draw from a state.
-pub fn draw(state: u64) -> u64 {
-    // SAFETY: numbers alone.
-    unsafe { raw::chowderkite_draw(state) }
-}
-
-/// The gamma of a draw.
-pub fn gamma(low: f64, high: f64, draw: u64) -> f64 {
-    // SAFETY: numbers alone.
-    unsafe { raw::chowderkite_gamma(low, high, draw) }
+    let (state, iterations, weight) =
+        calls::leg_record(&left.leg_state, &left.leg_steps, &left.leg_weight, leg);
+    (state, iterations as usize, weight)
 }

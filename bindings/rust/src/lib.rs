@@ -74,14 +74,9 @@
 //! not flush subnormals to zero, as a program starts; C code in the same thread can change that.
 
 #![deny(missing_docs)]
-#![deny(unsafe_code)]
-#![deny(unsafe_op_in_unsafe_fn)]
-
-#[cfg(not(target_pointer_width = "64"))]
-compile_error!("the archive is for machines of 64 bits");
+#![forbid(unsafe_code)]
 
 mod error;
-#[allow(unsafe_code)]
 mod ffi;
 mod graph;
 mod iteration;

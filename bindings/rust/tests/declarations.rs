@@ -1,4 +1,4 @@
-//! The declarations in `ffi.rs` are those of the Rattle sources: a difference would not show when linking.
+//! The declarations of `chowderkite-sys` are those of the Rattle sources: a difference would not show when linking.
 
 use std::path::Path;
 use std::process::Command;

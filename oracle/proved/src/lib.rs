@@ -1,310 +1,23 @@
 //! The calls of the crate `exports`, in safe Rust, over lists of any length: the crate of `bindings/rust` makes lists that fit, and
-//! so can't ask for most refusals. `bindings/agree` compares the declarations with the Rattle sources.
+//! so can't ask for most refusals.
 
-mod raw {
-    // A slice is a pointer and then a length.
-    unsafe extern "C" {
-        pub safe fn chowderkite_magnitude(x: f64) -> f64;
-        pub safe fn chowderkite_is_finite(x: f64) -> u8;
-        pub safe fn chowderkite_is_negative(x: f64) -> u8;
-        pub safe fn chowderkite_message_sign(x: f64) -> f64;
-        pub safe fn chowderkite_wrapping_mul(a: u64, b: u64) -> u64;
-        pub safe fn chowderkite_next_state(state: u64) -> u64;
-        pub safe fn chowderkite_draw(state: u64) -> u64;
-        pub safe fn chowderkite_gamma(low: f64, high: f64, draw: u64) -> f64;
+#![forbid(unsafe_code)]
 
-        pub unsafe fn chowderkite_build_sparse(
-            checks: usize,
-            mechanisms: usize,
-            edges: usize,
-            priors: *const f64,
-            priors_len: usize,
-            detector_offsets: *const u32,
-            detector_offsets_len: usize,
-            detectors: *const u32,
-            detectors_len: usize,
-            check_var: *mut u32,
-            check_var_len: usize,
-            check_message: *mut u32,
-            check_message_len: usize,
-            check_offset: *mut u32,
-            check_offset_len: usize,
-            var_check: *mut u32,
-            var_check_len: usize,
-            var_message: *mut u32,
-            var_message_len: usize,
-            var_offset: *mut u32,
-            var_offset_len: usize,
-        ) -> u64;
-        pub unsafe fn chowderkite_count_edges(matrix: *const u8, matrix_len: usize) -> usize;
-        pub unsafe fn chowderkite_build_dense(
-            checks: usize,
-            mechanisms: usize,
-            priors: *const f64,
-            priors_len: usize,
-            matrix: *const u8,
-            matrix_len: usize,
-            check_var: *mut u32,
-            check_var_len: usize,
-            check_message: *mut u32,
-            check_message_len: usize,
-            check_offset: *mut u32,
-            check_offset_len: usize,
-            var_check: *mut u32,
-            var_check_len: usize,
-            var_message: *mut u32,
-            var_message_len: usize,
-            var_offset: *mut u32,
-            var_offset_len: usize,
-        ) -> u64;
-        pub unsafe fn chowderkite_check_graph(
-            checks: usize,
-            mechanisms: usize,
-            edges: usize,
-            priors: *const f64,
-            priors_len: usize,
-            check_var: *const u32,
-            check_var_len: usize,
-            check_message: *const u32,
-            check_message_len: usize,
-            check_offset: *const u32,
-            check_offset_len: usize,
-            var_check: *const u32,
-            var_check_len: usize,
-            var_message: *const u32,
-            var_message_len: usize,
-            var_offset: *const u32,
-            var_offset_len: usize,
-        ) -> u64;
+use chowderkite_sys::calls;
 
-        pub unsafe fn chowderkite_beliefs(
-            checks: usize,
-            mechanisms: usize,
-            edges: usize,
-            priors: *const f64,
-            priors_len: usize,
-            check_var: *const u32,
-            check_var_len: usize,
-            check_message: *const u32,
-            check_message_len: usize,
-            check_offset: *const u32,
-            check_offset_len: usize,
-            var_check: *const u32,
-            var_check_len: usize,
-            var_message: *const u32,
-            var_message_len: usize,
-            var_offset: *const u32,
-            var_offset_len: usize,
-            syndrome: *const u8,
-            syndrome_len: usize,
-            iterations: usize,
-            scale: f64,
-            serial: u8,
-            posterior: *mut f64,
-            posterior_len: usize,
-            ewa_posterior: *mut f64,
-            ewa_posterior_len: usize,
-            c_to_v: *mut f64,
-            c_to_v_len: usize,
-            v_to_c: *mut f64,
-            v_to_c_len: usize,
-        ) -> u64;
-
-        pub unsafe fn chowderkite_iteration(
-            checks: usize,
-            mechanisms: usize,
-            edges: usize,
-            priors: *const f64,
-            priors_len: usize,
-            check_var: *const u32,
-            check_var_len: usize,
-            check_message: *const u32,
-            check_message_len: usize,
-            check_offset: *const u32,
-            check_offset_len: usize,
-            var_check: *const u32,
-            var_check_len: usize,
-            var_message: *const u32,
-            var_message_len: usize,
-            var_offset: *const u32,
-            var_offset_len: usize,
-            schedule: u8,
-            alpha: f64,
-            gamma: *const f64,
-            gamma_len: usize,
-            syndrome: *const u8,
-            syndrome_len: usize,
-            order: *const u32,
-            order_len: usize,
-            c_to_v: *mut f64,
-            c_to_v_len: usize,
-            v_to_c: *mut f64,
-            v_to_c_len: usize,
-            posterior: *mut f64,
-            posterior_len: usize,
-            bias: *mut f64,
-            bias_len: usize,
-        ) -> u64;
-
-        pub unsafe fn chowderkite_published(floats: *mut [f64; 4], counts: *mut [u64; 4]);
-        pub unsafe fn chowderkite_check_settings(
-            schedule: u8,
-            alpha: f64,
-            gamma0: f64,
-            pre_iterations: usize,
-            num_legs: usize,
-            leg_iterations: usize,
-            gamma_low: f64,
-            gamma_high: f64,
-            stop_after_converged: usize,
-            explicit: u8,
-            sets: usize,
-            mechanisms: usize,
-            gammas: *const f64,
-            gammas_len: usize,
-        ) -> u64;
-        pub unsafe fn chowderkite_decode_in_order(
-            checks: usize,
-            mechanisms: usize,
-            edges: usize,
-            priors: *const f64,
-            priors_len: usize,
-            check_var: *const u32,
-            check_var_len: usize,
-            check_message: *const u32,
-            check_message_len: usize,
-            check_offset: *const u32,
-            check_offset_len: usize,
-            var_check: *const u32,
-            var_check_len: usize,
-            var_message: *const u32,
-            var_message_len: usize,
-            var_offset: *const u32,
-            var_offset_len: usize,
-            schedule: u8,
-            alpha: f64,
-            gamma0: f64,
-            pre_iterations: usize,
-            num_legs: usize,
-            leg_iterations: usize,
-            gamma_low: f64,
-            gamma_high: f64,
-            stop_after_converged: usize,
-            explicit: u8,
-            sets: usize,
-            gammas: *const f64,
-            gammas_len: usize,
-            syndrome: *const u8,
-            syndrome_len: usize,
-            seed: u64,
-            order: *const u32,
-            order_len: usize,
-            leg_state: *mut u8,
-            leg_state_len: usize,
-            leg_steps: *mut u32,
-            leg_steps_len: usize,
-            leg_weight: *mut f64,
-            leg_weight_len: usize,
-            rows: *mut u8,
-            rows_len: usize,
-            correction: *mut u8,
-            correction_len: usize,
-            posterior: *mut f64,
-            posterior_len: usize,
-            gamma: *mut f64,
-            gamma_len: usize,
-            bias: *mut f64,
-            bias_len: usize,
-            c_to_v: *mut f64,
-            c_to_v_len: usize,
-            v_to_c: *mut f64,
-            v_to_c_len: usize,
-            counts: *mut [u64; 3],
-            weight: *mut [f64; 1],
-        ) -> u64;
-        pub unsafe fn chowderkite_decode(
-            checks: usize,
-            mechanisms: usize,
-            edges: usize,
-            priors: *const f64,
-            priors_len: usize,
-            check_var: *const u32,
-            check_var_len: usize,
-            check_message: *const u32,
-            check_message_len: usize,
-            check_offset: *const u32,
-            check_offset_len: usize,
-            var_check: *const u32,
-            var_check_len: usize,
-            var_message: *const u32,
-            var_message_len: usize,
-            var_offset: *const u32,
-            var_offset_len: usize,
-            schedule: u8,
-            alpha: f64,
-            gamma0: f64,
-            pre_iterations: usize,
-            num_legs: usize,
-            leg_iterations: usize,
-            gamma_low: f64,
-            gamma_high: f64,
-            stop_after_converged: usize,
-            explicit: u8,
-            sets: usize,
-            gammas: *const f64,
-            gammas_len: usize,
-            syndrome: *const u8,
-            syndrome_len: usize,
-            seed: u64,
-            leg_state: *mut u8,
-            leg_state_len: usize,
-            leg_steps: *mut u32,
-            leg_steps_len: usize,
-            leg_weight: *mut f64,
-            leg_weight_len: usize,
-            rows: *mut u8,
-            rows_len: usize,
-            correction: *mut u8,
-            correction_len: usize,
-            posterior: *mut f64,
-            posterior_len: usize,
-            gamma: *mut f64,
-            gamma_len: usize,
-            bias: *mut f64,
-            bias_len: usize,
-            c_to_v: *mut f64,
-            c_to_v_len: usize,
-            v_to_c: *mut f64,
-            v_to_c_len: usize,
-            counts: *mut [u64; 3],
-            weight: *mut [f64; 1],
-        ) -> u64;
-        pub unsafe fn chowderkite_leg_record(
-            leg_state: *const u8,
-            leg_state_len: usize,
-            leg_steps: *const u32,
-            leg_steps_len: usize,
-            leg_weight: *const f64,
-            leg_weight_len: usize,
-            leg: usize,
-            iterations: *mut [u64; 1],
-            weight: *mut [f64; 1],
-        ) -> u64;
-    }
-}
-
-pub use raw::{
+pub use calls::count_edges;
+pub use chowderkite_sys::{
     chowderkite_draw as draw, chowderkite_gamma as gamma, chowderkite_magnitude as magnitude,
     chowderkite_message_sign as message_sign, chowderkite_next_state as next_state,
     chowderkite_wrapping_mul as wrapping_mul,
 };
 
 pub fn is_finite(x: f64) -> bool {
-    raw::chowderkite_is_finite(x) == 1
+    chowderkite_sys::chowderkite_is_finite(x) == 1
 }
 
 pub fn is_negative(x: f64) -> bool {
-    raw::chowderkite_is_negative(x) == 1
+    chowderkite_sys::chowderkite_is_negative(x) == 1
 }
 
 /// What a call answers: nothing, or a refusal's number and place in document 01's table. The place is 0 where it has none.
@@ -362,6 +75,32 @@ impl Lists {
             &mut self.var_offset,
         ]
     }
+
+    fn written(&mut self) -> calls::GraphLists<'_> {
+        calls::GraphLists {
+            check_var: &mut self.check_var,
+            check_message: &mut self.check_message,
+            check_offset: &mut self.check_offset,
+            var_check: &mut self.var_check,
+            var_message: &mut self.var_message,
+            var_offset: &mut self.var_offset,
+        }
+    }
+}
+
+fn graph_of<'a>(size: Size, priors: &'a [f64], lists: &'a Lists) -> calls::Graph<'a> {
+    calls::Graph {
+        checks: size.checks,
+        mechanisms: size.mechanisms,
+        edges: size.edges,
+        priors,
+        check_var: &lists.check_var,
+        check_message: &lists.check_message,
+        check_offset: &lists.check_offset,
+        var_check: &lists.var_check,
+        var_message: &lists.var_message,
+        var_offset: &lists.var_offset,
+    }
 }
 
 pub fn build_sparse(
@@ -371,36 +110,15 @@ pub fn build_sparse(
     detectors: &[u32],
     lists: &mut Lists,
 ) -> Answer {
-    // Each pointer comes with its own list's length, and the six written lists are lists apart.
-    answer(unsafe {
-        raw::chowderkite_build_sparse(
-            size.checks,
-            size.mechanisms,
-            size.edges,
-            priors.as_ptr(),
-            priors.len(),
-            detector_offsets.as_ptr(),
-            detector_offsets.len(),
-            detectors.as_ptr(),
-            detectors.len(),
-            lists.check_var.as_mut_ptr(),
-            lists.check_var.len(),
-            lists.check_message.as_mut_ptr(),
-            lists.check_message.len(),
-            lists.check_offset.as_mut_ptr(),
-            lists.check_offset.len(),
-            lists.var_check.as_mut_ptr(),
-            lists.var_check.len(),
-            lists.var_message.as_mut_ptr(),
-            lists.var_message.len(),
-            lists.var_offset.as_mut_ptr(),
-            lists.var_offset.len(),
-        )
-    })
-}
-
-pub fn count_edges(matrix: &[u8]) -> usize {
-    unsafe { raw::chowderkite_count_edges(matrix.as_ptr(), matrix.len()) }
+    answer(calls::build_sparse(
+        size.checks,
+        size.mechanisms,
+        size.edges,
+        priors,
+        detector_offsets,
+        detectors,
+        lists.written(),
+    ))
 }
 
 pub fn build_dense(
@@ -410,52 +128,17 @@ pub fn build_dense(
     matrix: &[u8],
     lists: &mut Lists,
 ) -> Answer {
-    answer(unsafe {
-        raw::chowderkite_build_dense(
-            checks,
-            mechanisms,
-            priors.as_ptr(),
-            priors.len(),
-            matrix.as_ptr(),
-            matrix.len(),
-            lists.check_var.as_mut_ptr(),
-            lists.check_var.len(),
-            lists.check_message.as_mut_ptr(),
-            lists.check_message.len(),
-            lists.check_offset.as_mut_ptr(),
-            lists.check_offset.len(),
-            lists.var_check.as_mut_ptr(),
-            lists.var_check.len(),
-            lists.var_message.as_mut_ptr(),
-            lists.var_message.len(),
-            lists.var_offset.as_mut_ptr(),
-            lists.var_offset.len(),
-        )
-    })
+    answer(calls::build_dense(
+        checks,
+        mechanisms,
+        priors,
+        matrix,
+        lists.written(),
+    ))
 }
 
 pub fn check_graph(size: Size, priors: &[f64], lists: &Lists) -> Answer {
-    answer(unsafe {
-        raw::chowderkite_check_graph(
-            size.checks,
-            size.mechanisms,
-            size.edges,
-            priors.as_ptr(),
-            priors.len(),
-            lists.check_var.as_ptr(),
-            lists.check_var.len(),
-            lists.check_message.as_ptr(),
-            lists.check_message.len(),
-            lists.check_offset.as_ptr(),
-            lists.check_offset.len(),
-            lists.var_check.as_ptr(),
-            lists.var_check.len(),
-            lists.var_message.as_ptr(),
-            lists.var_message.len(),
-            lists.var_offset.as_ptr(),
-            lists.var_offset.len(),
-        )
-    })
+    answer(calls::check_graph(graph_of(size, priors, lists)))
 }
 
 /// The lists that `beliefs` writes: the posterior is the result, the others are for work.
@@ -505,40 +188,20 @@ pub fn beliefs(
     run: Run,
     beliefs: &mut Beliefs,
 ) -> Answer {
-    answer(unsafe {
-        raw::chowderkite_beliefs(
-            size.checks,
-            size.mechanisms,
-            size.edges,
-            priors.as_ptr(),
-            priors.len(),
-            lists.check_var.as_ptr(),
-            lists.check_var.len(),
-            lists.check_message.as_ptr(),
-            lists.check_message.len(),
-            lists.check_offset.as_ptr(),
-            lists.check_offset.len(),
-            lists.var_check.as_ptr(),
-            lists.var_check.len(),
-            lists.var_message.as_ptr(),
-            lists.var_message.len(),
-            lists.var_offset.as_ptr(),
-            lists.var_offset.len(),
-            run.syndrome.as_ptr(),
-            run.syndrome.len(),
-            run.iterations,
-            run.scale,
-            u8::from(run.serial),
-            beliefs.posterior.as_mut_ptr(),
-            beliefs.posterior.len(),
-            beliefs.ewa_posterior.as_mut_ptr(),
-            beliefs.ewa_posterior.len(),
-            beliefs.c_to_v.as_mut_ptr(),
-            beliefs.c_to_v.len(),
-            beliefs.v_to_c.as_mut_ptr(),
-            beliefs.v_to_c.len(),
-        )
-    })
+    let [posterior, ewa_posterior, c_to_v, v_to_c] = beliefs.each();
+    answer(calls::beliefs(
+        graph_of(size, priors, lists),
+        run.syndrome,
+        run.iterations,
+        run.scale,
+        u8::from(run.serial),
+        calls::BeliefLists {
+            posterior,
+            ewa_posterior,
+            c_to_v,
+            v_to_c,
+        },
+    ))
 }
 
 /// The lists that `iteration` takes and gives back; the bias is for work.
@@ -579,43 +242,21 @@ pub fn iteration(
     iteration: Iteration,
     step: &mut Step,
 ) -> Answer {
-    answer(unsafe {
-        raw::chowderkite_iteration(
-            size.checks,
-            size.mechanisms,
-            size.edges,
-            priors.as_ptr(),
-            priors.len(),
-            lists.check_var.as_ptr(),
-            lists.check_var.len(),
-            lists.check_message.as_ptr(),
-            lists.check_message.len(),
-            lists.check_offset.as_ptr(),
-            lists.check_offset.len(),
-            lists.var_check.as_ptr(),
-            lists.var_check.len(),
-            lists.var_message.as_ptr(),
-            lists.var_message.len(),
-            lists.var_offset.as_ptr(),
-            lists.var_offset.len(),
-            u8::from(iteration.serial),
-            iteration.alpha,
-            iteration.gamma.as_ptr(),
-            iteration.gamma.len(),
-            iteration.syndrome.as_ptr(),
-            iteration.syndrome.len(),
-            iteration.order.as_ptr(),
-            iteration.order.len(),
-            step.c_to_v.as_mut_ptr(),
-            step.c_to_v.len(),
-            step.v_to_c.as_mut_ptr(),
-            step.v_to_c.len(),
-            step.posterior.as_mut_ptr(),
-            step.posterior.len(),
-            step.bias.as_mut_ptr(),
-            step.bias.len(),
-        )
-    })
+    let [c_to_v, v_to_c, posterior, bias] = step.each();
+    answer(calls::iteration(
+        graph_of(size, priors, lists),
+        u8::from(iteration.serial),
+        iteration.alpha,
+        iteration.gamma,
+        iteration.syndrome,
+        iteration.order,
+        calls::IterationLists {
+            c_to_v,
+            v_to_c,
+            posterior,
+            bias,
+        },
+    ))
 }
 
 /// The settings of Relay; `sets` where the gammas are explicit, and drawn from the seed where it is none.
@@ -633,13 +274,30 @@ pub struct Settings {
     pub sets: Option<usize>,
 }
 
+impl Settings {
+    fn with<'a>(self, gammas: &'a [f64]) -> calls::Settings<'a> {
+        calls::Settings {
+            schedule: u8::from(self.serial),
+            alpha: self.alpha,
+            gamma0: self.gamma0,
+            pre_iterations: self.pre_iterations,
+            num_legs: self.num_legs,
+            leg_iterations: self.leg_iterations,
+            gamma_low: self.low,
+            gamma_high: self.high,
+            stop_after_converged: self.stop,
+            explicit: u8::from(self.sets.is_some()),
+            sets: self.sets.unwrap_or(0),
+            gammas,
+        }
+    }
+}
+
 /// The published operating point.
 pub fn published() -> Settings {
-    let mut floats = [0.0; 4];
-    let mut counts = [0; 4];
-    unsafe { raw::chowderkite_published(&raw mut floats, &raw mut counts) };
+    let (floats, counts) = calls::published();
     let [alpha, gamma0, low, high] = floats;
-    let [pre_iterations, num_legs, leg_iterations, stop] = counts.map(|count: u64| count as usize);
+    let [pre_iterations, num_legs, leg_iterations, stop] = counts.map(|count| count as usize);
     Settings {
         serial: false,
         alpha,
@@ -656,24 +314,7 @@ pub fn published() -> Settings {
 
 /// The test of settings over as many mechanisms.
 pub fn check_settings(settings: Settings, gammas: &[f64], mechanisms: usize) -> Answer {
-    answer(unsafe {
-        raw::chowderkite_check_settings(
-            u8::from(settings.serial),
-            settings.alpha,
-            settings.gamma0,
-            settings.pre_iterations,
-            settings.num_legs,
-            settings.leg_iterations,
-            settings.low,
-            settings.high,
-            settings.stop,
-            u8::from(settings.sets.is_some()),
-            settings.sets.unwrap_or(0),
-            mechanisms,
-            gammas.as_ptr(),
-            gammas.len(),
-        )
-    })
+    answer(calls::check_settings(settings.with(gammas), mechanisms))
 }
 
 /// A decode: what is asked for beside the graph and the settings.
@@ -723,6 +364,23 @@ impl Decode {
         }
     }
 
+    fn written(&mut self) -> calls::DecodeLists<'_> {
+        calls::DecodeLists {
+            leg_state: &mut self.leg_state,
+            leg_steps: &mut self.leg_steps,
+            leg_weight: &mut self.leg_weight,
+            rows: &mut self.rows,
+            correction: &mut self.correction,
+            posterior: &mut self.posterior,
+            gamma: &mut self.gamma,
+            bias: &mut self.bias,
+            c_to_v: &mut self.c_to_v,
+            v_to_c: &mut self.v_to_c,
+            counts: &mut self.counts,
+            weight: &mut self.weight,
+        }
+    }
+
     /// Every byte of every list, for a comparison of two.
     pub fn bits(&self) -> Vec<u64> {
         let floats = [
@@ -758,145 +416,22 @@ pub fn decode(
     shot: Shot,
     left: &mut Decode,
 ) -> Answer {
+    let graph = graph_of(size, priors, lists);
+    let settings = settings.with(shot.gammas);
     answer(match shot.order {
-        Some(order) => unsafe {
-            raw::chowderkite_decode_in_order(
-                size.checks,
-                size.mechanisms,
-                size.edges,
-                priors.as_ptr(),
-                priors.len(),
-                lists.check_var.as_ptr(),
-                lists.check_var.len(),
-                lists.check_message.as_ptr(),
-                lists.check_message.len(),
-                lists.check_offset.as_ptr(),
-                lists.check_offset.len(),
-                lists.var_check.as_ptr(),
-                lists.var_check.len(),
-                lists.var_message.as_ptr(),
-                lists.var_message.len(),
-                lists.var_offset.as_ptr(),
-                lists.var_offset.len(),
-                u8::from(settings.serial),
-                settings.alpha,
-                settings.gamma0,
-                settings.pre_iterations,
-                settings.num_legs,
-                settings.leg_iterations,
-                settings.low,
-                settings.high,
-                settings.stop,
-                u8::from(settings.sets.is_some()),
-                settings.sets.unwrap_or(0),
-                shot.gammas.as_ptr(),
-                shot.gammas.len(),
-                shot.syndrome.as_ptr(),
-                shot.syndrome.len(),
-                shot.seed,
-                order.as_ptr(),
-                order.len(),
-                left.leg_state.as_mut_ptr(),
-                left.leg_state.len(),
-                left.leg_steps.as_mut_ptr(),
-                left.leg_steps.len(),
-                left.leg_weight.as_mut_ptr(),
-                left.leg_weight.len(),
-                left.rows.as_mut_ptr(),
-                left.rows.len(),
-                left.correction.as_mut_ptr(),
-                left.correction.len(),
-                left.posterior.as_mut_ptr(),
-                left.posterior.len(),
-                left.gamma.as_mut_ptr(),
-                left.gamma.len(),
-                left.bias.as_mut_ptr(),
-                left.bias.len(),
-                left.c_to_v.as_mut_ptr(),
-                left.c_to_v.len(),
-                left.v_to_c.as_mut_ptr(),
-                left.v_to_c.len(),
-                &raw mut left.counts,
-                &raw mut left.weight,
-            )
-        },
-        None => unsafe {
-            raw::chowderkite_decode(
-                size.checks,
-                size.mechanisms,
-                size.edges,
-                priors.as_ptr(),
-                priors.len(),
-                lists.check_var.as_ptr(),
-                lists.check_var.len(),
-                lists.check_message.as_ptr(),
-                lists.check_message.len(),
-                lists.check_offset.as_ptr(),
-                lists.check_offset.len(),
-                lists.var_check.as_ptr(),
-                lists.var_check.len(),
-                lists.var_message.as_ptr(),
-                lists.var_message.len(),
-                lists.var_offset.as_ptr(),
-                lists.var_offset.len(),
-                u8::from(settings.serial),
-                settings.alpha,
-                settings.gamma0,
-                settings.pre_iterations,
-                settings.num_legs,
-                settings.leg_iterations,
-                settings.low,
-                settings.high,
-                settings.stop,
-                u8::from(settings.sets.is_some()),
-                settings.sets.unwrap_or(0),
-                shot.gammas.as_ptr(),
-                shot.gammas.len(),
-                shot.syndrome.as_ptr(),
-                shot.syndrome.len(),
-                shot.seed,
-                left.leg_state.as_mut_ptr(),
-                left.leg_state.len(),
-                left.leg_steps.as_mut_ptr(),
-                left.leg_steps.len(),
-                left.leg_weight.as_mut_ptr(),
-                left.leg_weight.len(),
-                left.rows.as_mut_ptr(),
-                left.rows.len(),
-                left.correction.as_mut_ptr(),
-                left.correction.len(),
-                left.posterior.as_mut_ptr(),
-                left.posterior.len(),
-                left.gamma.as_mut_ptr(),
-                left.gamma.len(),
-                left.bias.as_mut_ptr(),
-                left.bias.len(),
-                left.c_to_v.as_mut_ptr(),
-                left.c_to_v.len(),
-                left.v_to_c.as_mut_ptr(),
-                left.v_to_c.len(),
-                &raw mut left.counts,
-                &raw mut left.weight,
-            )
-        },
+        Some(order) => calls::decode_in_order(
+            graph,
+            settings,
+            shot.syndrome,
+            shot.seed,
+            order,
+            left.written(),
+        ),
+        None => calls::decode(graph, settings, shot.syndrome, shot.seed, left.written()),
     })
 }
 
 /// A leg's state (2 converged, 1 ran out, 0 not executed), iterations and weight.
 pub fn leg_record(left: &Decode, leg: usize) -> (u64, u64, f64) {
-    let (mut iterations, mut weight) = ([0], [0.0]);
-    let state = unsafe {
-        raw::chowderkite_leg_record(
-            left.leg_state.as_ptr(),
-            left.leg_state.len(),
-            left.leg_steps.as_ptr(),
-            left.leg_steps.len(),
-            left.leg_weight.as_ptr(),
-            left.leg_weight.len(),
-            leg,
-            &raw mut iterations,
-            &raw mut weight,
-        )
-    };
-    (state, iterations[0], weight[0])
+    calls::leg_record(&left.leg_state, &left.leg_steps, &left.leg_weight, leg)
 }

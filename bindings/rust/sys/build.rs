@@ -25,7 +25,7 @@ fn main() {
 
 /// The path of the archive, made anew where the sources are younger.
 fn made() -> PathBuf {
-    let root = Path::new(env!("CARGO_MANIFEST_DIR")).join("../..");
+    let root = Path::new(env!("CARGO_MANIFEST_DIR")).join("../../..");
     for part in ["crates", "crates.txt", "tools/nativelib"] {
         println!("cargo:rerun-if-changed={}", root.join(part).display());
     }
