@@ -3,12 +3,14 @@ use Prim.Native.Nat.{ℕ, _≤_}
 use mathlib.Core.Path.{_≡_, refl, sym, ap, _∙_}
 use mathlib.Core.Bool.{false}
 use mathlib.Core.List.{List, _++_}
-use lib.ListN.{length}
+use lib.ListN.{length, take, drop}
+use lib.Seq.{take-append-seam}
 use Rattle.records.specs.Stream.{AreBytes, Rec, AllSayable, stream, isComplete}
-use Rattle.records.specs.Reading.{fresh, held, fed}
+use Rattle.records.specs.Reading.{fresh, held, fed, keptOf}
 use Rattle.session.specs.declared.Session.{Session}
 use Rattle.session.specs.Shots.{Left, start, byteTaken, endText, written}
 use Rattle.session.specs.Text.{recordsText}
+use Rattle.stream_laws.proofs.Kept.{kept-front}
 use Rattle.stream_laws.proofs.Theorems.{told-apart, meets}
 use Rattle.stream_laws.proofs.Written.{metText, written-met}
 use Rattle.stream_laws.proofs.Ended.{ends-at, met-told}
@@ -43,6 +45,10 @@ every-input xs room model line f l =
       cut = t .cut;
       text = ap (λ ys. written ys start room model line) (t .same) ∙ writes (t .records) (t .rest) room model line (t .sayable) (t .bytes) (t .cut) l;
     }
+
+-- "Later models and settings replace earlier ones": a model that finds room is kept whole, so the shots behind it are decoded over its very payload
+pub keeps-the-model : (p model : List ℕ) → length p ≤ length model → take (length p) (keptOf p model) ≡ p
+keeps-the-model p model h = rw (kept-front p model h) (take-append-seam p (drop (length p) model))
 
 -- ---- two results that a contract allows coincide
 
