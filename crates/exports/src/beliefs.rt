@@ -5,7 +5,7 @@ ghost use lib.Dec.{eqb};
 ghost use Rattle.graph.specs.Graph.{graph as graphOf};
 ghost use Rattle.min_sum.specs.Beliefs.{lists, beliefs as beliefsOf};
 ghost use Rattle.exports.specs.Answers.{left, leftBy};
-use crate::answers::code;
+use codes_core::answers::code;
 use graph::Size;
 
 // `min_sum::beliefs`.

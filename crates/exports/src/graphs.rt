@@ -2,8 +2,9 @@
 ghost use mathlib.Core.Path.{_≡_};
 ghost use Rattle.graph.specs.Graph.{graph as graphOf};
 ghost use Rattle.graph.specs.Model.{buildSparse, countEdges, buildDense, graphFault};
-ghost use Rattle.exports.specs.Answers.{codeOf, sent, sentOf};
-use crate::answers::code;
+ghost use Rattle.codes_core.specs.Codes.{codeOf};
+ghost use Rattle.exports.specs.Answers.{sent, sentOf};
+use codes_core::answers::code;
 use graph::Size;
 
 // `graph::build_sparse`.

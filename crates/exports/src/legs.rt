@@ -1,45 +1,8 @@
 // The reading of a leg's record. Its state passes as the answer: 2 converged, 1 ran out, 0 not executed; iterations and weight go into lists of one.
 ghost use mathlib.Core.Path.{_≡_};
 ghost use mathlib.Core.List.{[], _∷_};
-ghost use lib.ListN.{length};
 ghost use Rattle.calls_core.specs.Calls.{legRecord, valuesOf};
-use relay::LegRecord;
-
-// A count and a weight, written.
-fn put_one(n: usize, w: f64, iterations: &mut [u64], weight: &mut [f64])
-    requires { ⌜ (length (now iterations) ≡ 1) × (length (now weight) ≡ 1) ⌝ }
-    ensures iterations { λ _. ⌜ now (iterations .exit) ≡ n ∷ [] ⌝ }
-    ensures weight { λ _. ⌜ now (weight .exit) ≡ w ∷ [] ⌝ }
-{
-    iterations[0] = n as u64;
-    weight[0] = w;
-}
-
-// A record by its values.
-fn tell_record(found: LegRecord, iterations: &mut [u64], weight: &mut [f64]) -> u64
-    requires { ⌜ (length (now iterations) ≡ 1) × (length (now weight) ≡ 1) ⌝ }
-    ensures state { λ r. ⌜ r ≡ valuesOf found .legState ⌝ }
-    ensures iterations { λ _. ⌜ now (iterations .exit) ≡ valuesOf found .legIterations ∷ [] ⌝ }
-    ensures weight { λ _. ⌜ now (weight .exit) ≡ valuesOf found .legWeight ∷ [] ⌝ }
-{
-    match found {
-        LegRecord::Converged {
-            weight: w,
-            iterations: n,
-        } => {
-            put_one(n, w, iterations, weight);
-            2
-        }
-        LegRecord::RanOut { iterations: n } => {
-            put_one(n, 0.0, iterations, weight);
-            1
-        }
-        LegRecord::NotExecuted => {
-            put_one(0, 0.0, iterations, weight);
-            0
-        }
-    }
-}
+use codes_core::told::tell_record;
 
 // `relay::leg_record`.
 #[no_mangle]

@@ -1,6 +1,5 @@
 // The public calls with the C calling convention: numbers and slices only, each thin and with its contract. A slice passes as a
 // pointer and then a length. A bool passes as 1 or 0, an answer as its code. The calls of `numbers` stand here.
-mod answers;
 mod beliefs;
 mod decodes;
 mod graphs;
@@ -11,8 +10,8 @@ mod steps;
 ghost use mathlib.Core.Path.{_≡_};
 ghost use Rattle.numbers.specs.Floats.{abs, isFinite, isNegative, messageSign};
 ghost use Rattle.numbers.specs.Draw.{product, advanced, mixed, gamma as gammaOf};
-ghost use Rattle.exports.specs.Answers.{bitOf};
-use answers::bit;
+ghost use Rattle.codes_core.specs.Codes.{bitOf};
+use codes_core::answers::bit;
 use numbers::SplitMix64;
 
 // `numbers::magnitude`.

@@ -3,20 +3,11 @@ ghost use mathlib.Core.Path.{_≡_};
 ghost use Rattle.graph.specs.Graph.{graph as graphOf};
 ghost use Rattle.relay_core.specs.Step.{state};
 ghost use Rattle.calls_core.specs.Calls.{stepLists, iterationCall};
-ghost use Rattle.exports.specs.Answers.{scheduleOf, stepLeft, stepLeftBy};
-use crate::answers::code;
+ghost use Rattle.codes_core.specs.Codes.{scheduleOf};
+ghost use Rattle.exports.specs.Answers.{stepLeft, stepLeftBy};
+use codes_core::answers::code;
+use codes_core::given::schedule_of;
 use graph::Size;
-use settings::Schedule;
-
-// The schedule of a byte.
-pub(crate) fn schedule_of(byte: u8) -> Schedule
-    ensures { λ r. ⌜ r ≡ scheduleOf byte ⌝ }
-{
-    if byte == 0 {
-        return Schedule::Flooding;
-    }
-    Schedule::CheckSerial
-}
 
 // `relay::iteration`.
 #[no_mangle]

@@ -1,7 +1,7 @@
 -- `exports::chowderkite_is_negative` meets its contract: it answers the bit of the test.
 -- Assumes nothing.
 use mathlib.Core.Path.{_∙_, ap}
-use Rattle.exports.specs.Answers.{bitOf}
+use Rattle.codes_core.specs.Codes.{bitOf}
 use borrow.Author.Needs.{needs}
 use Rattle.exports.proofs.chowderkite_is_negative.Statement.{statement}
 use Rattle.exports.proofs.chowderkite_is_negative.Tie as tie

@@ -1,6 +1,6 @@
 -- `exports::graphs::chowderkite_check_graph` meets its contract: the code of what `graph::check_graph` answers. Assumes nothing.
 use mathlib.Core.Path.{ap, _∙_}
-use Rattle.exports.specs.Answers.{codeOf}
+use Rattle.codes_core.specs.Codes.{codeOf}
 use borrow.Author.Needs.{needs}
 use Rattle.exports.proofs.graphs.chowderkite_check_graph.Statement.{statement}
 use Rattle.exports.proofs.graphs.chowderkite_check_graph.Tie as tie
