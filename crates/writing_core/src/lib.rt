@@ -1,5 +1,9 @@
-// A session whose lines are written to standard output, for `shots` and for `replay_shots`, which runs it over many streams. It is proved safe, and says no more: what is
-// written is what `session` says.
+// A session whose lines are written to standard output, for `shots` and for `replay_shots`, which runs it over many streams. The contracts say what
+// is left in the session and the lists; what is written is the front of the line, as `session` says.
+ghost use mathlib.Core.Path.{_≡_};
+ghost use Rattle.numbers.specs.Loops.{over};
+ghost use Rattle.session.specs.Shots.{told, taken, left, byteTaken, endText};
+ghost use Rattle.writing_core.specs.Pieces.{pieceTaken};
 use libc::STDOUT_FILENO;
 use session::Session;
 
@@ -17,7 +21,9 @@ fn heard(
     payload: &mut [u8],
     model: &mut [u8],
     line: &mut [u8; 512],
-) -> Session {
+) -> Session
+    ensures { λ x. ⌜ left (taken (told x (now (line .exit))) (now (model .exit))) (now (payload .exit)) ≡ byteTaken s byte (now (payload .entry)) (now (model .entry)) (now (line .entry)) ⌝ }
+{
     let next = session::take(s, byte, payload, model, line);
     say(line, next.said);
     next
@@ -30,7 +36,9 @@ pub fn piece(
     payload: &mut [u8],
     model: &mut [u8],
     line: &mut [u8; 512],
-) -> Session {
+) -> Session
+    ensures { λ x. ⌜ left (taken (told x (now (line .exit))) (now (model .exit))) (now (payload .exit)) ≡ pieceTaken (now (bytes .entry)) (left (taken (told before (now (line .entry))) (now (model .entry))) (now (payload .entry))) ⌝ }
+{
     let mut s = before;
     let mut i = 0;
     while i < bytes.len() {
@@ -41,7 +49,9 @@ pub fn piece(
 }
 
 // The end of the input.
-pub fn end(s: Session, line: &mut [u8; 512]) {
+pub fn end(s: Session, line: &mut [u8; 512])
+    ensures { λ _. ⌜ now (line .exit) ≡ over (endText s) (now (line .entry)) ⌝ }
+{
     let n = session::finish(s, line);
     say(line, n);
 }
