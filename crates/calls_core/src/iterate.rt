@@ -1,12 +1,13 @@
 // Past the tests of a single iteration: the step, 30 with the first mechanism that has a value that is not finite, and the lists that are zeroed.
 use messages_core::at;
 use messages_core::clear;
-use numbers::both;
 use numbers::is_finite;
 use refusals::Answer;
 use refusals::Refusal;
 use relay_core::step::step;
 use settings::Schedule;
+use tests_core::both;
+use tests_core::is_done;
 ghost use mathlib.Core.Path.{_≡_};
 ghost use mathlib.Core.List.{[]};
 ghost use Prim.Native.Nat.{_<_};
@@ -91,7 +92,7 @@ fn ended(
     ensures left { λ r. ⌜ state (now («c_to_v» .exit)) (now («v_to_c» .exit)) (now (posterior .exit)) ≡ unlessRefused r (state (now («c_to_v» .entry)) (now («v_to_c» .entry)) (now (posterior .entry))) (state (replicate (length (now («c_to_v» .entry))) zero⁺) (replicate (length (now («v_to_c» .entry))) zero⁺) (replicate (length (now (posterior .entry))) zero⁺)) ⌝ }
 {
     let a = step_end(var_message, var_offset, c_to_v, v_to_c, posterior);
-    if refusals::is_done(a) {
+    if is_done(a) {
         return a;
     }
     clear(c_to_v);

@@ -1,13 +1,14 @@
 // The tests before a single iteration, in document 01's order, and those of a syndrome.
-use numbers::both;
 use numbers::is_finite;
-use numbers::same_number;
 use orders_core::names_fault;
 use refusals::Answer;
 use refusals::Refusal;
-use refusals::or_else;
-use refusals::unless;
 use settings::alpha_good;
+use tests_core::both;
+use tests_core::is_done;
+use tests_core::or_else;
+use tests_core::same_number;
+use tests_core::unless;
 ghost use mathlib.Core.Path.{_≡_};
 ghost use mathlib.Core.Bool.{_&&_};
 ghost use Prim.Native.Nat.{_≤_};
@@ -169,7 +170,7 @@ pub fn fault(
         var_message,
         var_offset,
     );
-    if !refusals::is_done(a) {
+    if !is_done(a) {
         return a;
     }
     step_fault(

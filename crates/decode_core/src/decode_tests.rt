@@ -1,18 +1,19 @@
 // The tests before a decode, in document 01's order.
 use calls_core::tests::syndrome_fault;
-use numbers::at_most;
-use numbers::both;
-use numbers::same_number;
 use orders_core::exchange_fault;
 use orders_core::is_index_order;
 use orders_core::names_fault;
 use refusals::Answer;
 use refusals::Refusal;
-use refusals::or_else;
-use refusals::unless;
 use settings::Schedule;
 use settings::Settings;
 use settings::check_settings;
+use tests_core::at_most;
+use tests_core::both;
+use tests_core::is_done;
+use tests_core::or_else;
+use tests_core::same_number;
+use tests_core::unless;
 ghost use mathlib.Core.Path.{_≡_};
 ghost use mathlib.Core.Bool.{_&&_};
 ghost use mathlib.Core.List.{[]};
@@ -113,11 +114,11 @@ pub fn shot_fault(
         var_message,
         var_offset,
     );
-    if !refusals::is_done(a) {
+    if !is_done(a) {
         return a;
     }
     let b = check_settings(t, size.mechanisms, gammas);
-    if !refusals::is_done(b) {
+    if !is_done(b) {
         return b;
     }
     let records = legs_fit(
@@ -161,7 +162,7 @@ fn order_fault(
         return Answer::Done;
     }
     let a = names_fault(checks, order);
-    if !refusals::is_done(a) {
+    if !is_done(a) {
         return a;
     }
     exchange_fault(schedule, checks, check_var, check_offset, order)
@@ -218,7 +219,7 @@ pub fn decode_fault(
         c_to_v,
         v_to_c,
     );
-    if !refusals::is_done(a) {
+    if !is_done(a) {
         return a;
     }
     order_fault(schedule, size.checks, check_var, check_offset, order)

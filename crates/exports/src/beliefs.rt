@@ -4,9 +4,7 @@ ghost use mathlib.Core.Bool.{not};
 ghost use lib.Dec.{eqb};
 ghost use Rattle.graph.specs.Graph.{graph as graphOf};
 ghost use Rattle.min_sum.specs.Beliefs.{lists, beliefs as beliefsOf};
-ghost use Rattle.exports.specs.Answers.{left, leftBy};
-use codes_core::answers::code;
-use graph::Size;
+ghost use Rattle.handing_core.specs.Answers.{left, leftBy};
 
 // `min_sum::beliefs`.
 #[no_mangle]
@@ -32,13 +30,10 @@ pub extern "C" fn chowderkite_beliefs(
 ) -> u64
     ensures { λ r. ⌜ left r (lists (now (posterior .exit)) (now («ewa_posterior» .exit)) (now («c_to_v» .exit)) (now («v_to_c» .exit))) ≡ leftBy (beliefsOf edges (now (priors .entry)) (graphOf checks mechanisms (now («check_var» .entry)) (now («check_message» .entry)) (now («check_offset» .entry)) (now («var_check» .entry)) (now («var_message» .entry)) (now («var_offset» .entry))) (now (syndrome .entry)) iterations scale (not (eqb serial 0)) (lists (now (posterior .entry)) (now («ewa_posterior» .entry)) (now («c_to_v» .entry)) (now («v_to_c» .entry)))) ⌝ }
 {
-    let size = Size {
-        checks: checks,
-        mechanisms: mechanisms,
-        edges: edges,
-    };
-    code(min_sum::beliefs(
-        size,
+    handing_core::beliefs::beliefs(
+        checks,
+        mechanisms,
+        edges,
         priors,
         check_var,
         check_message,
@@ -49,10 +44,10 @@ pub extern "C" fn chowderkite_beliefs(
         syndrome,
         iterations,
         scale,
-        serial != 0,
+        serial,
         posterior,
         ewa_posterior,
         c_to_v,
         v_to_c,
-    ))
+    )
 }

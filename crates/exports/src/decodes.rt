@@ -6,11 +6,7 @@ ghost use Rattle.graph.specs.Graph.{graph as graphOf};
 ghost use Rattle.settings.specs.Settings.{settingsFault};
 ghost use Rattle.calls_core.specs.Calls.{decode as decodeOf, decodeInOrder};
 ghost use Rattle.codes_core.specs.Codes.{settingsOf, codeOf};
-ghost use Rattle.exports.specs.Answers.{listsOf, decodeLeft, decodeLeftBy};
-use codes_core::answers::code;
-use codes_core::given::settings_of;
-use codes_core::told::tell;
-use graph::Size;
+ghost use Rattle.handing_core.specs.Answers.{listsOf, decodeLeft, decodeLeftBy};
 
 // `settings::check_settings`.
 #[no_mangle]
@@ -31,7 +27,7 @@ pub extern "C" fn chowderkite_check_settings(
 ) -> u64
     ensures { λ r. ⌜ r ≡ codeOf (settingsFault (settingsOf schedule alpha gamma0 «pre_iterations» «num_legs» «leg_iterations» «gamma_low» «gamma_high» «stop_after_converged» explicit sets) mechanisms (now (gammas .entry))) ⌝ }
 {
-    let t = settings_of(
+    handing_core::decodes::check_settings(
         schedule,
         alpha,
         gamma0,
@@ -43,8 +39,9 @@ pub extern "C" fn chowderkite_check_settings(
         stop_after_converged,
         explicit,
         sets,
-    );
-    code(settings::check_settings(t, mechanisms, gammas))
+        mechanisms,
+        gammas,
+    )
 }
 
 // `relay::decode_in_order`.
@@ -90,12 +87,17 @@ pub extern "C" fn chowderkite_decode_in_order(
 ) -> u64
     ensures { λ r. ⌜ decodeLeft r (now (counts .exit)) (now (weight .exit)) (listsOf (now («leg_state» .exit)) (now («leg_steps» .exit)) (now («leg_weight» .exit)) (now (rows .exit)) (now (correction .exit)) (now (posterior .exit)) (now (gamma .exit)) (now (bias .exit)) (now («c_to_v» .exit)) (now («v_to_c» .exit))) ≡ decodeLeftBy (decodeInOrder edges (record { graph = graphOf checks mechanisms (now («check_var» .entry)) (now («check_message» .entry)) (now («check_offset» .entry)) (now («var_check» .entry)) (now («var_message» .entry)) (now («var_offset» .entry)); prior = now (priors .entry); settings = settingsOf schedule alpha gamma0 «pre_iterations» «num_legs» «leg_iterations» «gamma_low» «gamma_high» «stop_after_converged» explicit sets; gammas = now (gammas .entry); order = now (order .entry); syndrome = now (syndrome .entry); seed = seed }) (listsOf (now («leg_state» .entry)) (now («leg_steps» .entry)) (now («leg_weight» .entry)) (now (rows .entry)) (now (correction .entry)) (now (posterior .entry)) (now (gamma .entry)) (now (bias .entry)) (now («c_to_v» .entry)) (now («v_to_c» .entry)))) (now (counts .entry)) (now (weight .entry)) ⌝ }
 {
-    let size = Size {
-        checks: checks,
-        mechanisms: mechanisms,
-        edges: edges,
-    };
-    let settings = settings_of(
+    handing_core::decodes::decode_in_order(
+        checks,
+        mechanisms,
+        edges,
+        priors,
+        check_var,
+        check_message,
+        check_offset,
+        var_check,
+        var_message,
+        var_offset,
         schedule,
         alpha,
         gamma0,
@@ -107,17 +109,6 @@ pub extern "C" fn chowderkite_decode_in_order(
         stop_after_converged,
         explicit,
         sets,
-    );
-    let decoded = relay::decode_in_order(
-        size,
-        priors,
-        check_var,
-        check_message,
-        check_offset,
-        var_check,
-        var_message,
-        var_offset,
-        settings,
         gammas,
         syndrome,
         seed,
@@ -132,8 +123,9 @@ pub extern "C" fn chowderkite_decode_in_order(
         bias,
         c_to_v,
         v_to_c,
-    );
-    tell(decoded, counts, weight)
+        counts,
+        weight,
+    )
 }
 
 // `relay::decode`.
@@ -178,12 +170,17 @@ pub extern "C" fn chowderkite_decode(
 ) -> u64
     ensures { λ r. ⌜ decodeLeft r (now (counts .exit)) (now (weight .exit)) (listsOf (now («leg_state» .exit)) (now («leg_steps» .exit)) (now («leg_weight» .exit)) (now (rows .exit)) (now (correction .exit)) (now (posterior .exit)) (now (gamma .exit)) (now (bias .exit)) (now («c_to_v» .exit)) (now («v_to_c» .exit))) ≡ decodeLeftBy (decodeOf edges (record { graph = graphOf checks mechanisms (now («check_var» .entry)) (now («check_message» .entry)) (now («check_offset» .entry)) (now («var_check» .entry)) (now («var_message» .entry)) (now («var_offset» .entry)); prior = now (priors .entry); settings = settingsOf schedule alpha gamma0 «pre_iterations» «num_legs» «leg_iterations» «gamma_low» «gamma_high» «stop_after_converged» explicit sets; gammas = now (gammas .entry); order = []; syndrome = now (syndrome .entry); seed = seed }) (listsOf (now («leg_state» .entry)) (now («leg_steps» .entry)) (now («leg_weight» .entry)) (now (rows .entry)) (now (correction .entry)) (now (posterior .entry)) (now (gamma .entry)) (now (bias .entry)) (now («c_to_v» .entry)) (now («v_to_c» .entry)))) (now (counts .entry)) (now (weight .entry)) ⌝ }
 {
-    let size = Size {
-        checks: checks,
-        mechanisms: mechanisms,
-        edges: edges,
-    };
-    let settings = settings_of(
+    handing_core::decodes::decode(
+        checks,
+        mechanisms,
+        edges,
+        priors,
+        check_var,
+        check_message,
+        check_offset,
+        var_check,
+        var_message,
+        var_offset,
         schedule,
         alpha,
         gamma0,
@@ -195,17 +192,6 @@ pub extern "C" fn chowderkite_decode(
         stop_after_converged,
         explicit,
         sets,
-    );
-    let decoded = relay::decode(
-        size,
-        priors,
-        check_var,
-        check_message,
-        check_offset,
-        var_check,
-        var_message,
-        var_offset,
-        settings,
         gammas,
         syndrome,
         seed,
@@ -219,6 +205,7 @@ pub extern "C" fn chowderkite_decode(
         bias,
         c_to_v,
         v_to_c,
-    );
-    tell(decoded, counts, weight)
+        counts,
+        weight,
+    )
 }

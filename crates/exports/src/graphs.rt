@@ -3,9 +3,7 @@ ghost use mathlib.Core.Path.{_≡_};
 ghost use Rattle.graph.specs.Graph.{graph as graphOf};
 ghost use Rattle.graph.specs.Model.{buildSparse, countEdges, buildDense, graphFault};
 ghost use Rattle.codes_core.specs.Codes.{codeOf};
-ghost use Rattle.exports.specs.Answers.{sent, sentOf};
-use codes_core::answers::code;
-use graph::Size;
+ghost use Rattle.handing_core.specs.Answers.{sent, sentOf};
 
 // `graph::build_sparse`.
 #[no_mangle]
@@ -25,13 +23,10 @@ pub extern "C" fn chowderkite_build_sparse(
 ) -> u64
     ensures { λ r. ⌜ sent r (graphOf checks mechanisms (now («check_var» .exit)) (now («check_message» .exit)) (now («check_offset» .exit)) (now («var_check» .exit)) (now («var_message» .exit)) (now («var_offset» .exit))) ≡ sentOf (buildSparse edges (now (priors .entry)) (now («detector_offsets» .entry)) (now (detectors .entry)) (graphOf checks mechanisms (now («check_var» .entry)) (now («check_message» .entry)) (now («check_offset» .entry)) (now («var_check» .entry)) (now («var_message» .entry)) (now («var_offset» .entry)))) ⌝ }
 {
-    let size = Size {
-        checks: checks,
-        mechanisms: mechanisms,
-        edges: edges,
-    };
-    code(graph::build_sparse(
-        size,
+    handing_core::graphs::build_sparse(
+        checks,
+        mechanisms,
+        edges,
         priors,
         detector_offsets,
         detectors,
@@ -41,7 +36,7 @@ pub extern "C" fn chowderkite_build_sparse(
         var_check,
         var_message,
         var_offset,
-    ))
+    )
 }
 
 // `graph::count_edges`.
@@ -68,7 +63,7 @@ pub extern "C" fn chowderkite_build_dense(
 ) -> u64
     ensures { λ r. ⌜ sent r (graphOf checks mechanisms (now («check_var» .exit)) (now («check_message» .exit)) (now («check_offset» .exit)) (now («var_check» .exit)) (now («var_message» .exit)) (now («var_offset» .exit))) ≡ sentOf (buildDense (now (priors .entry)) (now (matrix .entry)) (graphOf checks mechanisms (now («check_var» .entry)) (now («check_message» .entry)) (now («check_offset» .entry)) (now («var_check» .entry)) (now («var_message» .entry)) (now («var_offset» .entry)))) ⌝ }
 {
-    code(graph::build_dense(
+    handing_core::graphs::build_dense(
         checks,
         mechanisms,
         priors,
@@ -79,7 +74,7 @@ pub extern "C" fn chowderkite_build_dense(
         var_check,
         var_message,
         var_offset,
-    ))
+    )
 }
 
 // `graph::check_graph`.
@@ -98,13 +93,10 @@ pub extern "C" fn chowderkite_check_graph(
 ) -> u64
     ensures { λ r. ⌜ r ≡ codeOf (graphFault edges (now (priors .entry)) (graphOf checks mechanisms (now («check_var» .entry)) (now («check_message» .entry)) (now («check_offset» .entry)) (now («var_check» .entry)) (now («var_message» .entry)) (now («var_offset» .entry)))) ⌝ }
 {
-    let size = Size {
-        checks: checks,
-        mechanisms: mechanisms,
-        edges: edges,
-    };
-    code(graph::check_graph(
-        size,
+    handing_core::graphs::check_graph(
+        checks,
+        mechanisms,
+        edges,
         priors,
         check_var,
         check_message,
@@ -112,5 +104,5 @@ pub extern "C" fn chowderkite_check_graph(
         var_check,
         var_message,
         var_offset,
-    ))
+    )
 }

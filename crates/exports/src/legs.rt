@@ -2,7 +2,6 @@
 ghost use mathlib.Core.Path.{_≡_};
 ghost use mathlib.Core.List.{[], _∷_};
 ghost use Rattle.calls_core.specs.Calls.{legRecord, valuesOf};
-use codes_core::told::tell_record;
 
 // `relay::leg_record`.
 #[no_mangle]
@@ -18,6 +17,5 @@ pub extern "C" fn chowderkite_leg_record(
     ensures iterations { λ _. ⌜ now (iterations .exit) ≡ valuesOf (legRecord (now («leg_state» .entry)) (now («leg_steps» .entry)) (now («leg_weight» .entry)) leg) .legIterations ∷ [] ⌝ }
     ensures weight { λ _. ⌜ now (weight .exit) ≡ valuesOf (legRecord (now («leg_state» .entry)) (now («leg_steps» .entry)) (now («leg_weight» .entry)) leg) .legWeight ∷ [] ⌝ }
 {
-    let found = relay::leg_record(leg_state, leg_steps, leg_weight, leg);
-    tell_record(found, iterations, weight)
+    handing_core::legs::leg_record(leg_state, leg_steps, leg_weight, leg, iterations, weight)
 }

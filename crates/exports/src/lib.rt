@@ -1,4 +1,4 @@
-// The public calls with the C calling convention: numbers and slices only, each thin and with its contract. A slice passes as a
+// The public calls with the C calling convention: numbers and slices only, each one call and with its contract. A slice passes as a
 // pointer and then a length. A bool passes as 1 or 0, an answer as its code. The calls of `numbers` stand here.
 mod beliefs;
 mod decodes;
@@ -11,8 +11,7 @@ ghost use mathlib.Core.Path.{_≡_};
 ghost use Rattle.numbers.specs.Floats.{abs, isFinite, isNegative, messageSign};
 ghost use Rattle.numbers.specs.Draw.{product, advanced, mixed, gamma as gammaOf};
 ghost use Rattle.codes_core.specs.Codes.{bitOf};
-use codes_core::answers::bit;
-use numbers::SplitMix64;
+use handing_core::floats;
 
 // `numbers::magnitude`.
 #[no_mangle]
@@ -27,7 +26,7 @@ pub extern "C" fn chowderkite_magnitude(x: f64) -> f64
 pub extern "C" fn chowderkite_is_finite(x: f64) -> u8
     ensures { λ r. ⌜ r ≡ bitOf (isFinite x) ⌝ }
 {
-    bit(numbers::is_finite(x))
+    floats::is_finite(x)
 }
 
 // `numbers::is_negative`.
@@ -35,7 +34,7 @@ pub extern "C" fn chowderkite_is_finite(x: f64) -> u8
 pub extern "C" fn chowderkite_is_negative(x: f64) -> u8
     ensures { λ r. ⌜ r ≡ bitOf (isNegative x) ⌝ }
 {
-    bit(numbers::is_negative(x))
+    floats::is_negative(x)
 }
 
 // `numbers::message_sign`.
@@ -59,9 +58,7 @@ pub extern "C" fn chowderkite_wrapping_mul(a: u64, b: u64) -> u64
 pub extern "C" fn chowderkite_next_state(state: u64) -> u64
     ensures { λ r. ⌜ r ≡ advanced state ⌝ }
 {
-    let drawn = SplitMix64::new(state).draw();
-    let next = drawn.next;
-    next.state
+    floats::next_state(state)
 }
 
 // The draw from a state.
@@ -69,8 +66,7 @@ pub extern "C" fn chowderkite_next_state(state: u64) -> u64
 pub extern "C" fn chowderkite_draw(state: u64) -> u64
     ensures { λ r. ⌜ r ≡ mixed (advanced state) ⌝ }
 {
-    let drawn = SplitMix64::new(state).draw();
-    drawn.value
+    floats::draw(state)
 }
 
 // `numbers::gamma`.

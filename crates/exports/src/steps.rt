@@ -4,10 +4,7 @@ ghost use Rattle.graph.specs.Graph.{graph as graphOf};
 ghost use Rattle.relay_core.specs.Step.{state};
 ghost use Rattle.calls_core.specs.Calls.{stepLists, iterationCall};
 ghost use Rattle.codes_core.specs.Codes.{scheduleOf};
-ghost use Rattle.exports.specs.Answers.{stepLeft, stepLeftBy};
-use codes_core::answers::code;
-use codes_core::given::schedule_of;
-use graph::Size;
+ghost use Rattle.handing_core.specs.Answers.{stepLeft, stepLeftBy};
 
 // `relay::iteration`.
 #[no_mangle]
@@ -34,13 +31,10 @@ pub extern "C" fn chowderkite_iteration(
 ) -> u64
     ensures { λ r. ⌜ stepLeft r (stepLists (state (now («c_to_v» .exit)) (now («v_to_c» .exit)) (now (posterior .exit))) (now (bias .exit))) ≡ stepLeftBy (iterationCall edges (now (priors .entry)) (graphOf checks mechanisms (now («check_var» .entry)) (now («check_message» .entry)) (now («check_offset» .entry)) (now («var_check» .entry)) (now («var_message» .entry)) (now («var_offset» .entry))) (scheduleOf schedule) alpha (now (gamma .entry)) (now (syndrome .entry)) (now (order .entry)) (stepLists (state (now («c_to_v» .entry)) (now («v_to_c» .entry)) (now (posterior .entry))) (now (bias .entry)))) ⌝ }
 {
-    let size = Size {
-        checks: checks,
-        mechanisms: mechanisms,
-        edges: edges,
-    };
-    code(relay::iteration(
-        size,
+    handing_core::steps::iteration(
+        checks,
+        mechanisms,
+        edges,
         priors,
         check_var,
         check_message,
@@ -48,7 +42,7 @@ pub extern "C" fn chowderkite_iteration(
         var_check,
         var_message,
         var_offset,
-        schedule_of(schedule),
+        schedule,
         alpha,
         gamma,
         syndrome,
@@ -57,5 +51,5 @@ pub extern "C" fn chowderkite_iteration(
         v_to_c,
         posterior,
         bias,
-    ))
+    )
 }

@@ -16,12 +16,12 @@ use model::lists_fit;
 use model::priors_fault;
 use model::sizes_good;
 use model::sparse_fault;
-use numbers::both;
-use numbers::same_number;
 use refusals::Answer;
 use refusals::Refusal;
-use refusals::is_done;
 use seven::is_graph;
+use tests_core::both;
+use tests_core::is_done;
+use tests_core::same_number;
 
 // How many checks, mechanisms and edges a model has.
 pub struct Size {

@@ -12,13 +12,13 @@ ghost use Rattle.graph.specs.Sound.{Offsets};
 ghost use Rattle.graph.specs.Steps.{fewCounts, fewSizes, sparseLengths, graphLengths, mechanismTest, sparseTests, denseTests};
 use crate::Size;
 use crate::buckets::at;
-use numbers::at_most;
-use numbers::both;
-use numbers::one_more;
-use numbers::same_number;
 use refusals::Answer;
 use refusals::Refusal;
-use refusals::is_done;
+use tests_core::at_most;
+use tests_core::both;
+use tests_core::is_done;
+use tests_core::one_more;
+use tests_core::same_number;
 
 // ---- 1 and 2
 

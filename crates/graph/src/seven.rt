@@ -9,7 +9,7 @@ ghost use Rattle.graph.specs.Sound.{Offsets, Long, Rising};
 ghost use Rattle.graph.specs.QuickTest.{risesBelow, metGood, entryGood, entriesGood, checkGood, varGood, ownNumber};
 use crate::buckets::at;
 use crate::model::offsets_good;
-use numbers::same_number;
+use tests_core::same_number;
 
 // Strictly rising, all below n.
 fn rises_below(n: usize, xs: &[u32]) -> bool

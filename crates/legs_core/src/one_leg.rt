@@ -10,6 +10,7 @@ use relay_core::leg::Leg;
 use relay_core::leg::correction_weight;
 use relay_core::leg::run_leg;
 use settings::Settings;
+use tests_core::is_done;
 ghost use mathlib.Core.Path.{_≡_};
 ghost use mathlib.Core.Bool.{true, _||_, not, cond};
 ghost use mathlib.Core.List.{[]};
@@ -401,7 +402,7 @@ pub fn answer(
 pub fn ends(a: Answer, stop: usize, num_converged: usize) -> bool
     ensures { λ r. ⌜ r ≡ (not (isDone a) || leb stop «num_converged») ⌝ }
 {
-    if !refusals::is_done(a) {
+    if !is_done(a) {
         return true;
     }
     stop <= num_converged

@@ -2,6 +2,7 @@
 // lists fit, which a graph that has passed its tests grants.
 use refusals::Answer;
 use refusals::Refusal;
+use tests_core::is_done;
 ghost use mathlib.Core.Path.{_≡_};
 ghost use mathlib.Core.Bool.{cond};
 ghost use mathlib.Core.List.{map};
@@ -178,7 +179,7 @@ pub fn first_not_finite(values: &[f64]) -> Answer
     let mut v = 0;
     while v < values.len() {
         let a = value_fault(v, values[v]);
-        if !refusals::is_done(a) {
+        if !is_done(a) {
             return a;
         }
         v += 1;

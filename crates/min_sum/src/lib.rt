@@ -1,5 +1,6 @@
 // Min-sum beliefs over a Tanner graph: `min_sum_bp_into` of min_sum.rs, with the tests of document 01 before it.
 use refusals::Answer;
+use tests_core::is_done;
 ghost use mathlib.Core.Path.{_≡_};
 ghost use Rattle.graph.specs.Graph.{graph};
 ghost use Rattle.min_sum.specs.Beliefs.{lists, outcome, beliefs as beliefsOf};
@@ -51,7 +52,7 @@ pub fn beliefs(
         iterations,
         n,
     );
-    if !refusals::is_done(a) {
+    if !is_done(a) {
         return a;
     }
     run::ran(

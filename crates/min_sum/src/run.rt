@@ -1,5 +1,8 @@
 // The run: an iteration with its weight, outer rounds, and the end rule.
 use refusals::Answer;
+use tests_core::both;
+use tests_core::is_done;
+use tests_core::same_number;
 ghost use mathlib.Core.Path.{_≡_};
 ghost use mathlib.Core.Bool.{true, false};
 ghost use mathlib.Core.List.{[]};
@@ -13,7 +16,7 @@ ghost use Rattle.min_sum.specs.Beliefs.{lists, outcome, ran as ranOf};
 fn weight(outer: usize, i: usize) -> f64
     ensures { λ r. ⌜ r ≡ weightOf outer i ⌝ }
 {
-    if numbers::both(numbers::same_number(i, 0), numbers::same_number(outer, 0)) {
+    if both(same_number(i, 0), same_number(outer, 0)) {
         return 1.0;
     }
     0.3
@@ -431,7 +434,7 @@ pub(crate) fn ran(
     messages_core::clear(c_to_v);
     messages_core::clear(v_to_c);
     let a = messages_core::first_not_finite(posterior);
-    if !refusals::is_done(a) {
+    if !is_done(a) {
         messages_core::clear(posterior);
     }
     a

@@ -1,6 +1,10 @@
 // The tests before a run, in document 01's order.
 use refusals::Answer;
 use refusals::Refusal;
+use tests_core::at_most;
+use tests_core::both;
+use tests_core::is_done;
+use tests_core::same_number;
 ghost use mathlib.Core.Path.{_≡_};
 ghost use mathlib.Core.Bool.{_&&_};
 ghost use lib.Dec.{eqb, leb};
@@ -22,25 +26,22 @@ pub(crate) struct Lengths {
 fn lists_fit(size: graph::Size, n: Lengths) -> bool
     ensures { λ r. ⌜ r ≡ (eqb (n .posterior) (size .mechanisms) && (eqb (n .«ewa_posterior») (size .mechanisms) && (eqb (n .«c_to_v») (size .edges) && eqb (n .«v_to_c») (size .edges)))) ⌝ }
 {
-    let messages = numbers::both(
-        numbers::same_number(n.c_to_v, size.edges),
-        numbers::same_number(n.v_to_c, size.edges),
+    let messages = both(
+        same_number(n.c_to_v, size.edges),
+        same_number(n.v_to_c, size.edges),
     );
-    let ewa = numbers::both(
-        numbers::same_number(n.ewa_posterior, size.mechanisms),
-        messages,
-    );
-    numbers::both(numbers::same_number(n.posterior, size.mechanisms), ewa)
+    let ewa = both(same_number(n.ewa_posterior, size.mechanisms), messages);
+    both(same_number(n.posterior, size.mechanisms), ewa)
 }
 
 // 12, 20 and 22.
 fn run_fault(size: graph::Size, iterations: usize, n: Lengths) -> Answer
     ensures { λ r. ⌜ r ≡ orElse (unless (leb iterations 65535) BadIterations) (orElse (unless (eqb (n .syndrome) (size .checks)) SyndromeLength) (unless (eqb (n .posterior) (size .mechanisms) && (eqb (n .«ewa_posterior») (size .mechanisms) && (eqb (n .«c_to_v») (size .edges) && eqb (n .«v_to_c») (size .edges)))) LentListLength)) ⌝ }
 {
-    if !numbers::at_most(iterations, 65535) {
+    if !at_most(iterations, 65535) {
         return Answer::Refused(Refusal::BadIterations);
     }
-    if !numbers::same_number(n.syndrome, size.checks) {
+    if !same_number(n.syndrome, size.checks) {
         return Answer::Refused(Refusal::SyndromeLength);
     }
     if !lists_fit(size, n) {
@@ -74,7 +75,7 @@ pub(crate) fn fault(
         var_message,
         var_offset,
     );
-    if !refusals::is_done(a) {
+    if !is_done(a) {
         return a;
     }
     run_fault(size, iterations, n)

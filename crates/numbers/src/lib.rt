@@ -1,9 +1,7 @@
-// What the decoder reckons with, bit for bit as the Rust does: a float's magnitude and its signs, the product modulo 2^64,
-// the generator SplitMix64 with the gamma of a draw, and small tests that answer a bool. No function asks anything of its caller.
+// What the decoder reckons with: a float's magnitude and its signs, bit for bit as the Rust's; the product modulo 2^64 and the
+// generator SplitMix64, with the gamma of a draw. No function asks anything of its caller.
 ghost use mathlib.Core.Path.{_≡_};
-ghost use mathlib.Core.Bool.{false, _&&_};
-ghost use Prim.Native.Nat.{suc};
-ghost use lib.Dec.{eqb, leb};
+ghost use mathlib.Core.Bool.{false};
 ghost use lib.Ieee.{inf};
 ghost use Rattle.numbers.specs.Floats.{abs, isFinite, isNegative, messageSign};
 ghost use Rattle.numbers.specs.Draw.{product, advanced, mixed, unit as unitOf, gamma as gammaOf};
@@ -114,40 +112,4 @@ pub fn gamma(low: f64, high: f64, draw: u64) -> f64
     ensures { λ r. ⌜ r ≡ gammaOf low high draw ⌝ }
 {
     low + (high - low) * unit(draw)
-}
-
-// ---- tests
-
-// a and b are the same number.
-pub fn same_number(a: usize, b: usize) -> bool
-    ensures { λ r. ⌜ r ≡ eqb a b ⌝ }
-{
-    a == b
-}
-
-// a is b + 1, also where that would not fit.
-pub fn one_more(a: usize, b: usize) -> bool
-    ensures { λ r. ⌜ r ≡ eqb a (suc b) ⌝ }
-{
-    if a == 0 {
-        return false;
-    }
-    a - 1 == b
-}
-
-// a is at most b.
-pub fn at_most(a: usize, b: usize) -> bool
-    ensures { λ r. ⌜ r ≡ leb a b ⌝ }
-{
-    a <= b
-}
-
-// a and b both hold. A function of its own, so that a test of many parts has no branches to prove.
-pub fn both(a: bool, b: bool) -> bool
-    ensures { λ r. ⌜ r ≡ (a && b) ⌝ }
-{
-    if a {
-        return b;
-    }
-    false
 }

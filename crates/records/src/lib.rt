@@ -8,14 +8,14 @@ ghost use mathlib.Core.Path.{_≡_};
 ghost use Rattle.records.specs.Reading.{fresh, isWhole, held, pushed, verdict as verdictOf, atEnd};
 ghost use Rattle.records.specs.Stream.{seed, isOfShot};
 ghost use Rattle.records.specs.Fields.{countsOf, modelLists, modelRead, settingsOf};
-use numbers::at_most;
-use numbers::both;
 use refusals::Answer;
 use refusals::Refusal;
-use refusals::or_else;
-use refusals::unless;
 use settings::GammaSource;
 use settings::Settings;
+use tests_core::at_most;
+use tests_core::both;
+use tests_core::or_else;
+use tests_core::unless;
 
 // What the bytes of a record have said so far: the record's offset in the stream, how many of its bytes were taken, its payload length and kind, and of a
 // model its counts and the sum of its degrees.

@@ -1,7 +1,6 @@
-// Every refusal of document 01, under one type.
+// Every refusal of document 01 under one type, with its number and its place.
 ghost use mathlib.Core.Path.{_≡_};
 ghost use Rattle.refusals.specs.Refusal.{numberOf, placeOf};
-ghost use Rattle.refusals.specs.Tests.{isDone, unless as unlessOf, orElse};
 
 // Why a call refuses, in the order of document 01's table. A number is the place: a mechanism, a check, or for
 // GammaNotFinite an index of the flat list of gammas.
@@ -44,36 +43,6 @@ pub enum Answer {
     Refused(Refusal),
 }
 
-// Whether nothing is refused.
-pub fn is_done(a: Answer) -> bool
-    ensures { λ r. ⌜ r ≡ isDone a ⌝ }
-{
-    match a {
-        Answer::Done => true,
-        Answer::Refused(_) => false,
-    }
-}
-
-// One test: the refusal, unless it is passed.
-pub fn unless(passed: bool, r: Refusal) -> Answer
-    ensures { λ a. ⌜ a ≡ unlessOf passed r ⌝ }
-{
-    if passed {
-        return Answer::Done;
-    }
-    Answer::Refused(r)
-}
-
-// Two tests, one after the other: the first that refuses.
-pub fn or_else(a: Answer, b: Answer) -> Answer
-    ensures { λ r. ⌜ r ≡ orElse a b ⌝ }
-{
-    if is_done(a) {
-        return b;
-    }
-    a
-}
-
 // Document 01's number of a refusal.
 pub fn number_of(r: Refusal) -> usize
     ensures { λ n. ⌜ n ≡ numberOf r ⌝ }
@@ -112,7 +81,7 @@ pub fn number_of(r: Refusal) -> usize
     }
 }
 
-// Where a refusal has a place.
+// A refusal's place, if it has one.
 pub enum Place {
     Nowhere,
     At(usize),

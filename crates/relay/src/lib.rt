@@ -1,6 +1,7 @@
 // Relay-BP over a Tanner graph: its settings and its answers, one iteration in any order, and the reading of a leg's record. What they mean stands in specs/.
 use messages_core::at;
 use refusals::Answer;
+use tests_core::is_done;
 ghost use mathlib.Core.Path.{_≡_};
 ghost use Rattle.graph.specs.Graph.{graph};
 ghost use mathlib.Core.List.{[]};
@@ -81,7 +82,7 @@ pub fn iteration(
         posterior,
         bias,
     );
-    if !refusals::is_done(a) {
+    if !is_done(a) {
         return a;
     }
     calls_core::iterate::stepped(

@@ -1,9 +1,7 @@
 // Replays the oracle's list of belief cases: builds each model's graph, runs min-sum on it and compares answer and posterior with the
 // Rust's. It reads the list from standard input, which the file stdin holds. Room: 63 checks and mechanisms, 128 edges.
 use graph::Size;
-use numbers::both;
 use refusals::Answer;
-use refusals::is_done;
 use replay_core::Counts;
 use replay_core::Same;
 use replay_core::count;
@@ -18,6 +16,8 @@ use replay_core::report;
 use replay_core::same_floats;
 use replay_core::text_room;
 use replay_core::word_at;
+use tests_core::both;
+use tests_core::is_done;
 
 // Whether the line goes on with this answer and, where the run took place, with this posterior, and then ends.
 fn answered(line: &[u8], at: usize, a: Answer, posterior: &[f64]) -> bool {

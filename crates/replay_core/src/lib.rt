@@ -3,13 +3,13 @@ ghost use Prim.Native.Nat.{_≤_};
 ghost use lib.ListN.{length};
 use graph::Size;
 use libc::STDOUT_FILENO;
-use numbers::both;
 use numbers::is_negative;
 use refusals::Answer;
 use refusals::Place;
 use refusals::number_of;
 use refusals::place_of;
 use std::num::wrapping_add_u64;
+use tests_core::both;
 
 // What a byte is worth as a digit; 16 where it is none.
 fn digit(b: u8) -> u64

@@ -1,7 +1,6 @@
 // Compares what a decode answered, and what it left in every lent list, with what the line says. The lists of bytes and numbers were lent full of 7, those of floats
 // full of 7.0, so that what was not written shows, in the lists and in what the arrays have behind them.
 use graph::Size;
-use numbers::both;
 use numbers::wrapping_mul;
 use refusals::Answer;
 use relay::Decoded;
@@ -16,6 +15,7 @@ use replay_core::same_float;
 use replay_core::wide;
 use replay_core::word_at;
 use std::num::wrapping_add_usize;
+use tests_core::both;
 
 // What the lists were lent full of: as a number, and as a float's bits.
 const LENT: u64 = 7;

@@ -5,7 +5,6 @@ mod compare;
 use compare::same_decode;
 use graph::Size;
 use numbers::wrapping_mul;
-use refusals::is_done;
 use replay_core::Counts;
 use replay_core::count;
 use replay_core::float;
@@ -20,6 +19,7 @@ use replay_core::word_at;
 use settings::GammaSource;
 use settings::Schedule;
 use settings::Settings;
+use tests_core::is_done;
 
 fn schedule_of(number: u64) -> Schedule {
     if number == 1 {

@@ -3,7 +3,6 @@
 use graph::Size;
 use numbers::wrapping_mul;
 use refusals::Answer;
-use refusals::is_done;
 use replay_core::Counts;
 use replay_core::Same;
 use replay_core::count;
@@ -17,6 +16,7 @@ use replay_core::report;
 use replay_core::same_numbers;
 use replay_core::text_room;
 use replay_core::word_at;
+use tests_core::is_done;
 
 // Whether the line goes on with this answer and, where nothing is refused, with these lists, and then ends.
 fn answered(

@@ -1,12 +1,12 @@
 // Relay's settings, the published operating point, and their test, 10 to 19. Each number is decided by itself and the first that refuses is answered, so that no
 // test waits on another's branch. What they mean stands in specs/.
-use numbers::at_most;
-use numbers::both;
 use numbers::is_finite;
 use refusals::Answer;
 use refusals::Refusal;
-use refusals::or_else;
-use refusals::unless;
+use tests_core::at_most;
+use tests_core::both;
+use tests_core::or_else;
+use tests_core::unless;
 ghost use mathlib.Core.Path.{_≡_};
 ghost use mathlib.Core.Bool.{_||_};
 ghost use Prim.Native.Nat.{_*_};

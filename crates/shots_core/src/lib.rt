@@ -2,12 +2,12 @@
 // arrays of its own, filled with one value. Room: 128 checks, 256 mechanisms, 512 edges, 16 relayed legs.
 use calls_core::Decoded;
 use graph::Size;
-use numbers::at_most;
-use numbers::both;
 use records::Counts;
 use refusals::Answer;
 use refusals::Refusal;
 use settings::Settings;
+use tests_core::at_most;
+use tests_core::both;
 ghost use mathlib.Core.Path.{_≡_};
 ghost use mathlib.Core.Bool.{_&&_};
 ghost use Prim.Native.Nat.{_≤_};

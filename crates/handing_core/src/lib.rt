@@ -1,0 +1,8 @@
+// The bodies of the exported calls, for `exports` alone: numbers and slices in, the call that is handed on, its answer as numbers and lists out.
+pub mod beliefs;
+pub mod decodes;
+pub mod floats;
+pub mod graphs;
+pub mod legs;
+pub mod point;
+pub mod steps;
