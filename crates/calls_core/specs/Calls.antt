@@ -43,6 +43,7 @@ pub record StepLists : Type 0 where
 abbrev pub stepLists : State → List Float → StepLists
 stepLists s b = record { now = s; bias = b }
 
+-- the answer, and the lists as they are after
 pub record StepOutcome : Type 0 where
   pub answer : Answer
   pub left : StepLists
@@ -127,6 +128,7 @@ pub record Lists : Type 0 where
   pub cToV : List Float
   pub vToC : List Float
 
+-- the answer, and the lists as they are after
 pub record Outcome : Type 0 where
   pub answer : Decoded
   pub left : Lists
@@ -232,6 +234,7 @@ pub record Told : Type 0 where
 abbrev pub told : Answer → Bool → ℕ → ℕ → Option Float → Told
 told a c n t w = record { refusal = a; converged = c; executedLegs = n; totalIterations = t; weight = w }
 
+-- what each answer says in them
 abbrev pub tellOf : Decoded → Told
 tellOf (Decoded.Converged n t w) = told Done true n t (some w)
 tellOf (Decoded.NotConverged n t) = told Done false n t none
@@ -248,6 +251,7 @@ pub record LegValues : Type 0 where
 abbrev pub legValues : ℕ → ℕ → Float → LegValues
 legValues s i w = record { legState = s; legIterations = i; legWeight = w }
 
+-- document 01's values of each record
 abbrev pub valuesOf : LegRecord → LegValues
 valuesOf (LegRecord.Converged weight iterations) = legValues 2 iterations weight
 valuesOf (LegRecord.RanOut iterations) = legValues 1 iterations zero⁺

@@ -49,8 +49,8 @@ executedLeg x r posterior =
 
 -- ---- between legs
 
--- the posterior, the last hard decision, how many legs have converged, the best of them, and the records of all legs: for leg r its state (2 converged, 1 ran
--- out, 0 not executed), its iterations, its weight, and its correction as a row of the flat list `rows`
+-- the posterior, the last hard decision, how many legs have converged, the best of them, the iterations and legs so far, and the records of all legs: for leg r
+-- its state (2 converged, 1 ran out, 0 not executed), its iterations, its weight, and its correction as a row of the flat list `rows`
 pub record Run : Type 0 where
   pub posterior : List Float
   pub hardBits : List ℕ

@@ -1,13 +1,4 @@
 // Past the tests of a single iteration: the step, 30 with the first mechanism that has a value that is not finite, and the lists that are zeroed.
-use messages_core::at;
-use messages_core::clear;
-use numbers::is_finite;
-use refusals::Answer;
-use refusals::Refusal;
-use relay_core::step::step;
-use settings::Schedule;
-use tests_core::both;
-use tests_core::is_done;
 ghost use mathlib.Core.Path.{_≡_};
 ghost use mathlib.Core.List.{[]};
 ghost use Prim.Native.Nat.{_<_};
@@ -18,6 +9,15 @@ ghost use Rattle.refusals.specs.Tests.{unlessRefused};
 ghost use Rattle.messages_core.specs.Needs.{Entries, Walks, walked, ofVariables};
 ghost use Rattle.relay_core.specs.Step.{state, iteration};
 ghost use Rattle.calls_core.specs.Calls.{messageFinite, mechanismFinite, stepEnd, stepLists, stepOutcome, stepped as steppedOf};
+use messages_core::at;
+use messages_core::clear;
+use numbers::is_finite;
+use refusals::Answer;
+use refusals::Refusal;
+use relay_core::step::step;
+use settings::Schedule;
+use tests_core::both;
+use tests_core::is_done;
 
 // Both messages that each of these entries names are finite.
 fn messages_finite(entries: &[u32], c_to_v: &[f64], v_to_c: &[f64]) -> bool
@@ -56,7 +56,7 @@ fn mechanism_finite(
     both(is_finite(posterior[v]), messages)
 }
 
-// 30: the first mechanism of which that is not so.
+// 30: the first mechanism that has a value that is not finite.
 fn step_end(
     var_message: &[u32],
     var_offset: &[u32],

@@ -3,9 +3,9 @@
 pub mod iterate;
 pub mod tests;
 
-use refusals::Refusal;
 ghost use mathlib.Core.Path.{_≡_};
 ghost use Rattle.calls_core.specs.Calls.{recordOf};
+use refusals::Refusal;
 
 // What a decode answers. The corrections, the posterior and the legs' records are in the lent lists.
 pub enum Decoded {

@@ -1,14 +1,4 @@
 // The tests before a single iteration, in document 01's order, and those of a syndrome.
-use numbers::is_finite;
-use orders_core::names_fault;
-use refusals::Answer;
-use refusals::Refusal;
-use settings::alpha_good;
-use tests_core::both;
-use tests_core::is_done;
-use tests_core::or_else;
-use tests_core::same_number;
-use tests_core::unless;
 ghost use mathlib.Core.Path.{_≡_};
 ghost use mathlib.Core.Bool.{_&&_};
 ghost use Prim.Native.Nat.{_≤_};
@@ -21,6 +11,16 @@ ghost use Rattle.settings.specs.Settings.{alphaGood};
 ghost use Rattle.relay_core.specs.Step.{state};
 ghost use Rattle.orders_core.specs.Order.{namesFault};
 ghost use Rattle.calls_core.specs.Calls.{byteFault, syndromeFault, allFinite, stateFinite, stepLists, stepFault};
+use numbers::is_finite;
+use orders_core::names_fault;
+use refusals::Answer;
+use refusals::Refusal;
+use settings::alpha_good;
+use tests_core::both;
+use tests_core::is_done;
+use tests_core::or_else;
+use tests_core::same_number;
+use tests_core::unless;
 
 // A byte of a syndrome is 0 or 1.
 fn is_bit(b: u8) -> bool
@@ -29,7 +29,7 @@ fn is_bit(b: u8) -> bool
     b <= 1
 }
 
-// 21: the first byte that is not.
+// 21: the first byte of a syndrome that is not 0 or 1.
 fn bytes_fault(syndrome: &[u8]) -> Answer
     ensures { λ r. ⌜ r ≡ firstOf (length (now (syndrome .entry))) (byteFault (now (syndrome .entry))) ⌝ }
 {
@@ -139,7 +139,7 @@ fn step_fault(
     )
 }
 
-// All of them: 1, 2, 4, 7, then these.
+// The tests of a single iteration: 1, 2, 4, 7, 10, 20 to 23 and 25.
 pub fn fault(
     size: graph::Size,
     priors: &[f64],

@@ -54,11 +54,13 @@ cells-small n m h k =
 
 -- ---- one test after another
 
+-- tests are joined either way
 or-joined : (a b c : Answer) → orElse (orElse a b) c ≡ orElse a (orElse b c)
 unfolding orElse
 or-joined Done b c = refl
 or-joined (Refused r) b c = refl
 
+-- two tests that refuse nothing add nothing
 or-none : (a : Answer) → orElse a (orElse Done Done) ≡ a
 unfolding orElse
 or-none Done = refl
@@ -72,6 +74,7 @@ module _ (edges : ℕ) (x : Shot) (l : Lists) where
   fault-joined = sym (or-joined _ _ _ ∙ ap (orElse _) (or-joined _ _ _ ∙ ap (orElse _) (or-joined _ _ _)))
 
   module _ (records work : Bool) (er : records ≡ (leb (suc (x .settings .«num_legs»)) (length (l .legState)) && (leb (suc (x .settings .«num_legs»)) (length (l .legIterations)) && (leb (suc (x .settings .«num_legs»)) (length (l .legWeight)) && leb (suc (x .settings .«num_legs») * x .graph .mechanisms) (length (l .rows)))))) (ew : work ≡ (eqb (length (l .correction)) (x .graph .mechanisms) && (eqb (length (l .posterior)) (x .graph .mechanisms) && (eqb (length (l .gamma)) (x .graph .mechanisms) && (eqb (length (l .bias)) (x .graph .mechanisms) && (eqb (length (l .cToV)) edges && eqb (length (l .vToC)) edges)))))) where
+    -- the legs' lists, then the others
     fits-is : (records && work) ≡ listsFit edges x l
     unfolding listsFit
     fits-is = rw (er, ew) (fits-joined (leb (suc (x .settings .«num_legs»)) (length (l .legState))) (leb (suc (x .settings .«num_legs»)) (length (l .legIterations))) (leb (suc (x .settings .«num_legs»)) (length (l .legWeight))) (leb (suc (x .settings .«num_legs») * x .graph .mechanisms) (length (l .rows))) _)
@@ -98,7 +101,7 @@ names-passed checks order a b e d h = unless-done _ _ (sym e ∙ done-is a (sym 
 
 -- ---- what they tell
 
--- a graph that passes, in what the tests ask
+-- a graph that passes has no more mechanisms than it may have
 pub mechanisms-few : (edges : ℕ) (prior : List Float) (g : Graph) (a : Answer) (b : Bool) → a ≡ graphFault edges prior g → b ≡ isDone a → not b ≡ false
     → g .mechanisms ≤ 65536
 mechanisms-few edges prior g a b e d h = graph-told edges prior g (sym e ∙ done-is a (sym d ∙ not-false b h)) .mechanisms-few
@@ -121,6 +124,7 @@ module _ (t : Settings) (m : ℕ) (flat : List Float) where
       go true e q = leb-true 1 n e
       go false e q = absurd (let z = eqb-true legs 0 q in omega (arith, z, k))
 
+  -- read off the tests
   pub settings-told : settingsFault t m flat ≡ Done → SettingsTold
   unfolding settingsFault preGood legIterationsGood setsGood sourceFault
   settings-told h =
@@ -171,6 +175,7 @@ module _ (edges checks mechanisms : ℕ) (t : Settings) (flat : List Float) (see
   abbrev X : List ℕ → Shot
   X o = whole t flat seed syndrome prior cv cm co vc vm vo o checks mechanisms
 
+  -- read off the tests of both calls, with an order that names checks
   pub told : shotFault edges (X order) l ≡ Done → Entries checks order → Told edges checks mechanisms t flat syndrome prior cv co vm vo order l
   unfolding shotFault listsFit syndromeFault
   told h names =
@@ -263,6 +268,7 @@ module _ (edges checks mechanisms : ℕ) (t : Settings) (flat : List Float) (see
       let n = names-below (names-once-is checks order .0 (unless-done _ _ (or-done _ _ (w .1) .0))) in
       told (w .0) (record { names = λ k i. all-at n k i })
 
+  -- let through: what the legs leave
   pub in-order-ran : (a : Answer) (o : Outcome) → a ≡ decodeFault edges (X order) l → a ≡ Done
       → o ≡ afterLegs (length cv) (shotOf t flat seed syndrome prior cv co vm vo order) (decodeLegs (shotOf t flat seed syndrome prior cv co vm vo order)) l
       → o ≡ decodeInOrder edges (X order) l
@@ -290,10 +296,12 @@ module _ (edges checks mechanisms : ℕ) (t : Settings) (flat : List Float) (see
       let named : namesOnce checks (upto checks) ≡ true = names-once-is checks (upto checks) .1 (upto-names checks) in
       sym (fault-joined edges (Y (upto checks)) l ∙ rw (named, index-taken (t .schedule) (graph checks mechanisms cv cm co vc vm vo)) (or-none _))
 
+  -- refused by a test
   pub index-refused : (a : Answer) (r : Refusal) → a ≡ shotFault edges (Y []) l → a ≡ Refused r → outcome (Decoded.Refused r) l ≡ decode edges (Y []) l
   unfolding decode
   index-refused a r e d = in-order-refused edges checks mechanisms t flat seed syndrome prior cv cm co vc vm vo (upto checks) l a r (e ∙ index-fault) d
 
+  -- what the tests tell
   index-told-at : (a : Answer) → a ≡ shotFault edges (Y []) l → a ≡ Done → Told edges checks mechanisms t flat syndrome prior cv co vm vo (upto checks) l
   index-told-at a e d = in-order-told edges checks mechanisms t flat seed syndrome prior cv cm co vc vm vo (upto checks) l a (e ∙ index-fault) d
 
@@ -301,14 +309,17 @@ module _ (edges checks mechanisms : ℕ) (t : Settings) (flat : List Float) (see
   along : (n : ℕ) → n ≡ checks → Told edges checks mechanisms t flat syndrome prior cv co vm vo (upto checks) l → Told edges checks mechanisms t flat syndrome prior cv co vm vo (upto n) l
   along n e w = rw e w
 
+  -- what the tests tell, in those terms
   pub index-told : (a : Answer) → a ≡ shotFault edges (Y []) l → a ≡ Done → Told edges checks mechanisms t flat syndrome prior cv co vm vo (upto (length syndrome)) l
   index-told a e d = let w = index-told-at a e d in along (length syndrome) (w .checks-many) w
 
+  -- what the legs leave, in the graph's terms again
   back : (n : ℕ) (o : Outcome) → n ≡ checks
       → o ≡ afterLegs (length cv) (shotOf t flat seed syndrome prior cv co vm vo (upto n)) (decodeLegs (shotOf t flat seed syndrome prior cv co vm vo (upto n))) l
       → o ≡ afterLegs (length cv) (shotOf t flat seed syndrome prior cv co vm vo (upto checks)) (decodeLegs (shotOf t flat seed syndrome prior cv co vm vo (upto checks))) l
   back n o e q = rw e at q
 
+  -- let through: what the legs leave
   pub index-ran : (a : Answer) (o : Outcome) → a ≡ shotFault edges (Y []) l → a ≡ Done
       → o ≡ afterLegs (length cv) (shotOf t flat seed syndrome prior cv co vm vo (upto (length syndrome))) (decodeLegs (shotOf t flat seed syndrome prior cv co vm vo (upto (length syndrome)))) l
       → o ≡ decode edges (Y []) l

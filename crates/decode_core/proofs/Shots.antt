@@ -1,7 +1,7 @@
 -- A decode past its tests, as the code has it: the lists that are zeroed, and the leg lists with their surplus. Assumes nothing.
 use mathlib.Core.Path.{_≡_, refl, sym, ap, _∙_}
 use mathlib.Core.Bool.{Bool, true, false, not, cond, false≢true}
-use mathlib.Core.List.{List, [], _++_}
+use mathlib.Core.List.{List, _++_}
 use mathlib.Core.Logic.{_⊎_, inl, inr}
 use mathlib.Core.Option.{Option, none, some}
 use Prim.Native.Nat.{ℕ, suc, _+_, _-_, _*_, _≤_}
@@ -62,6 +62,7 @@ module _ (x : Shot) (ss is : List ℕ) (ws : List Float) (rows cor : List ℕ) (
 -- ---- the leg lists with their surplus
 
 module _ (x : Shot) (edges : ℕ) (l : Lists) (ss is : List ℕ) (ws : List Float) (rows cor : List ℕ) (p gamma bias c v : List Float) (t1 t2 : List ℕ) (t3 : List Float) (t4 : List ℕ) where
+  -- the answer, the result lists before their surplus, and the zeroed work lists are what the definition leaves
   pub shot-is : (e : Ended) (d : Decoded) → d ≡ answerOf e → results ss is ws rows cor p ≡ resultsOf x e
       → (t1 ≡ drop (length ss) (l .legState)) × (t2 ≡ drop (length is) (l .legIterations)) × (t3 ≡ drop (length ws) (l .legWeight)) × (t4 ≡ drop (length rows) (l .rows))
       → (gamma ≡ replicate (x .graph .mechanisms) zero⁺) × (bias ≡ replicate (x .graph .mechanisms) zero⁺) × (c ≡ replicate edges zero⁺) × (v ≡ replicate edges zero⁺)
@@ -96,6 +97,7 @@ module _ (t : Settings) (flat : List Float) (seed : ℕ) (syndrome : List ℕ) (
       → r ≡ afterLegs n (shotOf t flat seed syndrome prior cv co vm vo o′) (decodeLegs (shotOf t flat seed syndrome prior cv co vm vo o′)) l
   along-order o o′ n l r e q = rw e at q
 
+  -- and what it asks
   pub reads-along : (o o′ : List ℕ) → o′ ≡ o → Reads t flat syndrome prior cv co vm vo o → Reads t flat syndrome prior cv co vm vo o′
   reads-along o o′ e h = rw e h
 

@@ -1,4 +1,12 @@
 // A decode past its tests: leg after leg, the end of the legs, and the lists that are zeroed.
+ghost use mathlib.Core.Path.{_≡_};
+ghost use mathlib.Core.Bool.{false, cond};
+ghost use Prim.Native.Nat.{_*_, _≤_, suc};
+ghost use lib.ListN.{length, replicate};
+ghost use Rattle.numbers.specs.Floats.{zero⁺};
+ghost use Rattle.calls_core.specs.Decode.{decodeLegs};
+ghost use Rattle.calls_core.specs.Calls.{outcome, afterLegs};
+ghost use Rattle.legs_core.specs.Kept.{shotOf, Reads, answerOf, isRefused, results, resultsOf, started};
 use calls_core::Decoded;
 use legs_core::bytes::clear_bytes;
 use legs_core::bytes::clear_numbers;
@@ -10,16 +18,7 @@ use legs_core::one_leg::next_leg;
 use messages_core::clear;
 use messages_core::copy;
 use messages_core::first_not_finite;
-use refusals::Answer;
 use settings::Settings;
-ghost use mathlib.Core.Path.{_≡_};
-ghost use mathlib.Core.Bool.{false, cond};
-ghost use Prim.Native.Nat.{_*_, _≤_, suc};
-ghost use lib.ListN.{length, replicate};
-ghost use Rattle.numbers.specs.Floats.{zero⁺};
-ghost use Rattle.calls_core.specs.Decode.{decodeLegs};
-ghost use Rattle.calls_core.specs.Calls.{outcome, afterLegs};
-ghost use Rattle.legs_core.specs.Kept.{shotOf, Reads, answerOf, isRefused, results, resultsOf, started};
 
 // Leg after leg, from the posterior and the empty records that are lent. After a refusal the lists hold what the legs left.
 fn run_legs(
@@ -220,7 +219,7 @@ fn run_shot(
     d
 }
 
-// That, over the fronts of leg lists that may be longer.
+// A decode past its tests, over the fronts of leg lists that may be longer.
 pub fn decode_shot(
     t: Settings,
     gammas: &[f64],

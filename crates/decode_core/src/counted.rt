@@ -1,8 +1,4 @@
 // A decode in index order, without a lent order: the order is counted up in a local array, a short one where that is enough.
-use crate::all_legs::decode_shot;
-use calls_core::Decoded;
-use legs_core::bytes::index;
-use settings::Settings;
 ghost use mathlib.Core.Path.{_≡_};
 ghost use Prim.Native.Nat.{suc, _*_, _≤_};
 ghost use lib.ListN.{length};
@@ -10,8 +6,12 @@ ghost use Rattle.orders_core.specs.Order.{upto};
 ghost use Rattle.calls_core.specs.Decode.{decodeLegs};
 ghost use Rattle.calls_core.specs.Calls.{outcome, afterLegs};
 ghost use Rattle.legs_core.specs.Kept.{shotOf, Reads};
+use crate::all_legs::decode_shot;
+use calls_core::Decoded;
+use legs_core::bytes::index;
+use settings::Settings;
 
-// Of few checks.
+// A decode in index order, of up to 1024 checks.
 fn decode_few(
     t: Settings,
     gammas: &[f64],
@@ -67,7 +67,7 @@ fn decode_few(
     )
 }
 
-// Of as many as there may be.
+// A decode in index order, of up to 65536 checks.
 fn decode_many(
     t: Settings,
     gammas: &[f64],
@@ -123,7 +123,7 @@ fn decode_many(
     )
 }
 
-// Of any number.
+// A decode in index order, of any number of checks.
 pub fn decode_counted(
     t: Settings,
     gammas: &[f64],

@@ -1,4 +1,16 @@
 // The tests before a decode, in document 01's order.
+ghost use mathlib.Core.Path.{_≡_};
+ghost use mathlib.Core.Bool.{_&&_};
+ghost use mathlib.Core.List.{[]};
+ghost use Prim.Native.Nat.{suc, _*_, _≤_};
+ghost use lib.Dec.{eqb, leb};
+ghost use lib.ListN.{length};
+ghost use Rattle.refusals.specs.Tests.{orElse};
+ghost use Rattle.graph.specs.Graph.{graph};
+ghost use Rattle.messages_core.specs.Needs.{Offsets, Entries, ofChecks};
+ghost use Rattle.orders_core.specs.Order.{namesFault, exchangeFault};
+ghost use Rattle.calls_core.specs.Calls.{decodeFault};
+ghost use Rattle.legs_core.specs.Kept.{shotFault};
 use calls_core::tests::syndrome_fault;
 use orders_core::exchange_fault;
 use orders_core::is_index_order;
@@ -14,18 +26,6 @@ use tests_core::is_done;
 use tests_core::or_else;
 use tests_core::same_number;
 use tests_core::unless;
-ghost use mathlib.Core.Path.{_≡_};
-ghost use mathlib.Core.Bool.{_&&_};
-ghost use mathlib.Core.List.{[]};
-ghost use Prim.Native.Nat.{suc, _*_, _≤_};
-ghost use lib.Dec.{eqb, leb};
-ghost use lib.ListN.{length};
-ghost use Rattle.refusals.specs.Tests.{orElse};
-ghost use Rattle.graph.specs.Graph.{graph};
-ghost use Rattle.messages_core.specs.Needs.{Offsets, Entries, ofChecks};
-ghost use Rattle.orders_core.specs.Order.{namesFault, exchangeFault};
-ghost use Rattle.calls_core.specs.Calls.{decodeFault};
-ghost use Rattle.legs_core.specs.Kept.{shotFault};
 
 // 22, of the leg lists: at least num_legs + 1 rows.
 fn legs_fit(
@@ -168,7 +168,7 @@ fn order_fault(
     exchange_fault(schedule, checks, check_var, check_offset, order)
 }
 
-// All of them: these, then 23 and 24.
+// The tests of `decode_in_order`: 1, 2, 4, 7, 10 to 24.
 pub fn decode_fault(
     size: graph::Size,
     priors: &[f64],

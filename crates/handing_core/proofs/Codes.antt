@@ -1,7 +1,7 @@
 -- An outcome's code is that of its answer. Assumes nothing.
 use Prim.Native.Nat.{ℕ}
 use mathlib.Core.Path.{_≡_, _∙_, ap}
-use mathlib.Core.List.{List, []}
+use mathlib.Core.List.{List}
 use lib.Ieee.{Float}
 use Rattle.refusals.specs.declared.Answer.{Answer}
 use Rattle.graph.specs.Graph.{Graph}

@@ -75,7 +75,7 @@ leg-few step test (suc n) false k s = omega (arith, leg-few step test n (test (s
 -- ---- the leg as executed
 
 module _ (t : Settings) (flat : List Float) (seed : ℕ) (syndrome : List ℕ) (prior : List Float) (cv co vm vo order : List ℕ) where
-  -- and the iterations that it took
+  -- it is the definition's leg, and takes no more iterations than its limit
   pub executed-is : (r limit : ℕ) (gamma c v p : List Float) (l : Leg) → gamma ≡ gammaOf t flat (length prior) seed r
       → state c v [] ≡ startLeg (walked 0 0 cv [] [] []) prior [] → limit ≡ iterationLimit t r
       → l ≡ runLeg (iteration (t .schedule) (walked (length syndrome) (length prior) cv co vm vo) (t .alpha) syndrome prior gamma order) (satisfied (ofChecks (length syndrome) cv co) syndrome) limit false 0 (state c v p)
@@ -101,9 +101,11 @@ corrected-true : (best : Option Float) (w : Float) (bits old : List ℕ) → cor
 corrected-true none w bits old = refl
 corrected-true (some x) w bits old = refl
 
+-- that, where it is better
 pub corrected-better : (best : Option Float) (w : Float) (bits old new : List ℕ) (b : Bool) → b ≡ isNoneOr best w → b ≡ true → new ≡ bits → new ≡ corrected true best w bits old
 corrected-better best w bits old new b e h q = rw (corrected-true best w bits old, sym e ∙ h) q
 
+-- and where it is not
 pub corrected-other : (best : Option Float) (w : Float) (bits old : List ℕ) (b : Bool) → b ≡ isNoneOr best w → b ≡ false → old ≡ corrected true best w bits old
 corrected-other best w bits old b e h = rw (corrected-true best w bits old, sym e ∙ h)
 
@@ -175,6 +177,7 @@ module _ (rows : List ℕ) (m r : ℕ) (z : Blank (r * m) rows) (h : r * m + m �
 -- ---- a leg that converged, and one that ran out
 
 module _ (b : Bool) (best best′ : Option Float) (num num′ total total′ : ℕ) (ss is : List ℕ) (ws : List Float) (ss′ is′ : List ℕ) (ws′ : List Float) (row cor cor′ : List ℕ) (r k : ℕ) (w weight : Float) where
+  -- what the code wrote of one that converged is what a leg adds
   pub record-converged : b ≡ true → w ≡ weight → (ss′ ≡ set ss r 2) × (is′ ≡ set is r k) × (ws′ ≡ set ws r w) → best′ ≡ bestAfter true best w
       → (num′ ≡ num + 1) × (total′ ≡ total + k) → cor′ ≡ corrected true best w row cor
       → (best′ ≡ bestAfter b best weight)
@@ -184,6 +187,7 @@ module _ (b : Bool) (best best′ : Option Float) (num num′ total total′ : �
   record-converged h e s q n o = rw (h, ← e) (q, (n, (s, (refl, o))))
 
 module _ (b found : Bool) (x weight : Float) (num total : ℕ) (ss is : List ℕ) (ws : List Float) (ss′ is′ : List ℕ) (ws′ : List Float) (row row′ cor cor′ : List ℕ) (r k : ℕ) where
+  -- and of one that ran out
   pub record-out : b ≡ false → (ss′ ≡ set ss r 1) × (is′ ≡ set is r k) × (ws′ ≡ set ws r zero⁺) → row′ ≡ replicate (length row) 0 → cor′ ≡ cond found cor row
       → (bestOf found x ≡ bestAfter b (bestOf found x) weight)
       × (((num ≡ num + cond b 1 0) × (total + k ≡ total + k))

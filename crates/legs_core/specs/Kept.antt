@@ -85,6 +85,7 @@ kept best converged total executed states iterations weights rows correction pos
       posterior = posterior;
     }
 
+-- what it keeps of a run
 abbrev pub keptOf : Run → Kept
 keptOf run =
     kept (run .bestWeight) (run .numConverged) (run .totalIterations) (run .executedLegs) (run .legState) (run .legIterations) (run .legWeight) (run .rows)
@@ -136,6 +137,7 @@ abbrev pub answerOf : Ended → Decoded
 answerOf (decoded run) = answered run (run .bestWeight)
 answerOf (refused r) = Decoded.Refused r
 
+-- whether it is a refusal
 abbrev pub isRefused : Decoded → Bool
 isRefused (Decoded.Converged n t w) = false
 isRefused (Decoded.NotConverged n t) = false
@@ -178,8 +180,9 @@ started x =
     let mechanisms = x .graph .mechanisms in
     results (replicate legs 0) (replicate legs 0) (replicate legs zero⁺) (replicate (legs * mechanisms) 0) (replicate mechanisms 0) (x .prior)
 
--- ---- the tests of both calls: 1, 2, 4, 7, 10 to 22
+-- ---- the tests
 
+-- those of both calls: 1, 2, 4, 7, 10 to 22
 unfoldable pub shotFault : ℕ → Shot → Lists → Answer
 shotFault edges x l =
     orElse (graphFault edges (x .prior) (x .graph))

@@ -1,16 +1,4 @@
 // One leg of a decode: its gammas, its start, its iterations, and its record. The hard decision is taken in the leg's own row.
-use crate::bytes::clear_bytes;
-use crate::bytes::copy_bytes;
-use calls_core::Decoded;
-use messages_core::clear;
-use messages_core::from_variables;
-use refusals::Answer;
-use relay_core::gammas::prepare_gamma;
-use relay_core::leg::Leg;
-use relay_core::leg::correction_weight;
-use relay_core::leg::run_leg;
-use settings::Settings;
-use tests_core::is_done;
 ghost use mathlib.Core.Path.{_≡_};
 ghost use mathlib.Core.Bool.{true, _||_, not, cond};
 ghost use mathlib.Core.List.{[]};
@@ -25,6 +13,18 @@ ghost use Rattle.relay_core.specs.Step.{state};
 ghost use Rattle.relay_core.specs.Leg.{leg as legOf, hardDecision, startLeg, correctionWeight};
 ghost use Rattle.calls_core.specs.Decode.{isNoneOr, iterationLimit, executedLeg};
 ghost use Rattle.legs_core.specs.Kept.{shotOf, Reads, bestOf, kept, bestAfter, corrected, keptWith, rowAfter, keptAfter, Blank, answerBy};
+use crate::bytes::clear_bytes;
+use crate::bytes::copy_bytes;
+use calls_core::Decoded;
+use messages_core::clear;
+use messages_core::from_variables;
+use refusals::Answer;
+use relay_core::gammas::prepare_gamma;
+use relay_core::leg::Leg;
+use relay_core::leg::correction_weight;
+use relay_core::leg::run_leg;
+use settings::Settings;
+use tests_core::is_done;
 
 // `iteration_limit`.
 fn iteration_limit(t: Settings, leg: usize) -> usize

@@ -28,7 +28,7 @@ digits-say (suc k) n h =
     rw (le-ltb n 10 l, foldl-append (λ m d. 10 * m + (d - 48)) 0 (digits k (n / 10)) ((48 + n % 10) ∷ []), digits-say k (n / 10) q) (omega arith))
     (less-or-not n 10)
 
--- "decimal": it says its number
+-- a decimal says its number
 pub decimal-says : (n : ℕ) → n < 2 ^ 64 → said (decimal n) ≡ n
 unfolding decimal
 decimal-says n h = digits-say 20 n (omega arith)
@@ -45,7 +45,7 @@ first-digit (suc k) n p h =
     rw (le-ltb n 10 l, List·getD-append (digits k (n / 10)) ((48 + n % 10) ∷ []) 0 0 (f .0)) (omega (arith, length-append (digits k (n / 10)) ((48 + n % 10) ∷ []), f .0), f .1))
     (less-or-not n 10)
 
--- "without leading zeros"
+-- and has no leading zero
 pub no-leading-zero : (n : ℕ) → 1 ≤ n → n < 2 ^ 64 → 48 < getD (decimal n) 0 0
 unfolding decimal
 no-leading-zero n p h = first-digit 20 n p (omega arith) .1

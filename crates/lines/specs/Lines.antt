@@ -68,6 +68,6 @@ stoppedLine code offset = (((stoppedWord ++ decimal code) ++ space) ++ decimal o
 unfoldable pub endLine : ℕ → List ℕ
 endLine shots = (endWord ++ decimal shots) ++ newline
 
--- what fits a line: none has more than 256 bits, the room's mechanisms
+-- the line, or nothing where there are more bits than the room has mechanisms, 256
 unfoldable pub unlessTooLong : List ℕ → List ℕ → List ℕ
 unlessTooLong bits line = cond (leb (length bits) 256) line []

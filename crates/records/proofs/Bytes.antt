@@ -72,6 +72,20 @@ number-4 at xs a b c d p q r s =
     let f : at + 2 + 1 ≡ at + 3 = omega arith in
     rw (number-first 3 at xs, number-first 2 (at + 1) xs, e, number-first 1 (at + 2) xs, f, number-first 0 (at + 3) xs, number-none (at + 3 + 1) xs, p, q, r, s) (omega arith)
 
+-- eight bytes are four and four
+pub number-8 : (at : ℕ) (xs : List ℕ) (a b : ℕ) → a ≡ numberAt 4 at xs → b ≡ numberAt 4 (at + 4) xs → a + 4294967296 * b ≡ numberAt 8 at xs
+number-8 at xs a b p q =
+    let e : at + 1 + 1 ≡ at + 2 = omega arith in
+    let f : at + 2 + 1 ≡ at + 3 = omega arith in
+    let g : at + 3 + 1 ≡ at + 4 = omega arith in
+    rw (p, q, number-first 7 at xs, number-first 6 (at + 1) xs, e, number-first 5 (at + 2) xs, f, number-first 4 (at + 3) xs, g)
+    (omega (arith, number-4 at xs (getD xs at 0) (getD xs (at + 1) 0) (getD xs (at + 2) 0) (getD xs (at + 3) 0) refl refl refl refl))
+
+-- a number further on
+pub number-drop : (n at k : ℕ) (xs : List ℕ) → numberAt n at (drop k xs) ≡ numberAt n (k + at) xs
+unfolding numberAt
+number-drop n at k xs = rw (drop-drop at k xs)
+
 -- ---- bytes, and the bound of their number
 
 -- bytes, and one more
@@ -90,11 +104,6 @@ pub number-bound : (n at : ℕ) (xs : List ℕ) → AreBytes xs → numberAt n a
 number-bound zero at xs f = rw (number-none at xs, pow-zero 256) (omega arith)
 number-bound (suc n) at xs f = rw (number-first n at xs, pow-succ' 256 n) (omega (arith, f at, number-bound n (at + 1) xs f))
 
--- a number further on
-pub number-drop : (n at k : ℕ) (xs : List ℕ) → numberAt n at (drop k xs) ≡ numberAt n (k + at) xs
-unfolding numberAt
-number-drop n at k xs = rw (drop-drop at k xs)
-
 -- some bytes from the front
 pub bytes-take : (n : ℕ) (xs : List ℕ) → AreBytes xs → AreBytes (take n xs)
 bytes-take n xs f i =
@@ -108,12 +117,3 @@ pub bytes-append : (xs ys : List ℕ) → AreBytes xs → AreBytes ys → AreByt
 bytes-append [] ys f g i = g i
 bytes-append (x ∷ xs) ys f g zero = f zero
 bytes-append (x ∷ xs) ys f g (suc i) = bytes-append xs ys (λ j. f (suc j)) g i
-
--- eight bytes are four and four
-pub number-8 : (at : ℕ) (xs : List ℕ) (a b : ℕ) → a ≡ numberAt 4 at xs → b ≡ numberAt 4 (at + 4) xs → a + 4294967296 * b ≡ numberAt 8 at xs
-number-8 at xs a b p q =
-    let e : at + 1 + 1 ≡ at + 2 = omega arith in
-    let f : at + 2 + 1 ≡ at + 3 = omega arith in
-    let g : at + 3 + 1 ≡ at + 4 = omega arith in
-    rw (p, q, number-first 7 at xs, number-first 6 (at + 1) xs, e, number-first 5 (at + 2) xs, f, number-first 4 (at + 3) xs, g)
-    (omega (arith, number-4 at xs (getD xs at 0) (getD xs (at + 1) 0) (getD xs (at + 2) 0) (getD xs (at + 3) 0) refl refl refl refl))

@@ -1,16 +1,17 @@
--- The payloads as they are encoded, field after field. What is encoded so is read back (`Theorems`). Definitions only. Assumes nothing.
+-- The payloads as they are encoded, field after field. What is encoded so is read back (`stream_laws` `Theorems`). Definitions only. Assumes nothing.
 use Prim.Native.Nat.{ℕ}
 use mathlib.Core.List.{List, [], _∷_, _++_}
 use lib.ListN.{length}
 use Rattle.records.specs.Stream.{bytesOf}
 
--- ---- a shot
+-- ---- a shot: its seed, and the syndrome's bytes
 
 unfoldable pub encodeShot : ℕ → List ℕ → List ℕ
 encodeShot seed syndrome = bytesOf 8 seed ++ syndrome
 
--- ---- settings, floats by their bits
+-- ---- settings
 
+-- the fields in their order, floats by their bits
 pub record SettingsFields : Type 0 where
   pub schedule : ℕ
   pub alpha : ℕ
@@ -22,6 +23,7 @@ pub record SettingsFields : Type 0 where
   pub high : ℕ
   pub stop : ℕ
 
+-- one after the other, 49 bytes
 unfoldable pub encodeSettings : SettingsFields → List ℕ
 encodeSettings s =
     s .schedule ∷ (bytesOf 8 (s .alpha)
@@ -36,14 +38,17 @@ pub record Mechanism : Type 0 where
   pub prior : ℕ
   pub degree : ℕ
 
+-- all mechanisms, each with its prior and its degree
 unfoldable pub encodeMechanisms : List Mechanism → List ℕ
 encodeMechanisms [] = []
 encodeMechanisms (m ∷ ms) = (bytesOf 8 (m .prior) ++ bytesOf 4 (m .degree)) ++ encodeMechanisms ms
 
+-- the detectors of all mechanisms
 unfoldable pub encodeDetectors : List ℕ → List ℕ
 encodeDetectors [] = []
 encodeDetectors (d ∷ ds) = bytesOf 4 d ++ encodeDetectors ds
 
+-- the three counts, then the mechanisms and the detectors
 unfoldable pub encodeModel : ℕ → List Mechanism → List ℕ → List ℕ
 encodeModel checks ms ds =
     (bytesOf 4 checks ++ (bytesOf 4 (length ms) ++ bytesOf 4 (length ds))) ++ (encodeMechanisms ms ++ encodeDetectors ds)

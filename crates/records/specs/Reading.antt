@@ -1,5 +1,5 @@
 -- How a stream is read byte by byte: what a reader holds, one byte more, and a record judged by what the reader holds at its end. That this is what the grammar
--- says of the whole record is proved (`Theorems`). Definitions only. Assumes nothing.
+-- says of the whole record is proved (`stream_laws` `Theorems`). Definitions only. Assumes nothing.
 use Prim.Native.Nat.{ℕ, _+_, _*_, _-_, _/_, _%_, _^_}
 use mathlib.Core.Bool.{Bool, _&&_, cond}
 use mathlib.Core.List.{List, [], _∷_, _++_, foldl}
@@ -60,7 +60,7 @@ isWhole r = eqb (r .taken) (6 + r .length)
 unfoldable pub opened : Reader → Reader
 opened r = cond (isWhole r) (fresh ((r .offset + r .taken) % 2 ^ 64)) r
 
--- the payload's bytes as they are kept: those that find no room are passed over
+-- what is kept, after the byte b at place `at` of the record: a byte of the head isn't kept, nor one that finds no room
 unfoldable pub keptWith : ℕ → ℕ → List ℕ → List ℕ
 keptWith at b kept = cond (leb 6 at) (set kept (at - 6) b) kept
 

@@ -43,7 +43,7 @@ pub record Rec : Type 0 where
 abbrev pub rec : ℕ → List ℕ → Rec
 rec kind payload = record { kind = kind; payload = payload }
 
--- a head can say its kind and its length
+-- a record that a stream can hold: a head can say its kind and its length, and its payload is bytes
 pub record Sayable (r : Rec) : Type 0 where
   pub kind : r .kind < 65536
   pub size : length (r .payload) < 4294967296

@@ -141,7 +141,7 @@ fn detector(payload: &[u8], n: usize, i: usize) -> u32
     number4(payload, 12 + 12 * n + 4 * i) as u32
 }
 
-// All of them.
+// All the detectors.
 pub(crate) fn detectors_in(payload: &[u8], n: usize, detectors: &mut [u32])
     requires { ⌜ (n ≤ 256) × (length (now detectors) ≤ 512) ⌝ }
     ensures { λ _. ⌜ now (detectors .exit) ≡ table (length (now (detectors .entry))) (detectorOf n (now (payload .entry))) ⌝ }

@@ -1,10 +1,10 @@
 // The tests 41 to 45, each by itself.
-use tests_core::at_most;
-use tests_core::both;
-use tests_core::same_number;
 ghost use mathlib.Core.Path.{_≡_};
 ghost use mathlib.Core.Bool.{_||_, not};
 ghost use Rattle.records.specs.Stream.{kindGood, countsFit, lengthGood, timeGood, roomGood, scheduleGood};
+use tests_core::at_most;
+use tests_core::both;
+use tests_core::same_number;
 
 // 41: the kind is known.
 pub(crate) fn kind_good(kind: usize) -> bool

@@ -1,9 +1,9 @@
 // One byte more of a record.
-use crate::Reader;
-use crate::is_whole;
 ghost use mathlib.Core.Path.{_≡_};
 ghost use Prim.Native.Nat.{_*_, _^_, _<_, _≤_};
 ghost use Rattle.records.specs.Reading.{grown as grownTo, summed as summedTo, added as addedTo, opened as openedOf, keptWith};
+use crate::Reader;
+use crate::is_whole;
 
 // A byte worth 256^k.
 fn placed(byte: u8, k: usize) -> usize

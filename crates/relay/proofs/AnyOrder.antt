@@ -1,4 +1,4 @@
--- Demand 3 over the whole call: an order that 23 and 24 take gives what the index order gives, answer and every lent list. Assumes nothing.
+-- Demand 3 (docs/PROMISES.md) over the whole call: an order that 23 and 24 take gives what the index order gives, answer and every lent list. Assumes nothing.
 use Prim.Native.Nat.{ℕ}
 use mathlib.Core.Path.{_≡_, refl, ap, _∙_}
 use mathlib.Core.List.{List}

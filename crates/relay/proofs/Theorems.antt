@@ -63,18 +63,18 @@ pub iteration-steps : (edges : ℕ) (prior : List Float) (g : Graph) (schedule :
 unfolding iterationCall
 iteration-steps edges prior g schedule alpha gamma syndrome order l h = rw h
 
--- ---- "Every order it takes gives the index order's outcome, bit for bit"
+-- ---- demand 3 (docs/PROMISES.md): an order that is taken gives the index order's outcome
 
 -- a decode in an order that 23 and 24 take is the decode in index order: the answer, and each lent list
 pub any-order : (edges : ℕ) (x : Shot) (l : Lists) → namesFault (x .graph .checks) (x .order) ≡ Done → exchangeFault (x .settings .schedule) (x .graph) (x .order) ≡ Done
     → decodeInOrder edges x l ≡ decode edges x l
 any-order edges x l names free = order-free edges x l names free
 
--- "Flooding takes any that names each check once"
+-- Flooding takes any that names each check once
 pub flooding-orders : (g : Graph) (order : List ℕ) → ((namesFault (g .checks) order ≡ Done) × (exchangeFault Flooding g order ≡ Done)) ↔ NamesOnce (g .checks) order
 flooding-orders g order = flooding-takes g order
 
--- "CheckSerial any that, besides, keeps index order between checks that share a mechanism"
+-- CheckSerial any that, besides, keeps index order between checks that share a mechanism
 pub serial-orders : (g : Graph) (order : List ℕ)
     → ((namesFault (g .checks) order ≡ Done) × (exchangeFault CheckSerial g order ≡ Done)) ↔ (NamesOnce (g .checks) order × KeepsOrder g order)
 serial-orders g order = serial-takes g order

@@ -20,14 +20,17 @@ pub data Kept (R : ℕ → ℕ → Type 0) : List ℕ → Type 0 where
   end : Kept R []
   first : {x : ℕ} {xs : List ℕ} → All (λ y. y < x → R x y) xs → Kept R xs → Kept R (x ∷ xs)
 
+-- one fewer asks no more
 kept-without : {R : ℕ → ℕ → Type 0} (xs : List ℕ) (y : ℕ) (ys : List ℕ) → Kept R (xs ++ (y ∷ ys)) → Kept R (xs ++ ys)
 kept-without [] y ys (Kept.first t k) = k
 kept-without (x ∷ xs) y ys (Kept.first t k) = Kept.first (all-without xs y ys t) (kept-without xs y ys k)
 
+-- what is asked of one that stands before others
 kept-after : {R : ℕ → ℕ → Type 0} (xs : List ℕ) (y : ℕ) (ys : List ℕ) → Kept R (xs ++ (y ∷ ys)) → All (λ z. z < y → R y z) ys
 kept-after [] y ys (Kept.first t k) = t
 kept-after (x ∷ xs) y ys (Kept.first t k) = kept-after xs y ys k
 
+-- without the highest, the others are still named once each
 names-without : (n : ℕ) (pre post : List ℕ) → NamesOnce (suc n) (pre ++ (n ∷ post)) → NamesOnce n (pre ++ post)
 names-without n pre post h = record { once-each = λ k l. go k (h .once-each k (omega arith)) (λ e. omega arith); none-else = λ k l. zeros k l (ℕ-discrete n k) }
   where
@@ -42,6 +45,7 @@ names-without n pre post h = record { once-each = λ k l. go k (h .once-each k (
 abbrev pub FreeIf : (ℕ → ℕ → Type 0) → ℕ → ℕ → Type 0
 FreeIf R x y = (y < x) × R x y
 
+-- such a list is one of the orders that the order theorem speaks of
 pub orders : (R : ℕ → ℕ → Type 0) (n : ℕ) (xs : List ℕ) → NamesOnce n xs → Kept R xs → Orders (FreeIf R) n xs
 orders R zero [] h k = Orders.none
 orders R zero (x ∷ xs) h k = absurd (omega (arith, all-head (names-below h)))
@@ -61,19 +65,23 @@ orders R (suc n) xs h k =
 abbrev pub Apart : (ℕ → List ℕ) → ℕ → ℕ → Type 0
 Apart entries x y = shares entries y x ≡ false
 
+-- what is not refused
 cond-none : (b : Bool) (c : ℕ) (o : Answer) → cond b (Refused (OrderExchanged c)) o ≡ Done → (b ≡ false) × (o ≡ Done)
 cond-none true c o h = absurd (let z : _≡_ {A = ℕ} 0 1 = cc in omega arith)
 cond-none false c o h = (refl, h)
 
+-- the other of two that don't both hold
 and-false : (a b : Bool) → (a && b) ≡ false → a ≡ true → b ≡ false
 and-false true b h e = h
 and-false false b h e = absurd (let z : _≡_ {A = ℕ} 0 1 = cc in omega arith)
 
 module _ (entries : ℕ → List ℕ) where
+  -- of one that isn't late: it shares no mechanism with a higher one before it
   late-none : (before : List ℕ) (c : ℕ) → late entries before c ≡ false → All (λ d. c < d → Apart entries d c) before
   unfolding late above
   late-none before c h = all-map (λ d e l. and-false (ltb c d) (shares entries c d) e (lt-ltb c d l)) (any-none _ before h)
 
+  -- where nothing is refused: none is late by the ones before, nor by one another
   both : (before xs : List ℕ) → exchanged entries before xs ≡ Done
       → All (λ d. All (λ c. c < d → Apart entries d c) xs) before × Kept (Apart entries) xs
   unfolding exchanged
@@ -83,6 +91,7 @@ module _ (entries : ℕ → List ℕ) where
       let r = both (before ++ (c ∷ [])) rest (e .1) in
       (all-zip (λ d l t. All.cons l t) (late-none before c (e .0)) (all-left before (c ∷ []) (r .0)), Kept.first (all-head (all-right before (c ∷ []) (r .0))) (r .1))
 
+  -- an order that 24 takes
   pub kept : (xs : List ℕ) → exchanged entries [] xs ≡ Done → Kept (Apart entries) xs
   kept xs h = both [] xs h .1
 

@@ -1,8 +1,5 @@
 // `update_check` over the variables and the messages of one check: a pass that finds the total sign and the two least magnitudes, and a
 // pass that sends.
-use messages_core::Scan;
-use messages_core::lowered;
-use messages_core::start_scan;
 ghost use mathlib.Core.Path.{_≡_};
 ghost use mathlib.Core.Bool.{cond};
 ghost use Prim.Native.Nat.{_≤_};
@@ -14,6 +11,9 @@ ghost use Rattle.graph.specs.Messages.{scanOf};
 ghost use Rattle.messages_core.specs.Needs.{Ordered, Rises};
 ghost use Rattle.relay_core.specs.Step.{scanned as scannedOf, saturated as saturatedOf, checkMessages};
 ghost use Rattle.relay_core.specs.Places.{scanPlaces, bySigns};
+use messages_core::Scan;
+use messages_core::lowered;
+use messages_core::start_scan;
 
 // The message at a place.
 fn scanned(s: Scan, place: usize, message: f64) -> Scan
@@ -69,7 +69,7 @@ fn by_sign(message: f64, minus: f64, plus: f64) -> f64
     plus
 }
 
-// That at all places.
+// What a check sends if all messages are as that of the least: one of two by sign, at each place.
 fn send(minus: f64, plus: f64, v_to_c: &[f64], c_to_v: &mut [f64])
     requires { ⌜ length (now «c_to_v») ≡ length (now «v_to_c») ⌝ }
     ensures { λ _. ⌜ now («c_to_v» .exit) ≡ bySigns minus plus (now («v_to_c» .entry)) (length (now («v_to_c» .entry))) ⌝ }
@@ -98,7 +98,7 @@ fn update_check(alpha: f64, odd: bool, variables: &[u32], v_to_c: &[f64], c_to_v
     }
 }
 
-// That, for the check whose entries lie from `start` to `end`.
+// `update_check` for the check whose entries lie from `start` to `end`.
 pub(crate) fn update_part(
     alpha: f64,
     odd: bool,

@@ -1,14 +1,14 @@
 // The gammas of a leg: gamma0 throughout, a set of the flat list, or a seeded draw.
-use messages_core::copy;
-use numbers::SplitMix64;
-use settings::GammaSource;
-use settings::Settings;
 ghost use mathlib.Core.Path.{_≡_};
 ghost use Prim.Native.Nat.{ℕ, _+_, _-_, _*_, _%_, _<_, _≤_};
 ghost use lib.ListN.{length, replicate};
 ghost use Rattle.numbers.specs.Loops.{part};
 ghost use Rattle.settings.specs.declared.GammaSource.the-variants.{Explicit};
 ghost use Rattle.relay_core.specs.Gammas.{drawn, relayGamma, gammaOf};
+use messages_core::copy;
+use numbers::SplitMix64;
+use settings::GammaSource;
+use settings::Settings;
 
 // x throughout.
 fn fill(x: f64, gamma: &mut [f64])
@@ -53,7 +53,7 @@ fn copy_set(sets: usize, leg: usize, flat: &[f64], gamma: &mut [f64])
     copy(&flat[start..end], gamma);
 }
 
-// The gammas of a relayed leg.
+// `prepare_relay_gamma`: the gammas of a relayed leg.
 fn relay_gamma(
     source: GammaSource,
     low: f64,
@@ -73,7 +73,7 @@ fn relay_gamma(
     }
 }
 
-// `prepare_relay_gamma`: those of any leg.
+// The gammas of any leg: gamma0 in leg zero.
 pub fn prepare_gamma(t: Settings, flat: &[f64], seed: u64, leg: usize, gamma: &mut [f64])
     requires { ⌜ leg ≤ 65535 ⌝ }
     requires { ⌜ (0 < leg → (sets : ℕ) → t .«gamma_source» ≡ Explicit sets → (0 < sets) × (length (now flat) ≡ sets * length (now gamma))) ⌝ }

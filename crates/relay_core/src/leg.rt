@@ -1,7 +1,4 @@
 // A leg: the hard decision and its test, the weight of a correction, and the iterations of one leg.
-use crate::step::step;
-use messages_core::at;
-use settings::Schedule;
 ghost use mathlib.Core.Path.{_≡_};
 ghost use mathlib.Core.Bool.{false};
 ghost use Prim.Native.Nat.{_<_};
@@ -10,6 +7,9 @@ ghost use Rattle.numbers.specs.Loops.{every};
 ghost use Rattle.messages_core.specs.Needs.{Entries, Walks, walked, ofChecks};
 ghost use Rattle.relay_core.specs.Step.{state, iteration};
 ghost use Rattle.relay_core.specs.Leg.{hardBit, hardDecision, parity as parityOf, matches as matchesOf, satisfied as satisfiedBy, leg as legOf, runLeg, cost as costOf, correctionWeight};
+use crate::step::step;
+use messages_core::at;
+use settings::Schedule;
 
 // A bit is 1 when its posterior is below 0.
 fn hard_bit(p: f64) -> u8
@@ -118,7 +118,7 @@ pub struct Leg {
     pub iterations: usize,
 }
 
-// `run_leg`, of one iteration or more: the bits are left as the last hard decision.
+// `run_leg`. After one iteration or more the bits are the last hard decision.
 pub fn run_leg(
     limit: usize,
     schedule: Schedule,

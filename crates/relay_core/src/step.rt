@@ -1,15 +1,15 @@
 // One iteration in a given order of checks: the step that the public iteration takes and that decode repeats.
-use crate::check::update_part;
-use crate::variable::update_variable;
-use crate::variable::update_variables;
-use messages_core::at;
-use settings::Schedule;
 ghost use mathlib.Core.Path.{_≡_};
 ghost use mathlib.Core.List.{[]};
 ghost use Prim.Native.Nat.{_<_};
 ghost use lib.ListN.{length};
 ghost use Rattle.messages_core.specs.Needs.{Offsets, Entries, Walks, walked, ofChecks, ofVariables, RowsRise};
 ghost use Rattle.relay_core.specs.Step.{state, biasOf, computeBias, updateCheck, checkPass, variablePass, serialCheck, serialPass, floodingIteration, checkSerialIteration, iteration};
+use crate::check::update_part;
+use crate::variable::update_variable;
+use crate::variable::update_variables;
+use messages_core::at;
+use settings::Schedule;
 
 // A variable's bias.
 fn bias_of(prior: f64, gamma: f64, posterior: f64) -> f64

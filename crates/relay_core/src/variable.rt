@@ -1,6 +1,4 @@
 // One variable, with the messages that its entries name: its posterior, and what it sends to its checks.
-use messages_core::at;
-use messages_core::total;
 ghost use mathlib.Core.Path.{_≡_};
 ghost use mathlib.Core.List.{foldl};
 ghost use Prim.Native.Nat.{_<_};
@@ -9,6 +7,8 @@ ghost use Rattle.numbers.specs.Floats.{_+ᶠ_};
 ghost use Rattle.graph.specs.Messages.{total as totalOf};
 ghost use Rattle.messages_core.specs.Needs.{Entries, Walks, ofVariables};
 ghost use Rattle.relay_core.specs.Step.{written, state, updateVariable};
+use messages_core::at;
+use messages_core::total;
 
 // p without each own message, written for each message that the entries name.
 fn write_messages(entries: &[u32], p: f64, c_to_v: &[f64], v_to_c: &mut [f64])

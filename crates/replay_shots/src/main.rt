@@ -6,6 +6,7 @@ use session::Session;
 
 // A stream, whole.
 fn stream(bytes: &[u8]) {
+    // The longest payload within the room: 12 + 12 * 256 + 4 * 512 bytes.
     let mut payload = [0u8; 5132];
     let mut model = [0u8; 5132];
     let mut line = [0u8; 512];

@@ -135,20 +135,24 @@ pub record Shown : Type 0 where
 abbrev pub shown : Calls.Told → List ℕ → List Float → Shown
 shown a b p = record { answer = a; bits = b; posterior = p }
 
+-- that, of a decode's outcome
 abbrev pub show : Calls.Outcome → Shown
 show o = shown (tellOf (o .answer)) (o .left .correction) (o .left .posterior)
 
--- the first iteration of a leg on G, in the order given, with gammas 0: its answer and its posterior
+-- the first iteration of a leg on G, in the order given, with gammas 0
 abbrev pub first : Schedule → List ℕ → Calls.StepOutcome
 first schedule order = iterationCall 4 fours G schedule one⁺ (replicate 3 zero⁺) (1 ∷ 0 ∷ []) order (stepLists (startLeg G fours fours) (replicate 3 nine))
 
+-- of a single iteration, what a run says: the answer and the posterior
 pub record Stepped : Type 0 where
   pub answer : Answer
   pub posterior : List Float
 
+-- that, of an iteration's outcome
 abbrev pub stepped : Calls.StepOutcome → Stepped
 stepped o = record { answer = o .answer; posterior = o .left .now .posterior }
 
+-- nothing is refused, and this is the posterior
 abbrev pub steppedTo : List Float → Stepped
 steppedTo p = record { answer = Done; posterior = p }
 
@@ -169,6 +173,7 @@ believes edges p = Beliefs.outcome Done (Beliefs.lists p (replicate (length p) z
 abbrev pub at2 : Shown
 at2 = shown (told Done true 1 2 (some four)) (1 ∷ 0 ∷ 0 ∷ []) (four⁻ ∷ four ∷ four ∷ [])
 
+-- the runs that document 01 lists
 pub record Table : Type 0 where
   -- offsets 0,2,4 and 0,1,3,4; variable 1 has messages 1 and 2
   pub r1 : (builtG ≡ Model.outcome Done (graph 2 3 (0 ∷ 1 ∷ 1 ∷ 2 ∷ []) (0 ∷ 1 ∷ 2 ∷ 3 ∷ []) (0 ∷ 2 ∷ 4 ∷ []) (0 ∷ 0 ∷ 1 ∷ 1 ∷ []) (0 ∷ 1 ∷ 2 ∷ 3 ∷ []) (0 ∷ 1 ∷ 3 ∷ 4 ∷ [])))

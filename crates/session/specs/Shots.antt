@@ -54,7 +54,7 @@ stops s r line =
     let text = stoppedLine (numberOf r) (s .reader .offset) in
     told (session (s .reader) (s .known) (s .shots) true (length text)) (over text line)
 
--- a line is said of a shot
+-- a line is said of a shot, and the next shot has the next number
 unfoldable pub says : Session → List ℕ → List ℕ → Told
 says s text line = told (session (s .reader) (s .known) ((s .shots + 1) % 2 ^ 64) (s .stopped) (length text)) (over text line)
 

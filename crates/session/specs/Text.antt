@@ -1,5 +1,5 @@
 -- What `shots` writes for a stream that the grammar tells apart into records and what is left over: record after record, each by 41 to 45 and the table. That the
--- session says this, byte by byte, is proved (`Theorems`). Definitions only. Assumes nothing.
+-- session says this, byte by byte, is proved (`stream_laws` `ShotsTheorems`). Definitions only. Assumes nothing.
 use Prim.Native.Nat.{ℕ, _+_, _%_, _^_}
 use mathlib.Core.Bool.{cond}
 use mathlib.Core.List.{List, [], _∷_, _++_}

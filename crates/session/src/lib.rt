@@ -1,5 +1,5 @@
-// A run of `shots`: the session that its stream makes, one byte after the other. It decides nothing itself: `records` reads and judges, `graph`, `settings` and
-// `relay` test and decode, and `lines` has the text. Room: 128 checks, 256 mechanisms, 512 edges, 16 relayed legs.
+// A run of `shots`: the session that its stream makes, one byte after the other. It decides nothing itself: `records` reads and judges, `shots_core` tests and
+// decodes with `graph`, `settings` and `relay`, and `lines` has the text. Room: 128 checks, 256 mechanisms, 512 edges, 16 relayed legs.
 mod taking;
 mod telling;
 

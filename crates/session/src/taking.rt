@@ -1,13 +1,13 @@
 // A record that has been read to its end.
-use crate::Known;
-use crate::Session;
-use crate::telling;
-use refusals::Answer;
 ghost use mathlib.Core.Path.{_≡_};
 ghost use lib.ListN.{take};
 ghost use Rattle.records.specs.Reading.{keptOf};
 ghost use Rattle.session.specs.Shots.{told, taken, tells, shotTaken, settingsTaken, modelTaken, kindTaken, recordTaken};
 ghost use Rattle.shots_core.specs.Table.{modelFault, settingsAnswer, shotDecoded};
+use crate::Known;
+use crate::Session;
+use crate::telling;
+use refusals::Answer;
 
 // Settings: they replace earlier ones, and the model stays.
 fn take_settings(s: Session, payload: &[u8], line: &mut [u8; 512]) -> Session

@@ -1,13 +1,13 @@
 // What a session says.
+ghost use mathlib.Core.Path.{_≡_};
+ghost use Prim.Native.Nat.{_+_, _%_, _^_};
+ghost use Rattle.session.specs.Shots.{session, told, goesOn, reads as readsOn, stops, refuses, finds as findsOf, answers};
 use crate::Known;
 use crate::Session;
 use calls_core::Decoded;
 use records::Reader;
 use refusals::Refusal;
 use refusals::number_of;
-ghost use mathlib.Core.Path.{_≡_};
-ghost use Prim.Native.Nat.{_+_, _%_, _^_};
-ghost use Rattle.session.specs.Shots.{session, told, goesOn, reads as readsOn, stops, refuses, finds as findsOf, answers};
 
 // Nothing, and this is known from now on.
 pub(crate) fn goes_on(s: Session, k: Known) -> Session

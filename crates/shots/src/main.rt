@@ -4,6 +4,7 @@ use session::Session;
 
 // Reads to the end of the input, or until a refusal. A proved loop has to end, so it counts its turns down, from a number that no run uses up.
 fn main() {
+    // The longest payload within the room: 12 + 12 * 256 + 4 * 512 bytes.
     let mut payload = [0u8; 5132];
     let mut model = [0u8; 5132];
     let mut line = [0u8; 512];

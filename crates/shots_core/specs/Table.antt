@@ -38,7 +38,7 @@ graphRoom p =
     let e = counts 512 (edges p) in
     graph (checks p) (mechanisms p) e e (counts 129 (checks p + 1)) e e (counts 257 (mechanisms p + 1))
 
--- those that a shot is decoded in, beside the correction that the caller lends: 16 relayed legs and the first
+-- those that a shot is decoded in, beside the correction that the caller lends: 16 relayed legs and the first, 17 rows of 256
 abbrev pub shotRoom : List ℕ → List ℕ → Calls.Lists
 shotRoom p correction =
     let m = floats 256 (mechanisms p) in
@@ -66,7 +66,7 @@ within p = leb (checks p) 128 && (leb (mechanisms p) 256 && leb (edges p) 512)
 unfoldable pub builtFrom : ℕ → List ℕ → ModelLists → Graph → Outcome
 builtFrom edges p l g = let r = modelRead p l in buildSparse edges (r .priors) (r .detectorOffsets) (r .detectors) g
 
--- a model: 1 to 6
+-- a model: 44 once more, then 1 to 6
 unfoldable pub modelFault : List ℕ → Answer
 modelFault p = orElse (unless (within p) BeyondRoom) (builtFrom (edges p) p (modelRoom p) (graphRoom p) .answer)
 
@@ -94,7 +94,7 @@ decoding d correction = record { answer = d; correction = correction }
 unfoldable pub found : Calls.Outcome → Decoding
 found o = decoding (o .answer) (o .left .correction)
 
--- a shot: 20, 21 and 30, or what the decode gives
+-- a shot: what the decode gives, 20, 21 and 30 among it; 44 where the model is beyond the room
 unfoldable pub shotDecoded : List ℕ → Settings → List ℕ → List ℕ → Decoding
 shotDecoded model settings p correction =
     cond (within model)

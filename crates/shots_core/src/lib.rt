@@ -1,13 +1,5 @@
 // The table behind 45, for `session` alone: a model by 1 to 6, settings by 10 to 16, a shot by 20, 21 and 30, each out of the payload of its record. Each call works in
 // arrays of its own, filled with one value. Room: 128 checks, 256 mechanisms, 512 edges, 16 relayed legs.
-use calls_core::Decoded;
-use graph::Size;
-use records::Counts;
-use refusals::Answer;
-use refusals::Refusal;
-use settings::Settings;
-use tests_core::at_most;
-use tests_core::both;
 ghost use mathlib.Core.Path.{_≡_};
 ghost use mathlib.Core.Bool.{_&&_};
 ghost use Prim.Native.Nat.{_≤_};
@@ -17,6 +9,24 @@ ghost use Rattle.graph.specs.Graph.{graph};
 ghost use Rattle.records.specs.Stream.{edges};
 ghost use Rattle.records.specs.Fields.{countsOf, modelLists};
 ghost use Rattle.shots_core.specs.Table.{builtFrom, modelFault, settingsAnswer, decodedFrom, decoding, found, shotDecoded, modelRoom, graphRoom, shotRoom};
+use calls_core::Decoded;
+use graph::Size;
+use records::Counts;
+use refusals::Answer;
+use refusals::Refusal;
+use settings::Settings;
+use tests_core::at_most;
+use tests_core::both;
+
+// n, or the length of a list that is shorter.
+pub fn front(list: &[u8], n: usize) -> usize
+    ensures { λ r. ⌜ (r ≤ length (now (list .entry))) × (take r (now (list .entry)) ≡ take n (now (list .entry))) × (drop r (now (list .entry)) ≡ drop n (now (list .entry))) ⌝ }
+{
+    if n <= list.len() {
+        return n;
+    }
+    list.len()
+}
 
 // Whether a model is within the room.
 fn within(c: Counts) -> bool
@@ -59,7 +69,7 @@ fn built(
     )
 }
 
-// That for a model within the room, in arrays of its own.
+// A model within the room, read and built in arrays of its own.
 fn built_within(c: Counts, payload: &[u8]) -> Answer
     requires { ⌜ (c ≡ countsOf (now payload)) × (c .checks ≤ 128) × (c .mechanisms ≤ 256) × (c .edges ≤ 512) ⌝ }
     ensures { λ a. ⌜ a ≡ builtFrom (edges (now (payload .entry))) (now (payload .entry)) (modelRoom (now (payload .entry))) (graphRoom (now (payload .entry))) .answer ⌝ }
@@ -115,7 +125,7 @@ pub fn settings_answer(payload: &[u8]) -> Answer
     settings::check_settings(records::read_settings(payload), 0, &none[..0])
 }
 
-// A model read and built and a shot decoded over it and told, in lists of the model's sizes.
+// A model read and built and a shot decoded over it, in lists of the model's sizes.
 fn decoded(
     size: Size,
     settings: Settings,
@@ -266,14 +276,4 @@ pub fn decode_shot(
         return decoded_within(c, settings, model, &payload[from..], seed, correction);
     }
     Decoded::Refused(Refusal::BeyondRoom)
-}
-
-// n, or the length of a list that is shorter.
-pub fn front(list: &[u8], n: usize) -> usize
-    ensures { λ r. ⌜ (r ≤ length (now (list .entry))) × (take r (now (list .entry)) ≡ take n (now (list .entry))) × (drop r (now (list .entry)) ≡ drop n (now (list .entry))) ⌝ }
-{
-    if n <= list.len() {
-        return n;
-    }
-    list.len()
 }
