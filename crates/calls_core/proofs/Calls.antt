@@ -21,17 +21,16 @@ use Rattle.graph.specs.Graph.{Graph, graph}
 use Rattle.graph.specs.Model.{graphFault}
 use Rattle.graph.proofs.GraphTests.{graph-told}
 use Rattle.messages_core.specs.Needs.{Entries, Walks, walked, ofVariables}
-use Rattle.messages_core.proofs.Parts.{walks-both}
+use Rattle.messages_core.proofs.Parts.{walks-both, entries-along}
 use Rattle.messages_core.proofs.Walks.{graph-walks}
 use Rattle.settings.specs.declared.Schedule.{Schedule}
 use Rattle.settings.specs.declared.Schedule.the-variants.{Flooding, CheckSerial}
 use Rattle.calls_core.specs.declared.LegRecord.{LegRecord}
 use Rattle.calls_core.specs.declared.LegRecord.the-variants as LegRecord
 use Rattle.relay_core.specs.Step.{State, state, updateCheck, updateVariable, checkPass, variablePass, floodingIteration, serialCheck, serialPass, checkSerialIteration, iteration}
-use Rattle.orders_core.specs.Order.{namesOnce, namesFault}
+use Rattle.calls_core.specs.Decode.{Shot, Run, Progress, running, finished, afterLeg, legs}
 use Rattle.calls_core.specs.Calls.{byteFault, syndromeFault, StepLists, stepLists, StepOutcome, stepOutcome, stepFits, finiteAt, stepFault, messageFinite, mechanismFinite, mechanismFault, stepEnd, stepped, afterStepTests, iterationCall, recordOf, legRecord}
-use Rattle.orders_core.proofs.All.{all-at}
-use Rattle.orders_core.proofs.Counts.{names-below, names-once-is}
+use Rattle.calls_core.proofs.Named.{names-entries}
 
 -- ---- what the tests tell
 
@@ -94,12 +93,12 @@ stepped-is edges checks mechanisms cv co vm vo s t u bias a e n m k b h l =
 
 module _ (checks mechanisms : ℕ) (cv cm co vc vm vo : List ℕ) (alpha : Float) (syndrome : List ℕ) (prior gamma : List Float) (order : List ℕ) where
   -- the step of the whole graph is that of the four
-  same-step : (schedule : Schedule) (s : State)
-      → iteration schedule (walked checks mechanisms cv co vm vo) alpha syndrome prior gamma order s
-      ≡ iteration schedule (graph checks mechanisms cv cm co vc vm vo) alpha syndrome prior gamma order s
+  pub same-step : (schedule : Schedule)
+      → iteration schedule (walked checks mechanisms cv co vm vo) alpha syndrome prior gamma order
+      ≡ iteration schedule (graph checks mechanisms cv cm co vc vm vo) alpha syndrome prior gamma order
   unfolding floodingIteration checkSerialIteration checkPass variablePass serialPass serialCheck updateCheck updateVariable
-  same-step Flooding s = refl
-  same-step CheckSerial s = refl
+  same-step Flooding = refl
+  same-step CheckSerial = refl
 
   -- and so is its end
   same-end : (edges : ℕ) (s : State) → stepped edges (walked checks mechanisms cv co vm vo) s ≡ stepped edges (graph checks mechanisms cv cm co vc vm vo) s
@@ -115,21 +114,13 @@ stepped-counted edges edges′ checks checks′ mechanisms mechanisms′ cv co v
 
 -- ---- the single iteration
 
--- an order that names each check once names checks
-names-entries : (n : ℕ) (order : List ℕ) → namesOnce n order ≡ true → Entries n order
-names-entries n order h = record { names = λ k l. all-at (names-below (names-once-is n order .0 h)) k l }
-
--- as many, however they are counted
-entries-counted : (n m : ℕ) (xs : List ℕ) → n ≡ m → Entries m xs → Entries n xs
-entries-counted n m xs e h = rw e h
-
 -- a call that its tests refuse leaves the lists
 leaves : (a : Answer) (o : StepOutcome) (l : StepLists) → isDone a ≡ false → stepOutcome a l ≡ afterStepTests a o l
 leaves Done o l h = absurd (true≢false h)
 leaves (Refused r) o l h = refl
 
 -- what the tests tell where none refuses
-pub record Told (edges checks mechanisms : ℕ) (cv co vm vo : List ℕ) (prior gamma : List Float) (syndrome order : List ℕ) (l : StepLists) : Type 0 where
+pub record Passed (edges checks mechanisms : ℕ) (cv co vm vo : List ℕ) (prior gamma : List Float) (syndrome order : List ℕ) (l : StepLists) : Type 0 where
   pub edges-many : length cv ≡ edges
   pub checks-many : length syndrome ≡ checks
   pub mechanisms-many : length prior ≡ mechanisms
@@ -144,10 +135,10 @@ pub record Told (edges checks mechanisms : ℕ) (cv co vm vo : List ℕ) (prior 
 
 module _ (edges checks mechanisms : ℕ) (cv cm co vc vm vo : List ℕ) (prior : List Float) (alpha : Float) (gamma : List Float) (syndrome order : List ℕ) (l : StepLists) where
   -- where none refuses, they tell all that the step asks
-  pub told : (a : Answer) (b : Bool) → a ≡ stepFault edges prior (graph checks mechanisms cv cm co vc vm vo) alpha gamma syndrome order l → b ≡ isDone a
-      → not b ≡ false → Told edges checks mechanisms cv co vm vo prior gamma syndrome order l
-  unfolding stepFault stepFits syndromeFault namesFault
-  told a b e d h =
+  pub passed : (a : Answer) (b : Bool) → a ≡ stepFault edges prior (graph checks mechanisms cv cm co vc vm vo) alpha gamma syndrome order l → b ≡ isDone a
+      → not b ≡ false → Passed edges checks mechanisms cv co vm vo prior gamma syndrome order l
+  unfolding stepFault stepFits syndromeFault
+  passed a b e d h =
       let t1 = or-done _ _ (sym e ∙ done-is a (sym d ∙ not-false b h)) in
       let t2 = or-done _ _ (t1 .1) in
       let t3 = or-done _ _ (t2 .1) in
@@ -166,7 +157,7 @@ module _ (edges checks mechanisms : ℕ) (cv cm co vc vm vo : List ℕ) (prior :
         mechanisms-many = g .priors-many;
         check-walks = walks-both _ _ _ _ _ _ (sym many) (sym (g .priors-many)) (w .0);
         var-walks = walks-both _ _ _ _ _ _ (sym (g .priors-many)) refl (w .1);
-        named = entries-counted _ _ _ many (names-entries checks order (unless-done _ _ (t5 .0)));
+        named = entries-along _ _ _ (sym many) (names-entries checks order (t5 .0));
         gamma-many = eqb-true _ _ (f1 .0) ∙ sym (g .priors-many);
         bias-many = eqb-true _ _ (f4 .1) ∙ sym (g .priors-many);
         posterior-many = eqb-true _ _ (f4 .0) ∙ sym (g .priors-many);
@@ -189,13 +180,23 @@ module _ (edges checks mechanisms : ℕ) (cv cm co vc vm vo : List ℕ) (prior :
         → o ≡ iterationCall edges prior (graph checks mechanisms cv cm co vc vm vo) schedule alpha gamma syndrome order l
     unfolding iterationCall
     iteration-ran a b o e d h q =
-        let t = told a b e d h in
+        let t = passed a b e d h in
         let done : stepFault edges prior (graph checks mechanisms cv cm co vc vm vo) alpha gamma syndrome order l ≡ Done = sym e ∙ done-is a (sym d ∙ not-false b h) in
         rw done
         (q
         ∙ stepped-counted _ _ _ _ _ _ cv co vm vo schedule alpha syndrome prior gamma order (l .now) (t .edges-many) (t .checks-many) (t .mechanisms-many)
-        ∙ ap (stepped edges (walked checks mechanisms cv co vm vo)) (same-step checks mechanisms cv cm co vc vm vo alpha syndrome prior gamma order schedule (l .now))
+        ∙ ap (λ step. stepped edges (walked checks mechanisms cv co vm vo) (step (l .now))) (same-step checks mechanisms cv cm co vc vm vo alpha syndrome prior gamma order schedule)
         ∙ same-end checks mechanisms cv cm co vc vm vo alpha syndrome prior gamma order edges _)
+
+-- ---- the legs
+
+-- two shots each of whose legs is recorded and judged alike end alike
+pub legs-agree : (x y : Shot) → ((r : ℕ) (run : Run) → afterLeg x r run ≡ afterLeg y r run) → (n : ℕ) (p : Progress) (r : ℕ) → legs x n p r ≡ legs y n p r
+unfolding legs
+legs-agree x y e zero (running run) r = refl
+legs-agree x y e zero (finished f) r = refl
+legs-agree x y e (suc n) (running run) r = legs-agree x y e n (afterLeg x r run) (suc r) ∙ ap (λ p. legs y n p (suc r)) (e r run)
+legs-agree x y e (suc n) (finished f) r = refl
 
 -- ---- a leg's record
 

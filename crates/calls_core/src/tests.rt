@@ -1,16 +1,17 @@
 // The tests before a single iteration, in document 01's order, and those of a syndrome.
 ghost use mathlib.Core.Path.{_≡_};
-ghost use mathlib.Core.Bool.{_&&_};
+ghost use mathlib.Core.List.{[]};
 ghost use Prim.Native.Nat.{_≤_};
-ghost use lib.Dec.{eqb, leb};
+ghost use lib.Dec.{leb};
 ghost use lib.ListN.{length};
 ghost use Rattle.refusals.specs.declared.Refusal.the-variants.{BadAlpha, LentListLength, StateNotFinite};
 ghost use Rattle.refusals.specs.Tests.{unless as unlessOf, orElse, firstOf};
 ghost use Rattle.graph.specs.Graph.{graph};
+ghost use Rattle.messages_core.specs.Needs.{ofVariables};
 ghost use Rattle.settings.specs.Settings.{alphaGood};
 ghost use Rattle.relay_core.specs.Step.{state};
 ghost use Rattle.orders_core.specs.Order.{namesFault};
-ghost use Rattle.calls_core.specs.Calls.{byteFault, syndromeFault, allFinite, stateFinite, stepLists, stepFault};
+ghost use Rattle.calls_core.specs.Calls.{byteFault, syndromeFault, allFinite, stepFits, stateFinite, stepLists, stepFault};
 use numbers::is_finite;
 use orders_core::names_fault;
 use refusals::Answer;
@@ -63,7 +64,7 @@ fn lists_fit(
     posterior: &[f64],
     bias: &[f64],
 ) -> bool
-    ensures { λ r. ⌜ r ≡ (eqb (length (now (gamma .entry))) mechanisms && (eqb (length (now («c_to_v» .entry))) edges && (eqb (length (now («v_to_c» .entry))) edges && (eqb (length (now (posterior .entry))) mechanisms && eqb (length (now (bias .entry))) mechanisms)))) ⌝ }
+    ensures { λ r. ⌜ r ≡ stepFits edges (ofVariables mechanisms [] []) (now (gamma .entry)) (stepLists (state (now («c_to_v» .entry)) (now («v_to_c» .entry)) (now (posterior .entry))) (now (bias .entry))) ⌝ }
 {
     let variables = both(
         same_number(posterior.len(), mechanisms),
@@ -116,7 +117,7 @@ fn step_fault(
     bias: &[f64],
 ) -> Answer
     requires { ⌜ size .checks ≤ 65536 ⌝ }
-    ensures { λ r. ⌜ r ≡ orElse (unlessOf (alphaGood alpha) BadAlpha) (orElse (syndromeFault (size .checks) (now (syndrome .entry))) (orElse (unlessOf (eqb (length (now (gamma .entry))) (size .mechanisms) && (eqb (length (now («c_to_v» .entry))) (size .edges) && (eqb (length (now («v_to_c» .entry))) (size .edges) && (eqb (length (now (posterior .entry))) (size .mechanisms) && eqb (length (now (bias .entry))) (size .mechanisms))))) LentListLength) (orElse (namesFault (size .checks) (now (order .entry))) (unlessOf (stateFinite (now (gamma .entry)) (state (now («c_to_v» .entry)) (now («v_to_c» .entry)) (now (posterior .entry)))) StateNotFinite)))) ⌝ }
+    ensures { λ r. ⌜ r ≡ orElse (unlessOf (alphaGood alpha) BadAlpha) (orElse (syndromeFault (size .checks) (now (syndrome .entry))) (orElse (unlessOf (stepFits (size .edges) (ofVariables (size .mechanisms) [] []) (now (gamma .entry)) (stepLists (state (now («c_to_v» .entry)) (now («v_to_c» .entry)) (now (posterior .entry))) (now (bias .entry)))) LentListLength) (orElse (namesFault (size .checks) (now (order .entry))) (unlessOf (stateFinite (now (gamma .entry)) (state (now («c_to_v» .entry)) (now («v_to_c» .entry)) (now (posterior .entry)))) StateNotFinite)))) ⌝ }
 {
     let fit = lists_fit(
         size.mechanisms,

@@ -34,9 +34,9 @@ pub checks-done : (g : Graph) (alpha : Float) (syndrome : List ℕ) (s t : State
 checks-done g alpha syndrome s t order i h p = rw (take-all i order h) at p
 
 -- one variable further
-pub variables-on : (g : Graph) (bias : List Float) (s t u : State) (v : ℕ) → t ≡ variablePass g bias s v → u ≡ updateVariable g bias t v → u ≡ variablePass g bias s (v + 1)
+pub variable-pass-turn : (g : Graph) (bias : List Float) (s t u : State) (v : ℕ) → t ≡ variablePass g bias s v → u ≡ updateVariable g bias t v → u ≡ variablePass g bias s (v + 1)
 unfolding variablePass
-variables-on g bias s t u v p q = rw (q, p, add-one)
+variable-pass-turn g bias s t u v p q = rw (q, p, add-one)
 
 -- one check of a serial pass further
 pub serial-turn : (g : Graph) (alpha : Float) (syndrome : List ℕ) (bias : List Float) (s t u : State) (order : List ℕ) (i c : ℕ) → i < length order
@@ -76,12 +76,12 @@ module _ (checks mechanisms : ℕ) (cv co vm vo : List ℕ) (alpha : Float) (syn
   pass-keeps (c ∷ order) cToV out h = pass-keeps order _ out h
 
   -- a flooding iteration
-  pub flooding-is : (prior gamma bias cToV out : List Float) (u : State) (order : List ℕ) → length prior ≡ mechanisms
+  pub flooding-is : (prior gamma bias cToV out : List Float) (u : State) (order : List ℕ)
       → state out vToC [] ≡ checkPass (ofChecks checks cv co) alpha syndrome order (state cToV vToC []) → bias ≡ computeBias prior gamma posterior → length bias ≡ mechanisms
       → u ≡ variablePass (ofVariables (length bias) vm vo) bias (state out vToC posterior) (length bias)
       → u ≡ floodingIteration (walked checks mechanisms cv co vm vo) alpha syndrome prior gamma order (state cToV vToC posterior)
   unfolding floodingIteration variablePass updateVariable
-  flooding-is prior gamma bias cToV out u order l h b n v = rw (← pass-keeps order cToV out h, ← b) (v ∙ rw n)
+  flooding-is prior gamma bias cToV out u order h b n v = rw (← pass-keeps order cToV out h, ← b) (v ∙ rw n)
 
 -- a serial iteration
 pub serial-iteration-is : (checks mechanisms : ℕ) (cv co vm vo : List ℕ) (alpha : Float) (syndrome : List ℕ) (prior gamma bias : List Float) (s u : State) (order : List ℕ)

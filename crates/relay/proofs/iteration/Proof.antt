@@ -3,7 +3,7 @@
 -- Assumes nothing.
 use Rattle.relay_core.specs.Step.{state}
 use Rattle.calls_core.specs.Calls.{StepLists, stepLists}
-use Rattle.calls_core.proofs.Calls.{Told, told, iteration-refused, iteration-ran}
+use Rattle.calls_core.proofs.Calls.{Passed, passed, iteration-refused, iteration-ran}
 use borrow.Author.Needs.{needs}
 use Rattle.relay.proofs.iteration.Statement.{statement}
 use Rattle.relay.proofs.iteration.Tie as tie
@@ -12,9 +12,9 @@ use Rattle.relay.proofs.iteration.Tie as tie
 abbrev lent : tie.Start → StepLists
 lent c = let a = c .args in stepLists (state (a .c-to-v .now) (a .v-to-c .now) (a .posterior .now)) (a .bias .now)
 
--- what the tests told
-passed : (c : tie.Else1) → let a = c .before .before .before .before .before .before .before .before .before .before .before .before .before .before .before .before .before .before .before .before .before .args in Told (a .size .edges) (a .size .checks) (a .size .mechanisms) (a .check-var .now) (a .check-offset .now) (a .var-message .now) (a .var-offset .now) (a .priors .now) (a .gamma .now) (a .syndrome .now) (a .order .now) (lent (c .before .before .before .before .before .before .before .before .before .before .before .before .before .before .before .before .before .before .before .before .before))
-passed c = told _ _ _ _ _ _ _ _ _ _ _ _ _ _ (lent (c .before .before .before .before .before .before .before .before .before .before .before .before .before .before .before .before .before .before .before .before .before)) _ _ (c .before .before .fault .ensures) (c .before .is-done .ensures) (c .if1 .left)
+-- what the step asks, as the tests told it
+asked : (c : tie.Else1) → let a = c .before .before .before .before .before .before .before .before .before .before .before .before .before .before .before .before .before .before .before .before .before .args in Passed (a .size .edges) (a .size .checks) (a .size .mechanisms) (a .check-var .now) (a .check-offset .now) (a .var-message .now) (a .var-offset .now) (a .priors .now) (a .gamma .now) (a .syndrome .now) (a .order .now) (lent (c .before .before .before .before .before .before .before .before .before .before .before .before .before .before .before .before .before .before .before .before .before))
+asked c = passed _ _ _ _ _ _ _ _ _ _ _ _ _ _ (lent (c .before .before .before .before .before .before .before .before .before .before .before .before .before .before .before .before .before .before .before .before .before)) _ _ (c .before .before .fault .ensures) (c .before .is-done .ensures) (c .if1 .left)
 
 fault-requires : tie.Need-fault-requires
 fault-requires c κs = search needs
@@ -39,7 +39,7 @@ returns c = iteration-refused _ _ _ _ _ _ _ _ _ _ _ _ _ _ (lent (c .before .befo
 
 stepped-requires : tie.Need-stepped-requires
 stepped-requires c κs =
-    let t = passed (c .before .before .before .before) in
+    let t = asked (c .before .before .before .before) in
     (t .check-walks, (t .var-walks, (t .named, ((t .gamma-many, t .bias-many, t .posterior-many), (t .c-many, t .v-many)))))
 
 same-length-5 : tie.Need-same-length-5

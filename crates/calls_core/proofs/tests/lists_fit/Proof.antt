@@ -1,5 +1,6 @@
 -- `calls_core::tests::lists_fit` meets its contract. It answers by the tests of the definition.
 -- Assumes nothing.
+use Rattle.calls_core.specs.Calls.{stepFits}
 use borrow.Author.Needs.{needs}
 use Rattle.calls_core.proofs.tests.lists_fit.Statement.{statement}
 use Rattle.calls_core.proofs.tests.lists_fit.Tie as tie
@@ -32,6 +33,7 @@ both-requires-4 : tie.Need-both-requires-4
 both-requires-4 c κs = search needs
 
 returns : tie.Need-returns
+unfolding stepFits
 returns c = cc
 
 pub lists-fit-spec : {M : Type 1} → statement M

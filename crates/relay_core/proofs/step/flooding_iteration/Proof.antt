@@ -1,6 +1,6 @@
 -- `relay_core::step::flooding_iteration` meets its contract. The three passes, one after the other, are the definition's.
 -- Assumes nothing.
-use mathlib.Core.Path.{sym, _∙_, refl}
+use mathlib.Core.Path.{sym, _∙_}
 use Rattle.messages_core.proofs.Parts.{walks-both}
 use Rattle.relay_core.proofs.Passes.{flooding-is}
 use borrow.Author.Needs.{needs}
@@ -39,7 +39,7 @@ same-length-4 c = search needs
 returns : tie.Need-returns
 returns c =
     let p = c .before .before .before .before .before .before .before .before .before .before .before .before .before .before .before .before .before .before .before .before .before .before .before .before .before .before .before .before .before .before .before .pre .1 .1 .1 in
-    flooding-is _ _ _ _ _ _ _ _ _ _ _ _ _ _ _ _ _ refl (c .before .before .before .before .before .before .before .before .before .before .before .before .before .before .before .before .check-pass .ensures) (c .before .before .before .before .before .before .before .before .before .before .before .compute-bias .ensures) (c .before .before .before .before .before .before .before .before .before .before .before .compute-bias .kept .1 .1 .1 .0 ∙ p .0 .1) (c .before .before .before .before .variable-pass .ensures)
+    flooding-is _ _ _ _ _ _ _ _ _ _ _ _ _ _ _ _ _ (c .before .before .before .before .before .before .before .before .before .before .before .before .before .before .before .before .check-pass .ensures) (c .before .before .before .before .before .before .before .before .before .before .before .compute-bias .ensures) (c .before .before .before .before .before .before .before .before .before .before .before .compute-bias .kept .1 .1 .1 .0 ∙ p .0 .1) (c .before .before .before .before .variable-pass .ensures)
 
 pub flooding-iteration-spec : {M : Type 1} → statement M
 flooding-iteration-spec =

@@ -6,7 +6,7 @@ use native.Mathlib.Omega.{arith}
 use lib.ListN.{length}
 use Rattle.messages_core.specs.Needs.{ofVariables}
 use Rattle.relay_core.specs.Step.{state, variablePass}
-use Rattle.relay_core.proofs.Passes.{variables-on}
+use Rattle.relay_core.proofs.Passes.{variable-pass-turn}
 use Rattle.relay_core.proofs.step.variable_pass.Statement.{statement}
 use Rattle.relay_core.proofs.step.variable_pass.Tie as tie
 
@@ -38,7 +38,7 @@ loop-again : tie.Need-loop-again Inv-loop μ-loop
 loop-again c =
     let l = c .before .before .before .before .before .before .before .before .loop in
     let u = c .before .before .before .before .update-variable in
-    (omega arith, u .kept .1 .1 .1 .1 .1 .0 ∙ l .inv .1, u .kept .1 .1 .1 .1 .1 .1 .0 ∙ l .inv .2, variables-on _ _ _ _ _ (l .v) (l .inv .3) (u .ensures))
+    (omega arith, u .kept .1 .1 .1 .1 .1 .0 ∙ l .inv .1, u .kept .1 .1 .1 .1 .1 .1 .0 ∙ l .inv .2, variable-pass-turn _ _ _ _ _ (l .v) (l .inv .3) (u .ensures))
 
 same-length : tie.Need-same-length Inv-loop μ-loop
 same-length c = omega arith
