@@ -67,11 +67,6 @@ pub bytes-done : (f : ℕ → ℕ) (word old out : List ℕ) (at i : ℕ) → le
     → (at + i ≡ at + length word) × Put (map f word) old at out (at + i)
 bytes-done f word old out at i h k p = (omega arith, retext _ _ old out at (at + i) (ap (map f) (take-all i word h)) p)
 
--- bytes as they are
-pub map-same : (word : List ℕ) → map (λ b. b) word ≡ word
-map-same [] = refl
-map-same (b ∷ bs) = ap (λ l. b ∷ l) (map-same bs)
-
 -- ---- digits
 
 -- none

@@ -19,7 +19,7 @@ unfolding numberAt number
 number-past n at xs h = rw (drop-of-length-le xs h, take-nil {A = ℕ} n)
 
 -- the first byte, and the number in the others
-pub number-first : (n at : ℕ) (xs : List ℕ) → numberAt (suc n) at xs ≡ getD xs at 0 + 256 * numberAt n (at + 1) xs
+number-first : (n at : ℕ) (xs : List ℕ) → numberAt (suc n) at xs ≡ getD xs at 0 + 256 * numberAt n (at + 1) xs
 unfolding numberAt number
 number-first n at xs =
     ⊎-elim
@@ -30,7 +30,7 @@ number-first n at xs =
 -- ---- one byte more at the end
 
 -- the last byte of a number is worth 256 for each byte before it
-pub number-last : (xs : List ℕ) (b : ℕ) → number (xs ++ (b ∷ [])) ≡ number xs + b * 256 ^ length xs
+number-last : (xs : List ℕ) (b : ℕ) → number (xs ++ (b ∷ [])) ≡ number xs + b * 256 ^ length xs
 unfolding number
 number-last [] b = rw (pow-zero 256) (omega arith)
 number-last (x ∷ xs) b =
@@ -60,7 +60,7 @@ module _ (n at : ℕ) (xs : List ℕ) (b : ℕ) where
       rw (drop-append-le at xs (b ∷ []) (omega arith), take-append-le n ys (b ∷ []) (omega (arith, l)))
 
 -- no bytes are worth 0
-pub number-none : (at : ℕ) (xs : List ℕ) → numberAt 0 at xs ≡ 0
+number-none : (at : ℕ) (xs : List ℕ) → numberAt 0 at xs ≡ 0
 unfolding numberAt number
 number-none at xs = refl
 

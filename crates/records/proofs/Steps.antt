@@ -14,7 +14,7 @@ use Rattle.records.specs.Stream.{countsFit}
 use Rattle.records.specs.Reading.{grown, summed, keptWith}
 
 -- two tests of equality that follow from one another
-pub same-test : (a b x y : ℕ) → (a ≡ b → x ≡ y) → (x ≡ y → a ≡ b) → eqb a b ≡ eqb x y
+same-test : (a b x y : ℕ) → (a ≡ b → x ≡ y) → (x ≡ y → a ≡ b) → eqb a b ≡ eqb x y
 same-test a b x y f g =
     ⊎-elim
     (λ (e : a ≡ b). eq-eqb a b e ∙ sym (eq-eqb x y (f e)))

@@ -5,11 +5,11 @@ use mathlib.Core.Bool.{Bool, _&&_, cond}
 use mathlib.Core.List.{List, [], _∷_, _++_, foldl}
 use lib.Dec.{eqb, leb, ltb}
 use lib.ListN.{length, set, take, drop}
-use Rattle.refusals.specs.declared.Refusal.the-variants.{CutRecord, UnknownKind, PayloadLength, ShotTooEarly, BeyondRoom, BadSchedule}
+use Rattle.refusals.specs.declared.Refusal.the-variants.{CutRecord}
 use Rattle.refusals.specs.declared.Answer.{Answer}
-use Rattle.refusals.specs.Tests.{unless, orElse}
+use Rattle.refusals.specs.Tests.{unless}
 use Rattle.records.specs.declared.Reader.{Reader}
-use Rattle.records.specs.Stream.{Rec, encode, lengthSaid, kindSaid, checks, mechanisms, edges, degrees, legs, scheduleByte, kindGood, lengthGood, timeGood, roomGood, scheduleGood}
+use Rattle.records.specs.Stream.{Rec, encode, lengthSaid, kindSaid, checks, mechanisms, edges, degrees, legs, scheduleByte, tested}
 
 -- a reader before the first byte of the record at an offset
 abbrev pub fresh : ℕ → Reader
@@ -99,11 +99,7 @@ toMeet (r ∷ rs) offset room =
 -- 41 to 45 of a record that has been read to its end
 unfoldable pub verdict : Bool → Bool → Reader → List ℕ → Answer
 verdict hasModel hasSettings r kept =
-    orElse (unless (kindGood (r .kind)) UnknownKind)
-    (orElse (unless (lengthGood (r .kind) (r .length) (r .mechanisms) (r .edges) (r .degrees)) PayloadLength)
-    (orElse (unless (timeGood (r .kind) hasModel hasSettings) ShotTooEarly)
-    (orElse (unless (roomGood (r .kind) (r .length) (r .checks) (r .mechanisms) (r .edges) (legs kept)) BeyondRoom)
-    (unless (scheduleGood (r .kind) (scheduleByte kept)) BadSchedule))))
+    tested hasModel hasSettings (r .kind) (r .length) (r .checks) (r .mechanisms) (r .edges) (r .degrees) (legs kept) (scheduleByte kept)
 
 -- at the end of the input: 40, unless it ends with a whole record or holds nothing
 unfoldable pub atEnd : Reader → Answer

@@ -164,14 +164,18 @@ roomGood kind size checks mechanisms edges legs =
 unfoldable pub scheduleGood : ℕ → ℕ → Bool
 scheduleGood kind schedule = not (eqb kind 2) || leb schedule 1
 
+-- 41 to 45, one after the other
+unfoldable pub tested : Bool → Bool → ℕ → ℕ → ℕ → ℕ → ℕ → ℕ → ℕ → ℕ → Answer
+tested hasModel hasSettings kind size checks mechanisms edges sum legs schedule =
+    orElse (unless (kindGood kind) UnknownKind)
+    (orElse (unless (lengthGood kind size mechanisms edges sum) PayloadLength)
+    (orElse (unless (timeGood kind hasModel hasSettings) ShotTooEarly)
+    (orElse (unless (roomGood kind size checks mechanisms edges legs) BeyondRoom) (unless (scheduleGood kind schedule) BadSchedule))))
+
 -- 41 to 45 of a whole record
 unfoldable pub judge : Bool → Bool → ℕ → List ℕ → Answer
 judge hasModel hasSettings kind p =
-    orElse (unless (kindGood kind) UnknownKind)
-    (orElse (unless (lengthGood kind (length p) (mechanisms p) (edges p) (degrees (mechanisms p) p)) PayloadLength)
-    (orElse (unless (timeGood kind hasModel hasSettings) ShotTooEarly)
-    (orElse (unless (roomGood kind (length p) (checks p) (mechanisms p) (edges p) (legs p)) BeyondRoom)
-    (unless (scheduleGood kind (scheduleByte p)) BadSchedule))))
+    tested hasModel hasSettings kind (length p) (checks p) (mechanisms p) (edges p) (degrees (mechanisms p) p) (legs p) (scheduleByte p)
 
 -- 40: bytes that are left over, from 1 on, are a cut record
 unfoldable pub leftOver : List ℕ → Answer

@@ -1,11 +1,11 @@
 -- `lines::put_word` meets its contract. The invariant: behind the front stand the bytes passed.
 -- Assumes nothing.
 use mathlib.Core.Path.{_≡_, refl}
-use mathlib.Core.List.{map}
+use mathlib.Core.List.{map, map-id}
 use Prim.Native.Nat.{ℕ, _+_, _≤_, _-_}
 use lib.ListN.{length, take, length-set}
 use Rattle.lines.specs.Writing.{Put}
-use Rattle.lines.proofs.Puts.{retext, map-same, bytes-turn, bytes-none, bytes-done}
+use Rattle.lines.proofs.Puts.{retext, bytes-turn, bytes-none, bytes-done}
 use native.Mathlib.Omega.{arith}
 use Rattle.lines.proofs.put_word.Statement.{statement}
 use Rattle.lines.proofs.put_word.Tie as tie
@@ -55,7 +55,7 @@ returns c =
     let l = c .before .loop in
     let a = c .before .before .args in
     let d = bytes-done as-it-is (a .word .now) (a .out .now) (l .out) (a .at) (l .i) (c .loop-test .left) (l .inv .0) (l .inv .2) in
-    (d .0, retext _ _ (a .out .now) (l .out) (a .at) _ (map-same (a .word .now)) (d .1))
+    (d .0, retext _ _ (a .out .now) (l .out) (a .at) _ (map-id (a .word .now)) (d .1))
 
 pub put-word-spec : {M : Type 1} → statement M
 put-word-spec =

@@ -1,5 +1,6 @@
 -- `records::verdict` meets its contract. The tests, each equal to its part of the definition, joined as there.
 -- Assumes nothing.
+use Rattle.records.specs.Stream.{tested}
 use Rattle.records.specs.Reading.{verdict}
 use borrow.Author.Needs.{needs}
 use Rattle.records.proofs.verdict.Statement.{statement}
@@ -54,7 +55,7 @@ or-else-requires-4 : tie.Need-or-else-requires-4
 or-else-requires-4 c κs = search needs
 
 returns : tie.Need-returns
-unfolding verdict
+unfolding verdict tested
 returns c = rw (c .or-else4 .ensures, c .before .or-else3 .ensures, c .before .before .or-else2 .ensures, c .before .before .before .or-else .ensures, c .before .before .before .before .unless5 .ensures, c .before .before .before .before .before .unless4 .ensures, c .before .before .before .before .before .before .unless3 .ensures, c .before .before .before .before .before .before .before .time-good .ensures, c .before .before .before .before .before .before .before .before .unless2 .ensures, c .before .before .before .before .before .before .before .before .before .unless .ensures, c .before .before .before .before .before .before .before .before .before .before .kind-good .ensures, c .before .before .before .before .before .before .before .before .before .before .before .schedule-good .ensures, c .before .before .before .before .before .before .before .before .before .before .before .before .schedule-byte .ensures, c .before .before .before .before .before .before .before .before .before .before .before .before .before .room-good .ensures, c .before .before .before .before .before .before .before .before .before .before .before .before .before .before .legs .ensures, c .before .before .before .before .before .before .before .before .before .before .before .before .before .before .before .length-good .ensures)
 
 pub verdict-spec : {M : Type 1} → statement M
