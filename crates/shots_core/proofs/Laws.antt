@@ -1,12 +1,10 @@
 -- A model read and then built, a shot decoded over what was built, and the room that the tests leave. Assumes nothing.
-use Prim.Native.Nat.{ℕ, _+_, _≤_}
+use Prim.Native.Nat.{ℕ, _≤_}
 use mathlib.Core.Path.{_≡_, sym, ap, subst, _∙_}
-use mathlib.Core.Bool.{Bool, true, false, _&&_}
+use mathlib.Core.Bool.{Bool, true, false}
 use mathlib.Core.List.{List, []}
-use lib.Dec.{leb}
 use lib.Ieee.{Float}
-use Rattle.numbers.specs.Floats.{zero⁺}
-use lib.ListN.{length, take, drop, replicate, drop-of-length-le}
+use lib.ListN.{length, take, drop, drop-of-length-le}
 use lib.Seq.{take-all, take-length, drop-length}
 use Rattle.refusals.specs.declared.Refusal.the-variants.{BeyondRoom}
 use Rattle.refusals.specs.declared.Answer.{Answer}
@@ -19,10 +17,10 @@ use Rattle.calls_core.specs.declared.Decoded.{Decoded}
 use Rattle.calls_core.specs.declared.Decoded.the-variants as Decoded
 use Rattle.calls_core.specs.Calls as Calls
 use Rattle.records.specs.declared.Counts.{Counts}
-use Rattle.records.specs.Stream.{edges, syndrome, seed}
+use Rattle.records.specs.Stream.{syndrome, seed}
 use Rattle.records.specs.Fields.{countsOf, ModelLists, modelLists, modelRead}
 use Rattle.records.proofs.Fills.{room-parts}
-use Rattle.shots_core.specs.Table.{floats, counts, modelRoom, graphRoom, shotRoom, within, builtFrom, modelFault, decodedFrom, Decoding, decoding, found, shotDecoded}
+use Rattle.shots_core.specs.Table.{modelRoom, graphRoom, shotRoom, within, builtFrom, modelFault, decodedFrom, Decoding, decoding, found, shotDecoded}
 
 -- ---- lists
 
@@ -32,74 +30,32 @@ past-end xs n h = (take-length xs ∙ sym (take-all n xs h), drop-length xs ∙ 
 
 -- ---- the room
 
--- the test of a model's counts is that of its payload
-pub counts-within : (c : Counts) (p : List ℕ) (w : Bool) → c ≡ countsOf p → w ≡ (leb (c .checks) 128 && (leb (c .mechanisms) 256 && leb (c .edges) 512)) → w ≡ within p
-unfolding countsOf within
-counts-within c p w e f = f ∙ ap (λ (k : Counts). leb (k .checks) 128 && (leb (k .mechanisms) 256 && leb (k .edges) 512)) e
+-- counts that pass the test are within the room
+pub counts-fit : (c : Counts) (w : Bool) → w ≡ within c → w ≡ true → (c .checks ≤ 128) × (c .mechanisms ≤ 256) × (c .edges ≤ 512)
+unfolding within
+counts-fit c w f h = room-parts (c .checks) (c .mechanisms) (c .edges) 128 256 512 (sym f ∙ h)
 
--- past it they are within the room
-pub counts-fit : (c : Counts) (p : List ℕ) (w : Bool) → c ≡ countsOf p → w ≡ (leb (c .checks) 128 && (leb (c .mechanisms) 256 && leb (c .edges) 512)) → w ≡ true
-    → (c ≡ countsOf p) × (c .checks ≤ 128) × (c .mechanisms ≤ 256) × (c .edges ≤ 512)
-counts-fit c p w e f h = let r = room-parts (c .checks) (c .mechanisms) (c .edges) 128 256 512 (sym f ∙ h) in (e, r .0, r .1, r .2)
+module _ (c : Counts) (p : List ℕ) (w : Bool) (e : c ≡ countsOf p) (f : w ≡ within c) where
+  -- a model within it, and one beyond
+  pub model-within : (a : Answer) → w ≡ true → a ≡ builtFrom (c .edges) p (modelRoom c) (graphRoom c) .answer → a ≡ modelFault p
+  unfolding modelFault orElse unless
+  model-within a h q = rw (← e, sym f ∙ h, q)
 
--- a model within it, and one beyond
-pub model-within : (p : List ℕ) (a : Answer) → within p ≡ true → a ≡ builtFrom (edges p) p (modelRoom p) (graphRoom p) .answer → a ≡ modelFault p
-unfolding modelFault orElse unless
-model-within p a h e = rw (h, e)
+  pub model-beyond : w ≡ false → Refused BeyondRoom ≡ modelFault p
+  unfolding modelFault orElse unless
+  model-beyond h = rw (← e, sym f ∙ h)
 
-pub model-beyond : (p : List ℕ) → within p ≡ false → Refused BeyondRoom ≡ modelFault p
-unfolding modelFault orElse unless
-model-beyond p h = rw h
+  module _ (settings : Settings) (shot correction : List ℕ) where
+    -- a shot over a model within it, and over one beyond
+    pub shot-within : (d : Decoding) (some : List ℕ) (s : ℕ) → w ≡ true → some ≡ syndrome shot → s ≡ seed shot
+        → d ≡ found (decodedFrom (c .edges) p settings some s (modelRoom c) (graphRoom c) (shotRoom c correction))
+        → d ≡ shotDecoded p settings shot correction
+    unfolding shotDecoded
+    shot-within d some s h a b q = rw (← e, sym f ∙ h, q, a, b)
 
--- a shot over a model within it, and over one beyond
-pub shot-within : (model : List ℕ) (settings : Settings) (p correction : List ℕ) (d : Decoding) (some : List ℕ) (s : ℕ)
-    → within model ≡ true
-    → some ≡ syndrome p
-    → s ≡ seed p
-    → d ≡ found (decodedFrom (edges model) model settings some s (modelRoom model) (graphRoom model) (shotRoom model correction))
-    → d ≡ shotDecoded model settings p correction
-unfolding shotDecoded
-shot-within model settings p correction d some s h e f w = rw (w, e, f, h)
-
-pub shot-beyond : (model : List ℕ) (settings : Settings) (p correction : List ℕ) → within model ≡ false → decoding (Decoded.Refused BeyondRoom) correction ≡ shotDecoded model settings p correction
-unfolding shotDecoded
-shot-beyond model settings p correction h = rw h
-
--- ---- parts of arrays by a model's counts
-
-module _ (c : Counts) (p : List ℕ) (e : c ≡ countsOf p) where
-  abbrev modelParts : Counts → ModelLists
-  modelParts k = modelLists (floats 256 (k .mechanisms)) (counts 257 (k .mechanisms + 1)) (counts 512 (k .edges))
-
-  abbrev graphParts : Counts → Graph
-  graphParts k =
-      graph (k .checks) (k .mechanisms) (counts 512 (k .edges)) (counts 512 (k .edges)) (counts 129 (k .checks + 1)) (counts 512 (k .edges)) (counts 512 (k .edges)) (counts 257 (k .mechanisms + 1))
-
-  abbrev shotParts : Counts → List ℕ → Calls.Lists
-  shotParts k correction =
-      record {
-        legState = replicate 17 0;
-        legIterations = replicate 17 0;
-        legWeight = replicate 17 zero⁺;
-        rows = replicate 4352 0;
-        correction = correction;
-        posterior = floats 256 (k .mechanisms);
-        gamma = floats 256 (k .mechanisms);
-        bias = floats 256 (k .mechanisms);
-        cToV = floats 512 (k .edges);
-        vToC = floats 512 (k .edges);
-      }
-
-  pub built-parts : (a : Answer) → a ≡ builtFrom (c .edges) p (modelParts c) (graphParts c) .answer → a ≡ builtFrom (edges p) p (modelRoom p) (graphRoom p) .answer
-  unfolding countsOf
-  built-parts a f = subst (λ (k : Counts). a ≡ builtFrom (k .edges) p (modelParts k) (graphParts k) .answer) e f
-
-  pub decoded-parts : (settings : Settings) (some : List ℕ) (s : ℕ) (correction : List ℕ) (d : Decoding)
-      → d ≡ found (decodedFrom (c .edges) p settings some s (modelParts c) (graphParts c) (shotParts c correction))
-      → d ≡ found (decodedFrom (edges p) p settings some s (modelRoom p) (graphRoom p) (shotRoom p correction))
-  unfolding countsOf
-  decoded-parts settings some s correction d f =
-      subst (λ (k : Counts). d ≡ found (decodedFrom (k .edges) p settings some s (modelParts k) (graphParts k) (shotParts k correction))) e f
+    pub shot-beyond : w ≡ false → decoding (Decoded.Refused BeyondRoom) correction ≡ shotDecoded p settings shot correction
+    unfolding shotDecoded
+    shot-beyond h = rw (← e, sym f ∙ h)
 
 -- ---- read, built, decoded
 

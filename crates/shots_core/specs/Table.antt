@@ -17,8 +17,9 @@ use Rattle.settings.specs.Settings.{settingsFault}
 use Rattle.calls_core.specs.declared.Decoded.{Decoded}
 use Rattle.calls_core.specs.declared.Decoded.the-variants as Decoded
 use Rattle.calls_core.specs.Calls as Calls
-use Rattle.records.specs.Stream.{checks, mechanisms, edges, seed, syndrome}
-use Rattle.records.specs.Fields.{ModelLists, modelLists, modelRead, settingsOf}
+use Rattle.records.specs.declared.Counts.{Counts}
+use Rattle.records.specs.Stream.{seed, syndrome}
+use Rattle.records.specs.Fields.{countsOf, ModelLists, modelLists, modelRead, settingsOf}
 
 -- ---- the lists that the program lends: the first n of an array that is filled with one value
 
@@ -28,21 +29,21 @@ floats room n = take n (replicate room zero⁺)
 abbrev pub counts : ℕ → ℕ → List ℕ
 counts room n = take n (replicate room 0)
 
--- those that a model is read into
-abbrev pub modelRoom : List ℕ → ModelLists
-modelRoom p = modelLists (floats 256 (mechanisms p)) (counts 257 (mechanisms p + 1)) (counts 512 (edges p))
+-- those that a model with these counts is read into
+abbrev pub modelRoom : Counts → ModelLists
+modelRoom c = modelLists (floats 256 (c .mechanisms)) (counts 257 (c .mechanisms + 1)) (counts 512 (c .edges))
 
 -- those that its graph is built in
-abbrev pub graphRoom : List ℕ → Graph
-graphRoom p =
-    let e = counts 512 (edges p) in
-    graph (checks p) (mechanisms p) e e (counts 129 (checks p + 1)) e e (counts 257 (mechanisms p + 1))
+abbrev pub graphRoom : Counts → Graph
+graphRoom c =
+    let e = counts 512 (c .edges) in
+    graph (c .checks) (c .mechanisms) e e (counts 129 (c .checks + 1)) e e (counts 257 (c .mechanisms + 1))
 
 -- those that a shot is decoded in, beside the correction that the caller lends: 16 relayed legs and the first, 17 rows of 256
-abbrev pub shotRoom : List ℕ → List ℕ → Calls.Lists
-shotRoom p correction =
-    let m = floats 256 (mechanisms p) in
-    let e = floats 512 (edges p) in
+abbrev pub shotRoom : Counts → List ℕ → Calls.Lists
+shotRoom c correction =
+    let m = floats 256 (c .mechanisms) in
+    let e = floats 512 (c .edges) in
     record {
       legState = replicate 17 0;
       legIterations = replicate 17 0;
@@ -59,8 +60,8 @@ shotRoom p correction =
 -- ---- the table behind 45. The p and the model are payloads
 
 -- a model is within the room. 44 has refused all others before: what follows asks once more, so that it is defined for all bytes
-unfoldable pub within : List ℕ → Bool
-within p = leb (checks p) 128 && (leb (mechanisms p) 256 && leb (edges p) 512)
+unfoldable pub within : Counts → Bool
+within c = leb (c .checks) 128 && (leb (c .mechanisms) 256 && leb (c .edges) 512)
 
 -- `build_sparse` of a payload, by way of lists l into the lists of a graph g
 unfoldable pub builtFrom : ℕ → List ℕ → ModelLists → Graph → Outcome
@@ -68,7 +69,9 @@ builtFrom edges p l g = let r = modelRead p l in buildSparse edges (r .priors) (
 
 -- a model: 44 once more, then 1 to 6
 unfoldable pub modelFault : List ℕ → Answer
-modelFault p = orElse (unless (within p) BeyondRoom) (builtFrom (edges p) p (modelRoom p) (graphRoom p) .answer)
+modelFault p =
+    let c = countsOf p in
+    orElse (unless (within c) BeyondRoom) (builtFrom (c .edges) p (modelRoom c) (graphRoom c) .answer)
 
 -- settings: 10 to 16; their source is seeded
 unfoldable pub settingsAnswer : List ℕ → Answer
@@ -97,6 +100,7 @@ found o = decoding (o .answer) (o .left .correction)
 -- a shot: what the decode gives, 20, 21 and 30 among it; 44 where the model is beyond the room
 unfoldable pub shotDecoded : List ℕ → Settings → List ℕ → List ℕ → Decoding
 shotDecoded model settings p correction =
-    cond (within model)
-    (found (decodedFrom (edges model) model settings (syndrome p) (seed p) (modelRoom model) (graphRoom model) (shotRoom model correction)))
+    let c = countsOf model in
+    cond (within c)
+    (found (decodedFrom (c .edges) model settings (syndrome p) (seed p) (modelRoom c) (graphRoom c) (shotRoom c correction)))
     (decoding (Decoded.Refused BeyondRoom) correction)

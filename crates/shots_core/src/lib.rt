@@ -1,14 +1,11 @@
 // The table behind 45, for `session` alone: a model by 1 to 6, settings by 10 to 16, a shot by 20, 21 and 30, each out of the payload of its record. Each call works in
 // arrays of its own, filled with one value. Room: 128 checks, 256 mechanisms, 512 edges, 16 relayed legs.
 ghost use mathlib.Core.Path.{_≡_};
-ghost use mathlib.Core.Bool.{_&&_};
 ghost use Prim.Native.Nat.{_≤_};
-ghost use lib.Dec.{leb};
 ghost use lib.ListN.{length, take, drop};
 ghost use Rattle.graph.specs.Graph.{graph};
-ghost use Rattle.records.specs.Stream.{edges};
-ghost use Rattle.records.specs.Fields.{countsOf, modelLists};
-ghost use Rattle.shots_core.specs.Table.{builtFrom, modelFault, settingsAnswer, decodedFrom, decoding, found, shotDecoded, modelRoom, graphRoom, shotRoom};
+ghost use Rattle.records.specs.Fields.{modelLists};
+ghost use Rattle.shots_core.specs.Table.{builtFrom, modelFault, settingsAnswer, decodedFrom, decoding, found, shotDecoded, modelRoom, graphRoom, shotRoom, within as withinOf};
 use calls_core::Decoded;
 use graph::Size;
 use records::Counts;
@@ -30,7 +27,7 @@ pub fn front(list: &[u8], n: usize) -> usize
 
 // Whether a model is within the room.
 fn within(c: Counts) -> bool
-    ensures { λ x. ⌜ x ≡ (leb (c .checks) 128 && (leb (c .mechanisms) 256 && leb (c .edges) 512)) ⌝ }
+    ensures { λ x. ⌜ x ≡ withinOf c ⌝ }
 {
     both(
         at_most(c.checks, 128),
@@ -71,8 +68,8 @@ fn built(
 
 // A model within the room, read and built in arrays of its own.
 fn built_within(c: Counts, payload: &[u8]) -> Answer
-    requires { ⌜ (c ≡ countsOf (now payload)) × (c .checks ≤ 128) × (c .mechanisms ≤ 256) × (c .edges ≤ 512) ⌝ }
-    ensures { λ a. ⌜ a ≡ builtFrom (edges (now (payload .entry))) (now (payload .entry)) (modelRoom (now (payload .entry))) (graphRoom (now (payload .entry))) .answer ⌝ }
+    requires { ⌜ (c .checks ≤ 128) × (c .mechanisms ≤ 256) × (c .edges ≤ 512) ⌝ }
+    ensures { λ a. ⌜ a ≡ builtFrom (c .edges) (now (payload .entry)) (modelRoom c) (graphRoom c) .answer ⌝ }
 {
     let checks = c.checks;
     let mechanisms = c.mechanisms;
@@ -203,8 +200,8 @@ fn decoded_within(
     seed: u64,
     correction: &mut [u8],
 ) -> Decoded
-    requires { ⌜ (c ≡ countsOf (now model)) × (c .checks ≤ 128) × (c .mechanisms ≤ 256) × (c .edges ≤ 512) ⌝ }
-    ensures { λ d. ⌜ decoding d (now (correction .exit)) ≡ found (decodedFrom (edges (now (model .entry))) (now (model .entry)) settings (now (syndrome .entry)) seed (modelRoom (now (model .entry))) (graphRoom (now (model .entry))) (shotRoom (now (model .entry)) (now (correction .entry)))) ⌝ }
+    requires { ⌜ (c .checks ≤ 128) × (c .mechanisms ≤ 256) × (c .edges ≤ 512) ⌝ }
+    ensures { λ d. ⌜ decoding d (now (correction .exit)) ≡ found (decodedFrom (c .edges) (now (model .entry)) settings (now (syndrome .entry)) seed (modelRoom c) (graphRoom c) (shotRoom c (now (correction .entry)))) ⌝ }
 {
     let checks = c.checks;
     let mechanisms = c.mechanisms;

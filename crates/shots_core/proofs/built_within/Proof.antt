@@ -1,7 +1,6 @@
 -- `shots_core::built_within` meets its contract. The parts of its arrays have the lengths that the room allows. Assumes nothing.
 use native.Mathlib.Omega.{arith}
 use Rattle.numbers.proofs.Room.{part-length}
-use Rattle.shots_core.proofs.Laws.{built-parts}
 use borrow.Author.Needs.{needs}
 use Rattle.shots_core.proofs.built_within.Statement.{statement}
 use Rattle.shots_core.proofs.built_within.Tie as tie
@@ -74,7 +73,7 @@ built-requires c κs = search needs
 
 returns : tie.Need-returns
 unfolding lib.Ieee.ofBits
-returns c = built-parts _ _ (c .before .before .before .before .before .before .before .before .before .before .before .before .before .before .before .before .before .before .before .before .pre .0) _ (c .before .before .before .before .before .before .before .before .before .built .ensures)
+returns c = c .before .before .before .before .before .before .before .before .before .built .ensures
 
 pub built-within-spec : {M : Type 1} → statement M
 built-within-spec =

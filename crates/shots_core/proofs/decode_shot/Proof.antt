@@ -1,8 +1,8 @@
 -- `shots_core::decode_shot` meets its contract. A shot over a model within the room is decoded, over another one refused. Assumes nothing.
-use mathlib.Core.Path.{sym, _∙_}
+use mathlib.Core.Path.{_∙_}
 use borrow.Rule.Slice.PartAt.{part-to-end}
 use Rattle.records.specs.Stream.{syndrome}
-use Rattle.shots_core.proofs.Laws.{counts-within, counts-fit, shot-within, shot-beyond}
+use Rattle.shots_core.proofs.Laws.{counts-fit, shot-within, shot-beyond}
 use borrow.Author.Needs.{needs}
 use Rattle.shots_core.proofs.decode_shot.Statement.{statement}
 use Rattle.shots_core.proofs.decode_shot.Tie as tie
@@ -29,17 +29,17 @@ part-decoded-within-end : tie.Need-part-decoded-within-end
 part-decoded-within-end c = search needs
 
 decoded-within-requires : tie.Need-decoded-within-requires
-decoded-within-requires c κs = counts-fit _ _ _ (c .before .before .before .before .before .before .read-counts .ensures) (c .before .before .before .before .before .within .ensures) (c .before .before .before .before .if1 .taken)
+decoded-within-requires c κs = counts-fit _ _ (c .before .before .before .before .before .within .ensures) (c .before .before .before .before .if1 .taken)
 
 same-length : tie.Need-same-length
 same-length c = search needs
 
 returns : tie.Need-returns
 unfolding syndrome
-returns c = shot-within _ _ _ _ _ _ _ (sym (counts-within _ _ _ (c .before .before .before .before .before .before .before .before .before .read-counts .ensures) (c .before .before .before .before .before .before .before .before .within .ensures)) ∙ c .before .before .before .before .before .before .before .if1 .taken) (part-to-end (c .before .before .before .before .before .before .before .before .before .before .before .before .before .args .payload .now) (c .before .before .before .before .before .before .front .result) ∙ c .before .before .before .before .before .before .front .ensures .2) (c .before .before .before .before .before .read-seed .ensures) (c .before .before .decoded-within .ensures)
+returns c = shot-within _ _ _ (c .before .before .before .before .before .before .before .before .before .read-counts .ensures) (c .before .before .before .before .before .before .before .before .within .ensures) _ _ _ _ _ _ (c .before .before .before .before .before .before .before .if1 .taken) (part-to-end (c .before .before .before .before .before .before .before .before .before .before .before .before .before .args .payload .now) (c .before .before .before .before .before .before .front .result) ∙ c .before .before .before .before .before .before .front .ensures .2) (c .before .before .before .before .before .read-seed .ensures) (c .before .before .decoded-within .ensures)
 
 returns-2 : tie.Need-returns-2
-returns-2 c = shot-beyond _ _ _ _ (sym (counts-within _ _ _ (c .before .before .read-counts .ensures) (c .before .within .ensures)) ∙ c .if1 .left)
+returns-2 c = shot-beyond _ _ _ (c .before .before .read-counts .ensures) (c .before .within .ensures) _ _ _ (c .if1 .left)
 
 pub decode-shot-spec : {M : Type 1} → statement M
 decode-shot-spec =

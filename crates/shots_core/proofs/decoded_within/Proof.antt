@@ -1,7 +1,6 @@
 -- `shots_core::decoded_within` meets its contract. The parts of its arrays have the lengths that the room allows. Assumes nothing.
 use native.Mathlib.Omega.{arith}
 use Rattle.numbers.proofs.Room.{part-length}
-use Rattle.shots_core.proofs.Laws.{decoded-parts}
 use borrow.Author.Needs.{needs}
 use Rattle.shots_core.proofs.decoded_within.Statement.{statement}
 use Rattle.shots_core.proofs.decoded_within.Tie as tie
@@ -119,7 +118,7 @@ same-length c = c .before .before .before .before .before .before .before .befor
 
 returns : tie.Need-returns
 unfolding lib.Ieee.ofBits
-returns c = decoded-parts _ _ (c .before .before .before .before .before .before .before .before .before .before .before .before .before .before .before .before .before .before .before .before .before .before .before .before .before .before .before .before .before .before .before .before .before .before .before .before .before .before .before .before .before .before .before .pre .0) _ _ _ _ _ (c .before .before .before .before .before .before .before .before .before .before .before .before .before .before .before .before .before .before .before .before .decoded .ensures)
+returns c = c .before .before .before .before .before .before .before .before .before .before .before .before .before .before .before .before .before .before .before .before .decoded .ensures
 
 pub decoded-within-spec : {M : Type 1} → statement M
 decoded-within-spec =

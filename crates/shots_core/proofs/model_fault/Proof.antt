@@ -1,6 +1,5 @@
 -- `shots_core::model_fault` meets its contract. A model within the room is built, another one refused. Assumes nothing.
-use mathlib.Core.Path.{sym, _∙_}
-use Rattle.shots_core.proofs.Laws.{counts-within, counts-fit, model-within, model-beyond}
+use Rattle.shots_core.proofs.Laws.{counts-fit, model-within, model-beyond}
 use borrow.Author.Needs.{needs}
 use Rattle.shots_core.proofs.model_fault.Statement.{statement}
 use Rattle.shots_core.proofs.model_fault.Tie as tie
@@ -12,13 +11,13 @@ within-requires : tie.Need-within-requires
 within-requires c κs = search needs
 
 built-within-requires : tie.Need-built-within-requires
-built-within-requires c κs = counts-fit _ _ _ (c .before .before .read-counts .ensures) (c .before .within .ensures) (c .if1 .taken)
+built-within-requires c κs = counts-fit _ _ (c .before .within .ensures) (c .if1 .taken)
 
 returns : tie.Need-returns
-returns c = model-within _ _ (sym (counts-within _ _ _ (c .before .before .before .read-counts .ensures) (c .before .before .within .ensures)) ∙ c .before .if1 .taken) (c .built-within .ensures)
+returns c = model-within _ _ _ (c .before .before .before .read-counts .ensures) (c .before .before .within .ensures) _ (c .before .if1 .taken) (c .built-within .ensures)
 
 returns-2 : tie.Need-returns-2
-returns-2 c = model-beyond _ (sym (counts-within _ _ _ (c .before .before .read-counts .ensures) (c .before .within .ensures)) ∙ c .if1 .left)
+returns-2 c = model-beyond _ _ _ (c .before .before .read-counts .ensures) (c .before .within .ensures) (c .if1 .left)
 
 pub model-fault-spec : {M : Type 1} → statement M
 model-fault-spec =

@@ -1,4 +1,5 @@
 -- `shots_core::within` meets its contract. The three tests joined. Assumes nothing.
+use Rattle.shots_core.specs.Table.{within}
 use borrow.Author.Needs.{needs}
 use Rattle.shots_core.proofs.within.Statement.{statement}
 use Rattle.shots_core.proofs.within.Tie as tie
@@ -19,6 +20,7 @@ both-requires-2 : tie.Need-both-requires-2
 both-requires-2 c κs = search needs
 
 returns : tie.Need-returns
+unfolding within
 returns c = cc
 
 pub within-spec : {M : Type 1} → statement M
