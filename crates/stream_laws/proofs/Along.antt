@@ -5,16 +5,17 @@ use mathlib.Core.List.{List, [], _∷_, _++_, foldl, foldl-append, append-nil}
 use mathlib.Core.Logic.{⊎-elim}
 use Prim.Native.Nat.{ℕ, zero, suc, _+_, _%_, _^_, _<_, _≤_}
 use native.Mathlib.Omega.{arith}
-use lib.Dec.{eqb}
 use lib.ListN.{length, getD, take, drop}
 use lib.Seq.{take-suc, take-length}
 use borrow.Author.Tests.{eq-eqb}
 use Rattle.numbers.proofs.Cases.{either}
-use Rattle.refusals.specs.declared.Refusal.the-variants.{CutRecord}
+use Rattle.refusals.specs.declared.Answer.{Answer}
+use Rattle.refusals.specs.declared.Answer.the-variants.{Done}
 use Rattle.refusals.specs.Tests.{unless}
-use Rattle.records.specs.Stream.{AreBytes, Rec, Sayable, encode, lengthSaid}
+use Rattle.records.specs.declared.Reader.{Reader}
+use Rattle.records.specs.Stream.{AreBytes, Rec, Sayable, lengthSaid}
 use Rattle.records.specs.Reading.{fresh, holding, isWhole, opened, keptOf, Held, held, pushed, fed, met, atEnd}
-use Rattle.stream_laws.proofs.Encoding.{length-encode, length-said, payload-said, bytes-encode}
+use Rattle.stream_laws.proofs.Encoding.{encoded, length-encode, length-said, payload-said, bytes-encode}
 use Rattle.stream_laws.proofs.Whole.{not-whole, read-first, read-all}
 
 -- ---- two pieces
@@ -53,7 +54,7 @@ module _ (offset : ℕ) (xs room : List ℕ) (f : AreBytes xs) (h : length xs �
   met-within (suc i) l = met-next i (omega arith) ∙ rw (not-whole offset xs (suc i) h l, met-within i (omega arith))
 
   -- at its end it is
-  pub met-whole : (n : ℕ) → length xs ≡ suc n → isWhole (holding offset xs) ≡ true → met xs (held (fresh offset) room) ≡ held (holding offset xs) (keptOf (drop 6 xs) room) ∷ []
+  met-whole : (n : ℕ) → length xs ≡ suc n → isWhole (holding offset xs) ≡ true → met xs (held (fresh offset) room) ≡ held (holding offset xs) (keptOf (drop 6 xs) room) ∷ []
   met-whole n e w =
       let t : take (suc n) xs ≡ xs = ap (λ k. take k xs) (sym e) ∙ take-length xs in
       let w′ : isWhole (holding offset (take (suc n) xs)) ≡ true = ap (λ ys. isWhole (holding offset ys)) t ∙ w in
@@ -75,72 +76,74 @@ module _ (offset : ℕ) (xs room : List ℕ) (f : AreBytes xs) (h : length xs �
 
 -- ---- from a whole record on
 
--- before its first byte a record is not whole
-opened-fresh : (offset : ℕ) → opened (fresh offset) ≡ fresh offset
-unfolding opened isWhole
-opened-fresh offset = refl
+-- what is said of the end of an input by the offset of what is left over, if anything is
+abbrev pub endOf : {X : Type 0} → (ℕ → Answer → X) → Reader → X
+endOf g r = g (r .offset) (atEnd r)
+
+-- nothing is left over of a whole record, nor before a byte of the next one
+whole-ends : (r : Reader) → isWhole r ≡ true → atEnd r ≡ Done
+unfolding atEnd unless opened
+whole-ends r w = rw w
+
+fresh-ends : (offset : ℕ) → atEnd (fresh offset) ≡ Done
+unfolding atEnd unless opened isWhole
+fresh-ends offset = refl
 
 module _ (h : Held) (w : isWhole (h .reader) ≡ true) where
   abbrev next : Held
   next = held (fresh ((h .reader .offset + h .reader .taken) % 2 ^ 64)) (h .kept)
 
   -- the next byte is the first of the next record
-  pub push-next : (b : ℕ) → pushed h b ≡ pushed next b
+  push-next : (b : ℕ) → pushed h b ≡ pushed next b
   unfolding pushed opened isWhole
   push-next b = rw w
 
-  pub met-from-next : (ys : List ℕ) → met ys h ≡ met ys next
+  -- so the records met are those met from there
+  met-from-next : (ys : List ℕ) → met ys h ≡ met ys next
   unfolding met
   met-from-next [] = refl
   met-from-next (y ∷ ys) = rw (push-next y)
 
-  -- the reader that takes the next byte
-  opened-next : opened (h .reader) ≡ next .reader
-  unfolding opened
-  opened-next = rw w
-
-  -- the end of the input tells the same of both
-  pub end-from-next : (ys : List ℕ) → atEnd (fed ys h .reader) ≡ atEnd (fed ys next .reader)
-  unfolding atEnd fed
-  end-from-next [] = ap (λ r. unless (eqb (r .taken) 0) CutRecord) (opened-next ∙ sym (opened-fresh (next .reader .offset)))
-  end-from-next (y ∷ ys) = ap (λ s. atEnd (foldl pushed s ys .reader)) (push-next y)
+  -- and the end of the input tells the same of both
+  end-from-next : {X : Type 0} (g : ℕ → Answer → X) → ((a b : ℕ) → g a Done ≡ g b Done) → (ys : List ℕ) → endOf g (fed ys h .reader) ≡ endOf g (fed ys next .reader)
+  unfolding fed
+  end-from-next g same [] = ap (g (h .reader .offset)) (whole-ends (h .reader) w) ∙ same _ _ ∙ ap (g (next .reader .offset)) (sym (fresh-ends (next .reader .offset)))
+  end-from-next g same (y ∷ ys) = ap (λ s. endOf g (foldl pushed s ys .reader)) (push-next y)
 
 -- ---- a record, and what follows
 
 module _ (r : Rec) (s : Sayable r) (offset : ℕ) (room : List ℕ) where
-  abbrev bytes : List ℕ
-  bytes = encode (r .kind) (r .payload)
-
   abbrev atItsEnd : Held
-  atItsEnd = held (holding offset bytes) (keptOf (r .payload) room)
+  atItsEnd = held (holding offset (encoded r)) (keptOf (r .payload) room)
 
   -- the head says the payload's length
-  said : lengthSaid bytes ≡ length (r .payload)
-  said = ap lengthSaid (sym (append-nil bytes)) ∙ length-said (r .kind) (r .payload) [] (s .size)
+  pub said : lengthSaid (encoded r) ≡ length (r .payload)
+  said = ap lengthSaid (sym (append-nil (encoded r))) ∙ length-said (r .kind) (r .payload) [] (s .size)
 
   -- and the payload follows it
-  pub follows : drop 6 bytes ≡ r .payload
-  follows = ap (drop 6) (sym (append-nil bytes)) ∙ payload-said (r .kind) (r .payload) [] ∙ append-nil (r .payload)
+  pub follows : drop 6 (encoded r) ≡ r .payload
+  follows = ap (drop 6) (sym (append-nil (encoded r))) ∙ payload-said (r .kind) (r .payload) [] ∙ append-nil (r .payload)
 
   -- so the bytes are a record to its end
-  pub to-its-end : length bytes ≡ 6 + lengthSaid bytes
+  pub to-its-end : length (encoded r) ≡ 6 + lengthSaid (encoded r)
   to-its-end = length-encode (r .kind) (r .payload) ∙ ap (λ n. 6 + n) (sym said)
 
-  pub whole : isWhole (holding offset bytes) ≡ true
+  -- a whole one
+  whole : isWhole (holding offset (encoded r)) ≡ true
   unfolding isWhole
-  whole = eq-eqb (length bytes) (6 + lengthSaid bytes) to-its-end
+  whole = eq-eqb (length (encoded r)) (6 + lengthSaid (encoded r)) to-its-end
 
   -- what is held and kept at its end
-  pub fed-record : fed bytes (held (fresh offset) room) ≡ atItsEnd
+  fed-record : fed (encoded r) (held (fresh offset) room) ≡ atItsEnd
   fed-record =
-      read-all offset bytes room (bytes-encode (r .kind) (r .payload) (s .bytes)) (omega (arith, to-its-end))
-      ∙ ap (λ p. held (holding offset bytes) (keptOf p room)) follows
+      read-all offset (encoded r) room (bytes-encode (r .kind) (r .payload) (s .bytes)) (omega (arith, to-its-end))
+      ∙ ap (λ p. held (holding offset (encoded r)) (keptOf p room)) follows
 
   -- it is met once
-  pub met-record : met bytes (held (fresh offset) room) ≡ atItsEnd ∷ []
+  met-record : met (encoded r) (held (fresh offset) room) ≡ atItsEnd ∷ []
   met-record =
-      met-whole offset bytes room (bytes-encode (r .kind) (r .payload) (s .bytes)) (omega (arith, to-its-end)) (5 + length (r .payload)) (length-encode (r .kind) (r .payload) ∙ omega arith) whole
-      ∙ ap (λ p. held (holding offset bytes) (keptOf p room) ∷ []) follows
+      met-whole offset (encoded r) room (bytes-encode (r .kind) (r .payload) (s .bytes)) (omega (arith, to-its-end)) (5 + length (r .payload)) (length-encode (r .kind) (r .payload) ∙ omega arith) whole
+      ∙ ap (λ p. held (holding offset (encoded r)) (keptOf p room) ∷ []) follows
 
   -- where the next record begins
   abbrev after : Held
@@ -150,14 +153,16 @@ module _ (r : Rec) (s : Sayable r) (offset : ℕ) (room : List ℕ) where
   after-is = ap (λ n. held (fresh ((offset + n) % 2 ^ 64)) (keptOf (r .payload) room)) (length-encode (r .kind) (r .payload))
 
   -- with more bytes behind it
-  pub met-then : (ys : List ℕ) → met (bytes ++ ys) (held (fresh offset) room) ≡ atItsEnd ∷ met ys after
+  pub met-then : (ys : List ℕ) → met (encoded r ++ ys) (held (fresh offset) room) ≡ atItsEnd ∷ met ys after
   met-then ys =
-      met-append bytes ys (held (fresh offset) room)
+      met-append (encoded r) ys (held (fresh offset) room)
       ∙ rw (met-record, fed-record) (ap (λ l. atItsEnd ∷ l) (met-from-next atItsEnd whole ys ∙ ap (met ys) after-is))
 
-  pub end-then : (ys : List ℕ) → atEnd (fed (bytes ++ ys) (held (fresh offset) room) .reader) ≡ atEnd (fed ys after .reader)
+  -- so what is said of the end is what is said of it from there
+  pub end-then : {X : Type 0} (g : ℕ → Answer → X) → ((a b : ℕ) → g a Done ≡ g b Done) → (ys : List ℕ)
+      → endOf g (fed (encoded r ++ ys) (held (fresh offset) room) .reader) ≡ endOf g (fed ys after .reader)
   unfolding fed
-  end-then ys =
-      ap (λ h. atEnd (h .reader)) (foldl-append pushed (held (fresh offset) room) bytes ys ∙ ap (fed ys) fed-record)
-      ∙ end-from-next atItsEnd whole ys
-      ∙ ap (λ h. atEnd (fed ys h .reader)) after-is
+  end-then g same ys =
+      ap (λ h. endOf g (h .reader)) (foldl-append pushed (held (fresh offset) room) (encoded r) ys ∙ ap (fed ys) fed-record)
+      ∙ end-from-next atItsEnd whole g same ys
+      ∙ ap (λ h. endOf g (fed ys h .reader)) after-is

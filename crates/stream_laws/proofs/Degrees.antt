@@ -51,7 +51,7 @@ degrees-none zero p h = refl
 degrees-none (suc n) p h = rw (degrees-none n p h, number-past 4 (20 + 12 * n) p (omega arith))
 
 -- each degree is below 2 ^ 32
-pub degrees-bound : (n : ℕ) (p : List ℕ) → AreBytes p → degrees n p ≤ n * 4294967295
+degrees-bound : (n : ℕ) (p : List ℕ) → AreBytes p → degrees n p ≤ n * 4294967295
 unfolding degrees degree
 degrees-bound zero p f = omega arith
 degrees-bound (suc n) p f = omega (arith, suc-mul n 4294967295, degrees-bound n p f, number-bound 4 (20 + 12 * n) p f)
@@ -59,3 +59,9 @@ degrees-bound (suc n) p f = omega (arith, suc-mul n 4294967295, degrees-bound n 
 -- so that the sum of fewer than 2 ^ 32 never wraps
 pub degrees-small : (n : ℕ) (p : List ℕ) → AreBytes p → n < 4294967296 → degrees n p < 2 ^ 64
 degrees-small n p f h = let l : n ≤ 4294967295 = omega arith in omega (arith, degrees-bound n p f, mul-le-mul-right 4294967295 l)
+
+-- fewer mechanisms have no more detectors
+pub degrees-rise : (n k : ℕ) (p : List ℕ) → degrees n p ≤ degrees (n + k) p
+unfolding degrees
+degrees-rise n zero p = let e : n + 0 ≡ n = omega arith in rw e (omega arith)
+degrees-rise n (suc k) p = let e : n + suc k ≡ suc (n + k) = omega arith in rw e (omega (arith, degrees-rise n k p))

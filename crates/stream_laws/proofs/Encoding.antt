@@ -6,7 +6,7 @@ use native.Mathlib.Nat.{pow-zero, pow-succ'}
 use native.Mathlib.Omega.{arith}
 use lib.ListN.{length, take, drop, length-append, length-drop, take-append-drop}
 use lib.Seq.{take-at, drop-at, drop-drop, length-take-le}
-use Rattle.records.specs.Stream.{AreBytes, number, bytesOf, numberAt, encode, lengthSaid, kindSaid}
+use Rattle.records.specs.Stream.{AreBytes, number, bytesOf, numberAt, encode, Rec, lengthSaid, kindSaid}
 use Rattle.records.proofs.Bytes.{bytes-take, bytes-drop, bytes-append}
 
 -- ---- numbers
@@ -25,7 +25,7 @@ number-bytesOf (suc n) k h =
     rw (number-bytesOf n (k / 256) q) (omega arith)
 
 -- bytes are those of their number
-pub bytesOf-number : (xs : List ℕ) → AreBytes xs → bytesOf (length xs) (number xs) ≡ xs
+bytesOf-number : (xs : List ℕ) → AreBytes xs → bytesOf (length xs) (number xs) ≡ xs
 unfolding number bytesOf
 bytesOf-number [] f = refl
 bytesOf-number (x ∷ xs) f =
@@ -35,13 +35,17 @@ bytesOf-number (x ∷ xs) f =
     rw (m, d, bytesOf-number xs (λ i. f (suc i)))
 
 -- a number's bytes are bytes
-pub bytes-bytesOf : (n k : ℕ) → AreBytes (bytesOf n k)
+bytes-bytesOf : (n k : ℕ) → AreBytes (bytesOf n k)
 unfolding bytesOf
 bytes-bytesOf zero k i = omega arith
 bytes-bytesOf (suc n) k zero = omega arith
 bytes-bytesOf (suc n) k (suc i) = bytes-bytesOf n (k / 256) i
 
 -- ---- records
+
+-- the bytes of a record
+abbrev pub encoded : Rec → List ℕ
+encoded r = encode (r .kind) (r .payload)
 
 module _ (kind : ℕ) (p rest : List ℕ) where
   -- a record's payload length is read back

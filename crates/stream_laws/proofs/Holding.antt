@@ -15,7 +15,7 @@ use Rattle.stream_laws.proofs.Degrees.{degrees-none, degrees-same, degr
 use Rattle.records.proofs.Steps.{grown-before, grown-after, grown-within, summed-before, summed-after, summed-within}
 
 -- a number of at most 4 bytes, one byte further
-pub field-grows : (n at : ℕ) (xs : List ℕ) (b : ℕ) → n ≤ 4 → AreBytes xs → b < 256 → grown (numberAt n at xs) at n (length xs) b ≡ numberAt n at (xs ++ (b ∷ []))
+field-grows : (n at : ℕ) (xs : List ℕ) (b : ℕ) → n ≤ 4 → AreBytes xs → b < 256 → grown (numberAt n at xs) at n (length xs) b ≡ numberAt n at (xs ++ (b ∷ []))
 field-grows n at xs b s f h =
     let v = numberAt n at xs in
     let w = numberAt n at (xs ++ (b ∷ [])) in
@@ -30,10 +30,6 @@ field-grows n at xs b s f h =
     (λ (k : at + n ≤ length xs). sym (grown-after v at n (length xs) b l (omega arith)) ∙ sym (number-after n at xs b k))
     (less-or-not (length xs) (at + n)))
     (less-or-not (length xs) at)
-
--- the payload, one byte further
-payload-more : (xs : List ℕ) (b : ℕ) → 6 ≤ length xs → drop 6 (xs ++ (b ∷ [])) ≡ drop 6 xs ++ (b ∷ [])
-payload-more xs b h = drop-append-le 6 xs (b ∷ []) h
 
 -- the sum of degrees, one byte of the payload p further
 sum-payload : (p : List ℕ) (at b : ℕ) → AreBytes p → b < 256 → 18 ≤ at → at ≡ 6 + length p
@@ -59,7 +55,7 @@ sum-payload p at b f h k e =
     (less-or-not (q / 12) n)
 
 -- and of the whole record's bytes
-pub sum-grows : (xs : List ℕ) (b : ℕ) → AreBytes xs → b < 256
+sum-grows : (xs : List ℕ) (b : ℕ) → AreBytes xs → b < 256
     → summed (degrees (mechanisms (drop 6 xs)) (drop 6 xs)) (mechanisms (drop 6 xs)) (length xs) b
     ≡ degrees (mechanisms (drop 6 (xs ++ (b ∷ [])))) (drop 6 (xs ++ (b ∷ [])))
 unfolding mechanisms
@@ -75,7 +71,7 @@ sum-grows xs b f h =
     ∙ sym (degrees-none (mechanisms p′) p′ (omega (arith, l′, length-append xs (b ∷ [])))))
     (λ (k : 18 ≤ length xs).
     sum-payload p (length xs) b (bytes-drop 6 xs f) h k (omega (arith, l))
-    ∙ rw (payload-more xs b (omega arith), number-after 4 4 p b (omega (arith, l))))
+    ∙ rw (drop-append-le 6 xs (b ∷ []) (omega arith), number-after 4 4 p b (omega (arith, l))))
     (less-or-not (length xs) 18)
 
 -- what a reader holds, one byte further

@@ -4,9 +4,9 @@ pub mod Holding
 pub mod Degrees
 pub mod Whole
 pub mod Along
+pub mod Kept
 pub mod Judging
 pub mod Accepted
-pub mod Kept
 pub mod ReadBack
 pub mod Theorems
 pub mod Recorded

@@ -79,12 +79,14 @@ settings-read s f =
 abbrev pub noMechanism : Mechanism
 noMechanism = record { prior = 0; degree = 0 }
 
-pub length-mechanisms : (ms : List Mechanism) → length (encodeMechanisms ms) ≡ 12 * length ms
+-- how long they are
+length-mechanisms : (ms : List Mechanism) → length (encodeMechanisms ms) ≡ 12 * length ms
 unfolding encodeMechanisms bytesOf
 length-mechanisms [] = refl
 length-mechanisms (m ∷ ms) = omega (arith, length-mechanisms ms)
 
-pub length-detectors : (ds : List ℕ) → length (encodeDetectors ds) ≡ 4 * length ds
+-- how long they are
+length-detectors : (ds : List ℕ) → length (encodeDetectors ds) ≡ 4 * length ds
 unfolding encodeDetectors bytesOf
 length-detectors [] = refl
 length-detectors (d ∷ ds) = omega (arith, length-detectors ds)

@@ -17,12 +17,12 @@ use Rattle.refusals.specs.Refusal.{numberOf}
 use Rattle.calls_core.specs.declared.Decoded.{Decoded}
 use Rattle.calls_core.specs.declared.Decoded.the-variants as Decoded
 use Rattle.records.specs.declared.Reader.{Reader}
-use Rattle.records.specs.Stream.{Rec, Sayable, encode, lengthSaid, mechanisms, legs, isOfShot, lengthGood, roomGood}
+use Rattle.records.specs.Stream.{Rec, Sayable, lengthSaid, mechanisms, isOfShot, lengthGood, roomGood}
 use Rattle.records.specs.Reading.{holding, keptOf, verdict}
 use Rattle.stream_laws.proofs.Accepted.{passed, model-within}
 use Rattle.stream_laws.proofs.Kept.{kept-front}
-use Rattle.stream_laws.proofs.Along.{to-its-end}
-use Rattle.stream_laws.proofs.Encoding.{length-encode}
+use Rattle.stream_laws.proofs.Along.{said}
+use Rattle.stream_laws.proofs.Encoding.{encoded}
 use Rattle.stream_laws.proofs.Theorems.{judges}
 use Rattle.shots_core.specs.Table.{modelFault, settingsAnswer, shotDecoded}
 use Rattle.session.specs.declared.Session.{Session}
@@ -32,40 +32,42 @@ use Rattle.session.specs.Text.{recordSaid}
 -- ---- the reader stays
 
 -- of two that leave it
-either-stays : (b : Bool) (x y : Told) (r : Reader) → x .session .reader ≡ r → y .session .reader ≡ r → cond b x y .session .reader ≡ r
-either-stays true x y r h k = h
-either-stays false x y r h k = k
+either-stays : {A : Type 0} (f : A → Reader) (b : Bool) (x y : A) (r : Reader) → f x ≡ r → f y ≡ r → f (cond b x y) ≡ r
+either-stays f true x y r h k = h
+either-stays f false x y r h k = k
 
-either-taken : (b : Bool) (x y : Taken) (r : Reader) → x .now .session .reader ≡ r → y .now .session .reader ≡ r → cond b x y .now .session .reader ≡ r
-either-taken true x y r h k = h
-either-taken false x y r h k = k
-
+-- a refusal that ends the run
 stops-stays : (s : Session) (r : Refusal) (line : List ℕ) → stops s r line .session .reader ≡ s .reader
 unfolding stops
 stops-stays s r line = refl
 
+-- what a decode answered
 answers-stays : (s : Session) (d : Decoded) (bits line : List ℕ) → answers s d bits line .session .reader ≡ s .reader
 unfolding finds says refuses
 answers-stays s (Decoded.Converged legs total weight) bits line = refl
 answers-stays s (Decoded.NotConverged legs total) bits line = refl
-answers-stays s (Decoded.Refused r) bits line = either-stays (isOfShot (numberOf r)) _ _ (s .reader) refl (stops-stays s r line)
+answers-stays s (Decoded.Refused r) bits line = either-stays (λ (t : Told). t .session .reader) (isOfShot (numberOf r)) _ _ (s .reader) refl (stops-stays s r line)
 
+-- settings
 settings-stays : (s : Session) (a : Answer) (p line : List ℕ) → settingsTaken s a p line .session .reader ≡ s .reader
 unfolding goesOn
 settings-stays s Done p line = refl
 settings-stays s (Refused r) p line = stops-stays s r line
 
+-- a model
 model-stays : (s : Session) (a : Answer) (p model line : List ℕ) → modelTaken s a p model line .now .session .reader ≡ s .reader
 unfolding goesOn
 model-stays s Done p model line = refl
 model-stays s (Refused r) p model line = stops-stays s r line
 
+-- a shot
 shot-stays : (s : Session) (model p line : List ℕ) → shotTaken s model p line .session .reader ≡ s .reader
 unfolding shotTaken tells
 shot-stays s model p line =
     let d = shotDecoded model (s .known .settings) p (take (mechanisms model) (replicate 256 0)) in
     answers-stays s (d .answer) (d .correction) line
 
+-- a record of any kind, past 41 to 45 or not
 judged-stays : (s : Session) (a : Answer) (p model line : List ℕ) → judged s a p model line .now .session .reader ≡ s .reader
 unfolding kindTaken
 judged-stays s Done p model line =
@@ -73,10 +75,12 @@ judged-stays s Done p model line =
     let y = taken (settingsTaken s (settingsAnswer p) p line) model in
     let m = take (s .known .«model_length») model in
     let z = taken (shotTaken s m p line) model in
-    either-taken (eqb (s .reader .kind) 1) x (cond (eqb (s .reader .kind) 2) y z) (s .reader) (model-stays s (modelFault p) p model line)
-    (either-taken (eqb (s .reader .kind) 2) y z (s .reader) (settings-stays s (settingsAnswer p) p line) (shot-stays s m p line))
+    let reader : Taken → Reader = λ t. t .now .session .reader in
+    either-stays reader (eqb (s .reader .kind) 1) x (cond (eqb (s .reader .kind) 2) y z) (s .reader) (model-stays s (modelFault p) p model line)
+    (either-stays reader (eqb (s .reader .kind) 2) y z (s .reader) (settings-stays s (settingsAnswer p) p line) (shot-stays s m p line))
 judged-stays s (Refused r) p model line = stops-stays s r line
 
+-- a record that is met
 pub record-stays : (s : Session) (kept model line : List ℕ) → recordTaken s kept model line .now .session .reader ≡ s .reader
 unfolding recordTaken
 record-stays s kept model line =
@@ -84,7 +88,8 @@ record-stays s kept model line =
 
 -- ---- the payload finds room, where 41 to 45 let it through
 
-pub fits-room : (kind size c m e sum l : ℕ) → lengthGood kind size m e sum ≡ true → roomGood kind size c m e l ≡ true → size ≤ 5132
+-- by its kind
+fits-room : (kind size c m e sum l : ℕ) → lengthGood kind size m e sum ≡ true → roomGood kind size c m e l ≡ true → size ≤ 5132
 unfolding lengthGood roomGood
 fits-room kind size c m e sum l h k = ⊎-elim one (λ n. ⊎-elim (two n) (three n) (equal-or-not kind 2)) (equal-or-not kind 1)
   where
@@ -105,23 +110,19 @@ same-payload s Done q p model line h = ap (λ x. kindTaken s x model line) (h re
 same-payload s (Refused r) q p model line h = refl
 
 module _ (r : Rec) (sayable : Sayable r) (offset : ℕ) (room : List ℕ) (large : 5132 ≤ length room) where
-  abbrev bytes : List ℕ
-  bytes = encode (r .kind) (r .payload)
-
-  -- the head says the payload's length
-  said : lengthSaid bytes ≡ length (r .payload)
-  said = omega (arith, to-its-end r sayable offset room, length-encode (r .kind) (r .payload))
-
   -- what 41 to 45 let through is kept whole
-  kept-whole : (hasModel hasSettings : Bool) → verdict hasModel hasSettings (holding offset bytes) (keptOf (r .payload) room) ≡ Done
-      → take (lengthSaid bytes) (keptOf (r .payload) room) ≡ r .payload
+  kept-whole : (hasModel hasSettings : Bool) → verdict hasModel hasSettings (holding offset (encoded r)) (keptOf (r .payload) room) ≡ Done
+      → take (lengthSaid (encoded r)) (keptOf (r .payload) room) ≡ r .payload
+  unfolding verdict
   kept-whole hasModel hasSettings d =
-      let p = passed hasModel hasSettings (holding offset bytes) (keptOf (r .payload) room) d in
-      let l = fits-room _ _ _ _ _ _ _ (p .size) (p .room) in
-      rw (said, kept-front (r .payload) room (omega (arith, l, said, large))) (take-append-seam (r .payload) (drop (length (r .payload)) room))
+      let p = passed hasModel hasSettings _ _ _ _ _ _ _ _ d in
+      let l = fits-room _ _ _ _ _ _ _ (p .size-good) (p .room-good) in
+      let n = said r sayable offset room in
+      rw (n, kept-front (r .payload) room (omega (arith, l, n, large))) (take-append-seam (r .payload) (drop (length (r .payload)) room))
 
-  pub record-told : (s : Session) (model line : List ℕ) → recordTaken (reads s (holding offset bytes)) (keptOf (r .payload) room) model line ≡ recordSaid s offset r model line
+  -- it is told as the grammar and the table say
+  pub record-told : (s : Session) (model line : List ℕ) → recordTaken (reads s (holding offset (encoded r))) (keptOf (r .payload) room) model line ≡ recordSaid s offset r model line
   unfolding recordTaken recordSaid reads
   record-told s model line =
       same-payload _ _ _ _ model line (kept-whole (s .known .«has_model») (s .known .«has_settings»))
-      ∙ ap (λ a. judged (reads s (holding offset bytes)) a (r .payload) model line) (judges (s .known .«has_model») (s .known .«has_settings») r offset room sayable (omega (arith, large)))
+      ∙ ap (λ a. judged (reads s (holding offset (encoded r))) a (r .payload) model line) (judges (s .known .«has_model») (s .known .«has_settings») r offset room sayable (omega (arith, large)))

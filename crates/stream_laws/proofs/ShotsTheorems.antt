@@ -8,12 +8,12 @@ use lib.Seq.{take-append-seam}
 use Rattle.records.specs.Stream.{AreBytes, Rec, AllSayable, stream, isComplete}
 use Rattle.records.specs.Reading.{fresh, held, fed, keptOf}
 use Rattle.session.specs.declared.Session.{Session}
-use Rattle.session.specs.Shots.{Left, start, byteTaken, endText, written}
+use Rattle.session.specs.Shots.{Left, start, byteTaken, lastText, endText, written}
 use Rattle.session.specs.Text.{recordsText}
 use Rattle.stream_laws.proofs.Kept.{kept-front}
-use Rattle.stream_laws.proofs.Theorems.{told-apart, meets}
+use Rattle.stream_laws.proofs.Theorems.{Apart, told-apart, meets, ends-at}
 use Rattle.stream_laws.proofs.Written.{metText, written-met}
-use Rattle.stream_laws.proofs.Ended.{ends-at, met-told}
+use Rattle.stream_laws.proofs.Ended.{met-told}
 
 -- "`shots` reads standard input": of records and what is left over it writes what the grammar and the table say, with each refusal's number and offset, where a payload of
 -- 5,132 bytes can be kept, the longest within the room
@@ -23,26 +23,19 @@ writes rs rest room model line s f c l =
     let final = fed (stream rs ++ rest) (held (fresh 0) room) .reader in
     written-met (stream rs ++ rest) start room model line refl
     ∙ ap (λ hs. metText hs final start model line) (meets rs rest 0 room s f c)
-    ∙ met-told rs rest 0 room final start model line s l refl (λ n. ends-at n rs rest 0 room s f c)
+    ∙ met-told rs rest 0 room final start model line s l refl (λ n. ends-at (lastText n) (λ a b. refl) rs rest 0 room s f c)
 
 -- every input is such a stream
 pub record Written (xs room model line : List ℕ) : Type 0 where
-  pub records : List Rec
-  pub rest : List ℕ
-  pub sayable : AllSayable records
-  pub same : xs ≡ stream records ++ rest
-  pub cut : isComplete rest ≡ false
-  pub text : written xs start room model line ≡ recordsText records 0 rest start model line
+  pub parts : Apart xs
+  pub text : written xs start room model line ≡ recordsText (parts .records) 0 (parts .rest) start model line
 
+-- and what is written of it
 pub every-input : (xs room model line : List ℕ) → AreBytes xs → 5132 ≤ length room → Written xs room model line
 every-input xs room model line f l =
     let t = told-apart xs f in
     record {
-      records = t .records;
-      rest = t .rest;
-      sayable = t .sayable;
-      same = t .same;
-      cut = t .cut;
+      parts = t;
       text = ap (λ ys. written ys start room model line) (t .same) ∙ writes (t .records) (t .rest) room model line (t .sayable) (t .bytes) (t .cut) l;
     }
 

@@ -4,26 +4,30 @@ use mathlib.Core.Path.{_≡_, refl, sym, ap, _∙_}
 use mathlib.Core.Bool.{Bool, true, false}
 use mathlib.Core.List.{List, [], _∷_, _++_, foldl-append, append-assoc, append-nil}
 use mathlib.Core.Logic.{⊎-elim}
-use Prim.Native.Nat.{ℕ, zero, suc, _+_, _%_, _^_, _<_, _≤_}
+use Prim.Native.Nat.{ℕ, zero, suc, _+_, _-_, _%_, _^_, _<_, _≤_}
+use native.Mathlib.Nat.{mod-eq-of-lt}
 use native.Mathlib.Omega.{arith}
 use lib.ListN.{length, take, drop, length-drop}
 use lib.Seq.{length-take-le}
-use borrow.Author.Tests.{leb-true, leb-false, ne-eqb}
-use Rattle.numbers.proofs.Cases.{either}
-use Rattle.records.specs.Stream.{seed, syndrome, AreBytes, Rec, rec, Sayable, AllSayable, none, more, encode, stream, lengthSaid, kindSaid, isComplete, judge, leftOver, isOfShot}
+use borrow.Author.Tests.{leb-true, leb-false, eqb-true, ne-eqb}
+use Rattle.numbers.proofs.Cases.{either, and-both}
+use Rattle.records.specs.Stream.{seed, syndrome, AreBytes, Rec, rec, Sayable, AllSayable, none, more, encode, stream, lengthSaid, kindSaid, isComplete, checks, mechanisms, edges, degrees, legs, lengthGood, timeGood, roomGood, judge, leftOver, isOfShot}
 use Rattle.refusals.specs.declared.Answer.{Answer}
+use Rattle.refusals.specs.declared.Answer.the-variants.{Done}
 use Rattle.settings.specs.declared.Settings.{Settings}
 use Rattle.records.specs.declared.Reader.{Reader}
 use Rattle.records.specs.declared.Counts.{Counts}
-use Rattle.records.specs.Fields.{countsOf, ModelLists, modelRead, settingsOf}
+use Rattle.records.specs.Fields.{offset, countsOf, ModelLists, modelRead, settingsOf}
 use Rattle.records.specs.Reading.{fresh, holding, isWhole, opened, keptOf, Held, held, pushed, fed, met, toMeet, verdict, atEnd}
 use Rattle.records.proofs.Bytes.{bytes-take, bytes-drop, number-bound}
-use Rattle.stream_laws.proofs.Encoding.{length-said, kind-said, payload-said, complete-is}
+use Rattle.stream_laws.proofs.Encoding.{encoded, length-said, kind-said, payload-said, complete-is}
 use Rattle.stream_laws.proofs.Whole.{read-all}
 use Rattle.records.specs.Payloads.{encodeShot, SettingsFields, encodeSettings, Mechanism, encodeModel}
 use Rattle.stream_laws.proofs.Judging.{judged}
 use Rattle.stream_laws.proofs.ReadBack.{shot-seed, shot-syndrome, SettingsFit, SettingsRead, settings-read, ModelFit, ModelRead, model-read}
-use Rattle.stream_laws.proofs.Along.{met-append, met-cut, met-then, end-then, follows, to-its-end}
+use Rattle.stream_laws.proofs.Along.{met-append, met-cut, met-then, endOf, end-then, follows, to-its-end}
+use Rattle.stream_laws.proofs.Degrees.{degrees-rise}
+use Rattle.stream_laws.proofs.Accepted.{passed, ModelWithin, model-within}
 
 -- ---- the encoding
 
@@ -65,7 +69,8 @@ open-record : (offset : ℕ) (xs : List ℕ) → isComplete xs ≡ false → isW
 unfolding isComplete isWhole
 open-record offset xs c = ne-eqb (length xs) (6 + lengthSaid xs) (λ e. omega (arith, e, leb-false (6 + lengthSaid xs) (length xs) c))
 
-pub record Told (xs : List ℕ) : Type 0 where
+-- bytes told apart: records that a stream can hold, and bytes that begin with no whole record
+pub record Apart (xs : List ℕ) : Type 0 where
   pub records : List Rec
   pub rest : List ℕ
   pub sayable : AllSayable records
@@ -74,7 +79,7 @@ pub record Told (xs : List ℕ) : Type 0 where
   pub bytes : AreBytes rest
 
 -- nothing but what is left over
-nothing : (ys : List ℕ) → AreBytes ys → isComplete ys ≡ false → Told ys
+nothing : (ys : List ℕ) → AreBytes ys → isComplete ys ≡ false → Apart ys
 unfolding stream
 nothing ys g c = record { records = []; rest = ys; sayable = none; same = refl; cut = c; bytes = g }
 
@@ -84,7 +89,7 @@ unfolding isComplete
 shorter n ys h c = omega (arith, leb-true (6 + lengthSaid ys) (length ys) c, length-drop (6 + lengthSaid ys) ys)
 
 -- a whole record, and what is told of the bytes behind it
-first : (ys : List ℕ) → AreBytes ys → isComplete ys ≡ true → Told (drop (6 + lengthSaid ys) ys) → Told ys
+first : (ys : List ℕ) → AreBytes ys → isComplete ys ≡ true → Apart (drop (6 + lengthSaid ys) ys) → Apart ys
 unfolding isComplete stream kindSaid lengthSaid
 first ys g c t =
     let n = lengthSaid ys in
@@ -103,10 +108,11 @@ first ys g c t =
       bytes = t .bytes;
     }
 
-pub told-apart : (xs : List ℕ) → AreBytes xs → Told xs
+-- every input is told apart so
+pub told-apart : (xs : List ℕ) → AreBytes xs → Apart xs
 told-apart xs f = go (suc (length xs)) xs f (omega arith)
   where
-    go : (n : ℕ) (ys : List ℕ) → AreBytes ys → length ys < n → Told ys
+    go : (n : ℕ) (ys : List ℕ) → AreBytes ys → length ys < n → Apart ys
     go zero ys g h = absurd (omega arith)
     go (suc n) ys g h =
         ⊎-elim
@@ -135,15 +141,26 @@ meets (r ∷ rs) rest offset room (more s ss) f c =
     ∙ ap (λ l. held (holding offset (encode (r .kind) (r .payload))) (keptOf (r .payload) room) ∷ l)
     (meets rs rest ((offset + (6 + length (r .payload))) % 2 ^ 64) (keptOf (r .payload) room) ss f c)
 
+-- the offset behind records
+abbrev pub offsetAfter : List Rec → ℕ → ℕ
+offsetAfter [] offset = offset
+offsetAfter (r ∷ rs) offset = offsetAfter rs ((offset + (6 + length (r .payload))) % 2 ^ 64)
+
+-- what the reader says at the end of the input: whether bytes are left over, and at which offset
+pub ends-at : {X : Type 0} (g : ℕ → Answer → X) → ((a b : ℕ) → g a Done ≡ g b Done)
+    → (rs : List Rec) (rest : List ℕ) (offset : ℕ) (room : List ℕ) → AllSayable rs → AreBytes rest → isComplete rest ≡ false
+    → endOf g (fed (stream rs ++ rest) (held (fresh offset) room) .reader) ≡ g (offsetAfter rs offset) (leftOver rest)
+unfolding stream atEnd leftOver opened
+ends-at g same [] rest offset room s f c = rw (read-all offset rest room f (within rest c), open-record offset rest c)
+ends-at g same (r ∷ rs) rest offset room (more s ss) f c =
+    ap (λ xs. endOf g (fed xs (held (fresh offset) room) .reader)) (append-assoc (encoded r) (stream rs) rest)
+    ∙ end-then r s offset room g same (stream rs ++ rest)
+    ∙ ends-at g same rs rest ((offset + (6 + length (r .payload))) % 2 ^ 64) (keptOf (r .payload) room) ss f c
+
 -- "40 cut record": at the end of the input, exactly where bytes are left over
 pub ends : (rs : List Rec) (rest : List ℕ) (offset : ℕ) (room : List ℕ) → AllSayable rs → AreBytes rest → isComplete rest ≡ false
     → atEnd (fed (stream rs ++ rest) (held (fresh offset) room) .reader) ≡ leftOver rest
-unfolding stream atEnd leftOver opened
-ends [] rest offset room s f c = rw (read-all offset rest room f (within rest c), open-record offset rest c)
-ends (r ∷ rs) rest offset room (more s ss) f c =
-    ap (λ xs. atEnd (fed xs (held (fresh offset) room) .reader)) (append-assoc (encode (r .kind) (r .payload)) (stream rs) rest)
-    ∙ end-then r s offset room (stream rs ++ rest)
-    ∙ ends rs rest ((offset + (6 + length (r .payload))) % 2 ^ 64) (keptOf (r .payload) room) ss f c
+ends = ends-at (λ offset a. a) (λ a b. refl)
 
 -- a record that is met is judged as the grammar judges it, where 49 bytes can be kept
 pub judges : (hasModel hasSettings : Bool) (r : Rec) (offset : ℕ) (room : List ℕ) → Sayable r → 49 ≤ length room
@@ -155,6 +172,36 @@ judges hasModel hasSettings r offset room s h =
     let j : verdict hasModel hasSettings (holding offset xs) (keptOf (drop 6 xs) room) ≡ judge hasModel hasSettings (kindSaid xs) (drop 6 xs) =
     judged hasModel hasSettings offset xs room (to-its-end r s offset room) h in
     ap (λ q. verdict hasModel hasSettings (holding offset xs) (keptOf q room)) (sym p) ∙ j ∙ ap (λ q. judge hasModel hasSettings (kindSaid xs) q) p ∙ ap (λ q. judge hasModel hasSettings q (r .payload)) k
+
+-- ---- what 41 to 45 let through is within the room
+
+module _ (hasModel hasSettings : Bool) (p : List ℕ) where
+  -- a model has at most 128 checks, 256 mechanisms and 512 edges, is as long as its counts say, and its degrees add up to its edges
+  pub model-let-through : judge hasModel hasSettings 1 p ≡ Done → ModelWithin (length p) (checks p) (mechanisms p) (edges p) (degrees (mechanisms p) p)
+  unfolding judge
+  model-let-through d = let t = passed hasModel hasSettings 1 _ _ _ _ _ _ _ d in model-within _ _ _ _ _ _ (t .size-good) (t .room-good)
+
+  -- settings have 49 bytes and at most 16 relayed legs
+  pub settings-let-through : judge hasModel hasSettings 2 p ≡ Done → (length p ≡ 49) × (legs p ≤ 16)
+  unfolding judge lengthGood roomGood
+  settings-let-through d = let t = passed hasModel hasSettings 2 _ _ _ _ _ _ _ d in (eqb-true (length p) 49 (t .size-good), leb-true (legs p) 16 (t .room-good))
+
+  -- a shot has a seed, at most 128 bytes of a syndrome, and a model and settings before it
+  pub shot-let-through : judge hasModel hasSettings 3 p ≡ Done → (8 ≤ length p) × (length p ≤ 136) × (hasModel ≡ true) × (hasSettings ≡ true)
+  unfolding judge lengthGood timeGood roomGood
+  shot-let-through d =
+      let t = passed hasModel hasSettings 3 _ _ _ _ _ _ _ d in
+      let b = and-both hasModel hasSettings (t .time-good) in
+      (leb-true 8 (length p) (t .size-good), leb-true (length p) 136 (t .room-good), b .0, b .1)
+
+  -- the offsets of a model are sums of its degrees, exactly
+  pub offsets-exact : (m : ℕ) → judge hasModel hasSettings 1 p ≡ Done → m ≤ mechanisms p → offset p m ≡ degrees m p
+  unfolding offset
+  offsets-exact m d k =
+      let w = model-let-through d in
+      let j : m + (mechanisms p - m) ≡ mechanisms p = omega arith in
+      let r : degrees m p ≤ degrees (mechanisms p) p = rw j at (degrees-rise m (mechanisms p - m) p) in
+      mod-eq-of-lt (omega (arith, r, w .sumFits, w .edgesFit))
 
 -- ---- two results that a contract allows coincide
 

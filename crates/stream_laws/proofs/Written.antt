@@ -26,7 +26,7 @@ met-reads [] final r s model line = refl
 met-reads (h ∷ hs) final r s model line = refl
 
 -- a run that has ended writes nothing more
-pub silent : (xs : List ℕ) (s : Session) (kept model line : List ℕ) → s .stopped ≡ true → written xs s kept model line ≡ []
+silent : (xs : List ℕ) (s : Session) (kept model line : List ℕ) → s .stopped ≡ true → written xs s kept model line ≡ []
 unfolding written endText reads
 silent [] s kept model line h = chosen (s .stopped) _ _ h
 silent (x ∷ xs) s kept model line h =
