@@ -29,13 +29,12 @@ use Rattle.settings.specs.declared.Settings.{Settings}
 use Rattle.calls_core.specs.declared.Decoded.the-variants as Decoded
 use Rattle.settings.specs.Settings.{preGood, legIterationsGood, setsGood, sourceFault, settingsFault}
 use Rattle.orders_core.specs.Order.{upto, namesOnce, namesFault, exchangeFault}
+use Rattle.calls_core.proofs.Named.{names-entries, index-passes}
 use Rattle.calls_core.specs.Decode.{Shot, decodeLegs}
 use Rattle.calls_core.specs.Calls.{syndromeFault, Lists, Outcome, outcome, listsFit, decodeFault, afterLegs, decodeInOrder, decode}
 use Rattle.legs_core.specs.Kept.{Reads, shotOf, shotFault}
-use Rattle.orders_core.proofs.All.{all-at}
-use Rattle.orders_core.proofs.Counts.{names-below, names-once-is}
-use Rattle.orders_core.proofs.OrderWords.{upto-names, index-taken}
 use Rattle.decode_core.proofs.WholeGraph.{whole, legs-read-four}
+use Rattle.decode_core.proofs.Shots.{along-order}
 
 -- ---- 22
 
@@ -60,15 +59,15 @@ unfolding orElse
 or-joined Done b c = refl
 or-joined (Refused r) b c = refl
 
--- two tests that refuse nothing add nothing
-or-none : (a : Answer) → orElse a (orElse Done Done) ≡ a
+-- a test that refuses nothing adds nothing
+or-none : (a : Answer) → orElse a Done ≡ a
 unfolding orElse
 or-none Done = refl
 or-none (Refused r) = refl
 
 module _ (edges : ℕ) (x : Shot) (l : Lists) where
   -- the tests of a decode are those of both calls, then 23 and 24
-  pub fault-joined : decodeFault edges x l
+  fault-joined : decodeFault edges x l
       ≡ orElse (shotFault edges x l) (orElse (namesFault (x .graph .checks) (x .order)) (exchangeFault (x .settings .schedule) (x .graph) (x .order)))
   unfolding decodeFault shotFault
   fault-joined = sym (or-joined _ _ _ ∙ ap (orElse _) (or-joined _ _ _ ∙ ap (orElse _) (or-joined _ _ _)))
@@ -86,14 +85,6 @@ module _ (edges : ℕ) (x : Shot) (l : Lists) where
 
 -- ---- 23 and 24, by themselves
 
--- the index order is taken
-pub index-passes : (schedule : Schedule) (checks : ℕ) (cv co order : List ℕ) → order ≡ upto checks
-    → Done ≡ orElse (namesFault checks order) (exchangeFault schedule (ofChecks checks cv co) order)
-unfolding namesFault unless orElse
-index-passes schedule checks cv co order e =
-    let named : namesOnce checks (upto checks) ≡ true = names-once-is checks (upto checks) .1 (upto-names checks) in
-    rw (e, named, index-taken schedule (ofChecks checks cv co))
-
 -- an order that passes 23
 pub names-passed : (checks : ℕ) (order : List ℕ) (a : Answer) (b : Bool) → a ≡ namesFault checks order → b ≡ isDone a → not b ≡ false → namesOnce checks order ≡ true
 unfolding namesFault
@@ -108,7 +99,7 @@ mechanisms-few edges prior g a b e d h = graph-told edges prior g (sym e ∙ don
 
 module _ (t : Settings) (m : ℕ) (flat : List Float) where
   -- settings that pass
-  pub record SettingsTold : Type 0 where
+  record SettingsTold : Type 0 where
     pub pre-some : 0 < t .«pre_iterations»
     pub pre-few : t .«pre_iterations» ≤ 65535
     pub legs-few : t .«num_legs» ≤ 65535
@@ -125,7 +116,7 @@ module _ (t : Settings) (m : ℕ) (flat : List Float) where
       go false e q = absurd (let z = eqb-true legs 0 q in omega (arith, z, k))
 
   -- read off the tests
-  pub settings-told : settingsFault t m flat ≡ Done → SettingsTold
+  settings-told : settingsFault t m flat ≡ Done → SettingsTold
   unfolding settingsFault preGood legIterationsGood setsGood sourceFault
   settings-told h =
       let a1 = or-done _ _ h in
@@ -154,12 +145,12 @@ module _ (t : Settings) (m : ℕ) (flat : List Float) where
           (some-where sets (t .«num_legs») (unless-done _ _ (b1 .0)) k, eqb-true (length flat) (sets * m) (good .1))
 
 -- settings that pass have no more legs than they may have
-pub settings-passed : (t : Settings) (m : ℕ) (flat : List Float) (a : Answer) (b : Bool) → a ≡ settingsFault t m flat → b ≡ isDone a → not b ≡ false
+pub legs-few : (t : Settings) (m : ℕ) (flat : List Float) (a : Answer) (b : Bool) → a ≡ settingsFault t m flat → b ≡ isDone a → not b ≡ false
     → t .«num_legs» ≤ 65535
-settings-passed t m flat a b e d h = settings-told t m flat (sym e ∙ done-is a (sym d ∙ not-false b h)) .legs-few
+legs-few t m flat a b e d h = settings-told t m flat (sym e ∙ done-is a (sym d ∙ not-false b h)) .legs-few
 
 -- all that a decode asks, where the tests refuse nothing
-pub record Told (edges checks mechanisms : ℕ) (t : Settings) (flat : List Float) (syndrome : List ℕ) (prior : List Float) (cv co vm vo order : List ℕ) (l : Lists) : Type 0 where
+pub record Passed (edges checks mechanisms : ℕ) (t : Settings) (flat : List Float) (syndrome : List ℕ) (prior : List Float) (cv co vm vo order : List ℕ) (l : Lists) : Type 0 where
   pub reads : Reads t flat syndrome prior cv co vm vo order
   pub legs-fit :
       (suc (t .«num_legs») ≤ length (l .legState)) × (suc (t .«num_legs») ≤ length (l .legIterations)) × (suc (t .«num_legs») ≤ length (l .legWeight)) × (suc (t .«num_legs») * length prior ≤ length (l .rows))
@@ -170,160 +161,148 @@ pub record Told (edges checks mechanisms : ℕ) (t : Settings) (flat : List Floa
   pub mechanisms-many : length prior ≡ mechanisms
   pub checks-few : checks ≤ 65536
 
-module _ (edges checks mechanisms : ℕ) (t : Settings) (flat : List Float) (seed : ℕ) (syndrome : List ℕ) (prior : List Float) (cv cm co vc vm vo order : List ℕ) (l : Lists) where
-  -- the shot
+module _ (edges checks mechanisms : ℕ) (t : Settings) (flat : List Float) (seed : ℕ) (syndrome : List ℕ) (prior : List Float) (cv cm co vc vm vo : List ℕ) where
+  -- the shot, in any order
   abbrev X : List ℕ → Shot
   X o = whole t flat seed syndrome prior cv cm co vc vm vo o checks mechanisms
 
-  -- read off the tests of both calls, with an order that names checks
-  pub told : shotFault edges (X order) l ≡ Done → Entries checks order → Told edges checks mechanisms t flat syndrome prior cv co vm vo order l
-  unfolding shotFault listsFit syndromeFault
-  told h names =
-      let t1 = or-done _ _ h in
-      let t2 = or-done _ _ (t1 .1) in
-      let t3 = or-done _ _ (t2 .1) in
-      let g = graph-told edges prior (graph checks mechanisms cv cm co vc vm vo) (t1 .0) in
-      let s = settings-told t mechanisms flat (t2 .0) in
-      let many = eqb-true (length syndrome) checks (unless-done _ _ (or-done _ _ (t3 .0) .0)) in
-      let w = graph-walks (graph checks mechanisms cv cm co vc vm vo) (g .is-graph) in
-      let p = g .priors-many in
-      let f1 = and-both _ _ (unless-done _ _ (t3 .1)) in
-      let f2 = and-both _ _ (f1 .1) in
-      let f3 = and-both _ _ (f2 .1) in
-      let f4 = and-both _ _ (f3 .1) in
-      let f5 = and-both _ _ (f4 .1) in
-      let f6 = and-both _ _ (f5 .1) in
-      let f7 = and-both _ _ (f6 .1) in
-      let f8 = and-both _ _ (f7 .1) in
-      let f9 = and-both _ _ (f8 .1) in
-      let cells : suc (t .«num_legs») * mechanisms ≤ length (l .rows) = leb-true _ _ (f4 .0) in
-      record {
-        reads =
-            record {
-              check-walks = walks-both _ _ _ _ _ _ (sym many) (sym p) (w .0);
-              var-walks = walks-both _ _ _ _ _ _ (sym p) refl (w .1);
-              named = entries-along _ _ _ (sym many) names;
-              mechanisms-few = omega (arith, p, g .mechanisms-few);
-              legs-few = s .legs-few;
-              pre-some = s .pre-some;
-              pre-few = s .pre-few;
-              leg-some = s .leg-some;
-              leg-few = s .leg-few;
-              sets-many = λ k sets e. let q = s .sets-many k sets e in (q .0, rw p (q .1));
-            };
-        legs-fit = (leb-true _ _ (f1 .0), leb-true _ _ (f2 .0), leb-true _ _ (f3 .0), rw p cells);
-        work-fits =
-            (eqb-true _ _ (f5 .0) ∙ sym p, eqb-true _ _ (f6 .0) ∙ sym p, eqb-true _ _ (f7 .0) ∙ sym p, eqb-true _ _ (f8 .0) ∙ sym p);
-        messages-fit = (eqb-true _ _ (f9 .0) ∙ sym (g .long .check-var), eqb-true _ _ (f9 .1) ∙ sym (g .long .check-var));
-        edges-many = g .long .check-var;
-        checks-many = many;
-        mechanisms-many = p;
-        checks-few = g .checks-few;
-      }
+  module _ (order : List ℕ) (l : Lists) where
+    -- read off the tests of both calls, with an order that names checks
+    pub passed : shotFault edges (X order) l ≡ Done → Entries checks order → Passed edges checks mechanisms t flat syndrome prior cv co vm vo order l
+    unfolding shotFault listsFit syndromeFault
+    passed h names =
+        let t1 = or-done _ _ h in
+        let t2 = or-done _ _ (t1 .1) in
+        let t3 = or-done _ _ (t2 .1) in
+        let g = graph-told edges prior (graph checks mechanisms cv cm co vc vm vo) (t1 .0) in
+        let s = settings-told t mechanisms flat (t2 .0) in
+        let many = eqb-true (length syndrome) checks (unless-done _ _ (or-done _ _ (t3 .0) .0)) in
+        let w = graph-walks (graph checks mechanisms cv cm co vc vm vo) (g .is-graph) in
+        let p = g .priors-many in
+        let f1 = and-both _ _ (unless-done _ _ (t3 .1)) in
+        let f2 = and-both _ _ (f1 .1) in
+        let f3 = and-both _ _ (f2 .1) in
+        let f4 = and-both _ _ (f3 .1) in
+        let f5 = and-both _ _ (f4 .1) in
+        let f6 = and-both _ _ (f5 .1) in
+        let f7 = and-both _ _ (f6 .1) in
+        let f8 = and-both _ _ (f7 .1) in
+        let f9 = and-both _ _ (f8 .1) in
+        let cells : suc (t .«num_legs») * mechanisms ≤ length (l .rows) = leb-true _ _ (f4 .0) in
+        record {
+          reads =
+              record {
+                check-walks = walks-both _ _ _ _ _ _ (sym many) (sym p) (w .0);
+                var-walks = walks-both _ _ _ _ _ _ (sym p) refl (w .1);
+                named = entries-along _ _ _ (sym many) names;
+                mechanisms-few = omega (arith, p, g .mechanisms-few);
+                legs-few = s .legs-few;
+                pre-some = s .pre-some;
+                pre-few = s .pre-few;
+                leg-some = s .leg-some;
+                leg-few = s .leg-few;
+                sets-many = λ k sets e. let q = s .sets-many k sets e in (q .0, rw p (q .1));
+              };
+          legs-fit = (leb-true _ _ (f1 .0), leb-true _ _ (f2 .0), leb-true _ _ (f3 .0), rw p cells);
+          work-fits =
+              (eqb-true _ _ (f5 .0) ∙ sym p, eqb-true _ _ (f6 .0) ∙ sym p, eqb-true _ _ (f7 .0) ∙ sym p, eqb-true _ _ (f8 .0) ∙ sym p);
+          messages-fit = (eqb-true _ _ (f9 .0) ∙ sym (g .long .check-var), eqb-true _ _ (f9 .1) ∙ sym (g .long .check-var));
+          edges-many = g .long .check-var;
+          checks-many = many;
+          mechanisms-many = p;
+          checks-few = g .checks-few;
+        }
 
-  -- ---- 23 and 24
+    -- ---- 23 and 24
 
-  -- what they ask of the graph
-  pub order-asks : (a : Answer) (b : Bool) → a ≡ shotFault edges (X []) l → b ≡ isDone a → not b ≡ false
-      → (checks ≤ 65536) × (Offsets checks (length cv) co × Entries 65536 cv)
-  unfolding shotFault
-  order-asks a b e d h =
-      let g = graph-told edges prior (graph checks mechanisms cv cm co vc vm vo) (or-done _ _ (sym e ∙ done-is a (sym d ∙ not-false b h)) .0) in
-      let w = graph-walks (graph checks mechanisms cv cm co vc vm vo) (g .is-graph) .0 in
-      (g .checks-few, (w .parts, record { names = λ k i. let q : getD cv k 0 < mechanisms = w .named .names k i in omega (arith, q, g .mechanisms-few) }))
+    -- what they ask of the graph
+    pub order-asks : (a : Answer) (b : Bool) → a ≡ shotFault edges (X []) l → b ≡ isDone a → not b ≡ false
+        → (checks ≤ 65536) × (Offsets checks (length cv) co × Entries 65536 cv)
+    unfolding shotFault
+    order-asks a b e d h =
+        let g = graph-told edges prior (graph checks mechanisms cv cm co vc vm vo) (or-done _ _ (sym e ∙ done-is a (sym d ∙ not-false b h)) .0) in
+        let w = graph-walks (graph checks mechanisms cv cm co vc vm vo) (g .is-graph) .0 in
+        (g .checks-few, (w .parts, record { names = λ k i. let q : getD cv k 0 < mechanisms = w .named .names k i in omega (arith, q, g .mechanisms-few) }))
 
-  -- a shot that is refused before them
-  pub fault-before : (a : Answer) (b : Bool) → a ≡ shotFault edges (X []) l → b ≡ isDone a → not b ≡ true → a ≡ decodeFault edges (X order) l
-  unfolding shotFault listsFit
-  fault-before a b e d h = e ∙ sym (fault-joined edges (X order) l ∙ or-first _ _ (ap isDone (sym e) ∙ sym d ∙ not-true b h))
+    -- a shot that is refused before them
+    pub fault-before : (a : Answer) (b : Bool) → a ≡ shotFault edges (X []) l → b ≡ isDone a → not b ≡ true → a ≡ decodeFault edges (X order) l
+    unfolding shotFault listsFit
+    fault-before a b e d h = e ∙ sym (fault-joined edges (X order) l ∙ or-first _ _ (ap isDone (sym e) ∙ sym d ∙ not-true b h))
 
-  -- and one that is not
-  pub fault-after : (a r : Answer) (b : Bool) → a ≡ shotFault edges (X []) l → b ≡ isDone a → not b ≡ false
-      → r ≡ orElse (namesFault checks order) (exchangeFault (t .schedule) (ofChecks checks cv co) order) → r ≡ decodeFault edges (X order) l
-  unfolding shotFault listsFit exchangeFault
-  fault-after a r b e d h q =
-      q ∙ ap (orElse (namesFault checks order)) (exchange-whole (t .schedule)) ∙ sym (fault-joined edges (X order) l ∙ or-second _ _ (sym e ∙ done-is a (sym d ∙ not-false b h)))
-    where
-      exchange-whole : (schedule : Schedule) → exchangeFault schedule (ofChecks checks cv co) order ≡ exchangeFault schedule (graph checks mechanisms cv cm co vc vm vo) order
-      exchange-whole Flooding = refl
-      exchange-whole CheckSerial = refl
+    -- and one that is not
+    pub fault-after : (a r : Answer) (b : Bool) → a ≡ shotFault edges (X []) l → b ≡ isDone a → not b ≡ false
+        → r ≡ orElse (namesFault checks order) (exchangeFault (t .schedule) (ofChecks checks cv co) order) → r ≡ decodeFault edges (X order) l
+    unfolding shotFault listsFit exchangeFault
+    fault-after a r b e d h q =
+        q ∙ ap (orElse (namesFault checks order)) (exchange-whole (t .schedule)) ∙ sym (fault-joined edges (X order) l ∙ or-second _ _ (sym e ∙ done-is a (sym d ∙ not-false b h)))
+      where
+        exchange-whole : (schedule : Schedule) → exchangeFault schedule (ofChecks checks cv co) order ≡ exchangeFault schedule (graph checks mechanisms cv cm co vc vm vo) order
+        exchange-whole Flooding = refl
+        exchange-whole CheckSerial = refl
 
-  -- the tests do not look at the seed
-  pub fault-seed : decodeFault edges (whole t flat 0 syndrome prior cv cm co vc vm vo order checks mechanisms) l ≡ decodeFault edges (X order) l
-  unfolding decodeFault listsFit
-  fault-seed = refl
+    -- the tests do not look at the seed
+    pub fault-seed : decodeFault edges (whole t flat 0 syndrome prior cv cm co vc vm vo order checks mechanisms) l ≡ decodeFault edges (X order) l
+    unfolding decodeFault listsFit
+    fault-seed = refl
 
-  -- ---- the calls
+    -- ---- the calls
 
-  -- refused by a test
-  pub in-order-refused : (a : Answer) (r : Refusal) → a ≡ decodeFault edges (X order) l → a ≡ Refused r → outcome (Decoded.Refused r) l ≡ decodeInOrder edges (X order) l
-  unfolding decodeInOrder
-  in-order-refused a r e d = rw (sym e ∙ d)
+    -- refused by a test
+    pub in-order-refused : (a : Answer) (r : Refusal) → a ≡ decodeFault edges (X order) l → a ≡ Refused r → outcome (Decoded.Refused r) l ≡ decodeInOrder edges (X order) l
+    unfolding decodeInOrder
+    in-order-refused a r e d = rw (sym e ∙ d)
 
-  -- an order that is taken names checks
-  pub in-order-told : (a : Answer) → a ≡ decodeFault edges (X order) l → a ≡ Done → Told edges checks mechanisms t flat syndrome prior cv co vm vo order l
-  unfolding decodeFault shotFault namesFault
-  in-order-told a e d =
-      let w = or-done _ _ (sym (fault-joined edges (X order) l) ∙ sym e ∙ d) in
-      let n = names-below (names-once-is checks order .0 (unless-done _ _ (or-done _ _ (w .1) .0))) in
-      told (w .0) (record { names = λ k i. all-at n k i })
+    -- an order that is taken names checks
+    pub in-order-told : (a : Answer) → a ≡ decodeFault edges (X order) l → a ≡ Done → Passed edges checks mechanisms t flat syndrome prior cv co vm vo order l
+    unfolding decodeFault shotFault
+    in-order-told a e d =
+        let w = or-done _ _ (sym (fault-joined edges (X order) l) ∙ sym e ∙ d) in
+        passed (w .0) (names-entries checks order (or-done _ _ (w .1) .0))
 
-  -- let through: what the legs leave
-  pub in-order-ran : (a : Answer) (o : Outcome) → a ≡ decodeFault edges (X order) l → a ≡ Done
-      → o ≡ afterLegs (length cv) (shotOf t flat seed syndrome prior cv co vm vo order) (decodeLegs (shotOf t flat seed syndrome prior cv co vm vo order)) l
-      → o ≡ decodeInOrder edges (X order) l
-  unfolding decodeInOrder
-  in-order-ran a o e d q =
-      let w = in-order-told a e d in
-      rw (sym e ∙ d) (legs-read-four t flat seed syndrome prior cv cm co vc vm vo order edges (length cv) checks mechanisms l o (w .edges-many) (w .checks-many) (w .mechanisms-many) q)
+    -- let through: what the legs leave
+    pub in-order-ran : (a : Answer) (o : Outcome) → a ≡ decodeFault edges (X order) l → a ≡ Done
+        → o ≡ afterLegs (length cv) (shotOf t flat seed syndrome prior cv co vm vo order) (decodeLegs (shotOf t flat seed syndrome prior cv co vm vo order)) l
+        → o ≡ decodeInOrder edges (X order) l
+    unfolding decodeInOrder
+    in-order-ran a o e d q =
+        let w = in-order-told a e d in
+        rw (sym e ∙ d) (legs-read-four t flat seed syndrome prior cv cm co vc vm vo order edges (length cv) checks mechanisms l o (w .edges-many) (w .checks-many) (w .mechanisms-many) q)
 
--- ---- in index order
+  -- ---- in index order
 
-module _ (edges checks mechanisms : ℕ) (t : Settings) (flat : List Float) (seed : ℕ) (syndrome : List ℕ) (prior : List Float) (cv cm co vc vm vo : List ℕ) (l : Lists) where
-  -- the shot, in any order
-  abbrev Y : List ℕ → Shot
-  Y o = whole t flat seed syndrome prior cv cm co vc vm vo o checks mechanisms
+  module _ (l : Lists) where
+    -- the tests do not look at the seed
+    pub shot-seed : shotFault edges (whole t flat 0 syndrome prior cv cm co vc vm vo [] checks mechanisms) l ≡ shotFault edges (X []) l
+    unfolding shotFault listsFit
+    shot-seed = refl
 
-  -- the tests do not look at the seed
-  pub shot-seed : shotFault edges (whole t flat 0 syndrome prior cv cm co vc vm vo [] checks mechanisms) l ≡ shotFault edges (Y []) l
-  unfolding shotFault listsFit
-  shot-seed = refl
+    -- the index order passes 23 and 24
+    index-fault : shotFault edges (X []) l ≡ decodeFault edges (X (upto checks)) l
+    unfolding shotFault listsFit
+    index-fault = sym (fault-joined edges (X (upto checks)) l ∙ ap (orElse _) (index-passes (t .schedule) (graph checks mechanisms cv cm co vc vm vo)) ∙ or-none _)
 
-  -- the index order passes 23 and 24
-  index-fault : shotFault edges (Y []) l ≡ decodeFault edges (Y (upto checks)) l
-  unfolding shotFault listsFit namesFault unless
-  index-fault =
-      let named : namesOnce checks (upto checks) ≡ true = names-once-is checks (upto checks) .1 (upto-names checks) in
-      sym (fault-joined edges (Y (upto checks)) l ∙ rw (named, index-taken (t .schedule) (graph checks mechanisms cv cm co vc vm vo)) (or-none _))
+    -- refused by a test
+    pub index-refused : (a : Answer) (r : Refusal) → a ≡ shotFault edges (X []) l → a ≡ Refused r → outcome (Decoded.Refused r) l ≡ decode edges (X []) l
+    unfolding decode
+    index-refused a r e d = in-order-refused (upto checks) l a r (e ∙ index-fault) d
 
-  -- refused by a test
-  pub index-refused : (a : Answer) (r : Refusal) → a ≡ shotFault edges (Y []) l → a ≡ Refused r → outcome (Decoded.Refused r) l ≡ decode edges (Y []) l
-  unfolding decode
-  index-refused a r e d = in-order-refused edges checks mechanisms t flat seed syndrome prior cv cm co vc vm vo (upto checks) l a r (e ∙ index-fault) d
+    -- what the tests tell
+    index-told-at : (a : Answer) → a ≡ shotFault edges (X []) l → a ≡ Done → Passed edges checks mechanisms t flat syndrome prior cv co vm vo (upto checks) l
+    index-told-at a e d = in-order-told (upto checks) l a (e ∙ index-fault) d
 
-  -- what the tests tell
-  index-told-at : (a : Answer) → a ≡ shotFault edges (Y []) l → a ≡ Done → Told edges checks mechanisms t flat syndrome prior cv co vm vo (upto checks) l
-  index-told-at a e d = in-order-told edges checks mechanisms t flat seed syndrome prior cv cm co vc vm vo (upto checks) l a (e ∙ index-fault) d
+    -- in as many checks as there are bytes of the syndrome
+    along : (n : ℕ) → n ≡ checks → Passed edges checks mechanisms t flat syndrome prior cv co vm vo (upto checks) l → Passed edges checks mechanisms t flat syndrome prior cv co vm vo (upto n) l
+    along n e w = rw e w
 
-  -- in as many checks as there are bytes of the syndrome
-  along : (n : ℕ) → n ≡ checks → Told edges checks mechanisms t flat syndrome prior cv co vm vo (upto checks) l → Told edges checks mechanisms t flat syndrome prior cv co vm vo (upto n) l
-  along n e w = rw e w
+    -- what the tests tell, in those terms
+    pub index-told : (a : Answer) → a ≡ shotFault edges (X []) l → a ≡ Done → Passed edges checks mechanisms t flat syndrome prior cv co vm vo (upto (length syndrome)) l
+    index-told a e d = let w = index-told-at a e d in along (length syndrome) (w .checks-many) w
 
-  -- what the tests tell, in those terms
-  pub index-told : (a : Answer) → a ≡ shotFault edges (Y []) l → a ≡ Done → Told edges checks mechanisms t flat syndrome prior cv co vm vo (upto (length syndrome)) l
-  index-told a e d = let w = index-told-at a e d in along (length syndrome) (w .checks-many) w
-
-  -- what the legs leave, in the graph's terms again
-  back : (n : ℕ) (o : Outcome) → n ≡ checks
-      → o ≡ afterLegs (length cv) (shotOf t flat seed syndrome prior cv co vm vo (upto n)) (decodeLegs (shotOf t flat seed syndrome prior cv co vm vo (upto n))) l
-      → o ≡ afterLegs (length cv) (shotOf t flat seed syndrome prior cv co vm vo (upto checks)) (decodeLegs (shotOf t flat seed syndrome prior cv co vm vo (upto checks))) l
-  back n o e q = rw e at q
-
-  -- let through: what the legs leave
-  pub index-ran : (a : Answer) (o : Outcome) → a ≡ shotFault edges (Y []) l → a ≡ Done
-      → o ≡ afterLegs (length cv) (shotOf t flat seed syndrome prior cv co vm vo (upto (length syndrome))) (decodeLegs (shotOf t flat seed syndrome prior cv co vm vo (upto (length syndrome)))) l
-      → o ≡ decode edges (Y []) l
-  unfolding decode
-  index-ran a o e d q =
-      let w = index-told-at a e d in
-      in-order-ran edges checks mechanisms t flat seed syndrome prior cv cm co vc vm vo (upto checks) l a o (e ∙ index-fault) d (back (length syndrome) o (w .checks-many) q)
+    -- let through: what the legs leave
+    pub index-ran : (a : Answer) (o : Outcome) → a ≡ shotFault edges (X []) l → a ≡ Done
+        → o ≡ afterLegs (length cv) (shotOf t flat seed syndrome prior cv co vm vo (upto (length syndrome))) (decodeLegs (shotOf t flat seed syndrome prior cv co vm vo (upto (length syndrome)))) l
+        → o ≡ decode edges (X []) l
+    unfolding decode
+    index-ran a o e d q =
+        let w = index-told-at a e d in
+        in-order-ran (upto checks) l a o (e ∙ index-fault) d (along-order t flat seed syndrome prior cv co vm vo _ _ (length cv) l o (ap upto (w .checks-many)) q)

@@ -2,20 +2,18 @@
 use mathlib.Core.Path.{_≡_, refl, ap, _∙_}
 use mathlib.Core.Bool.{false}
 use mathlib.Core.List.{List}
-use Prim.Native.Nat.{ℕ, zero, suc}
+use Prim.Native.Nat.{ℕ, suc}
 use lib.Ieee.{Float}
 use lib.ListN.{length}
 use Rattle.graph.specs.Graph.{graph}
 use Rattle.graph.specs.Messages.{fromVariables, cleared, posteriorFault}
 use Rattle.messages_core.specs.Needs.{walked}
-use Rattle.settings.specs.declared.Schedule.{Schedule}
-use Rattle.settings.specs.declared.Schedule.the-variants.{Flooding, CheckSerial}
 use Rattle.settings.specs.declared.Settings.{Settings}
-use Rattle.relay_core.specs.Step.{updateCheck, updateVariable, checkPass, variablePass, floodingIteration, serialCheck, serialPass, checkSerialIteration, iteration}
 use Rattle.relay_core.specs.Gammas.{gammaOf}
 use Rattle.relay_core.specs.Leg.{startLeg, runLeg, matches, satisfied}
-use Rattle.calls_core.specs.Decode.{Shot, Run, Ended, decoded, refused, Progress, running, finished, iterationLimit, stepOf, executedLeg, startRun, recorded, afterLeg, legs, decodeLegs}
+use Rattle.calls_core.specs.Decode.{Shot, Run, Ended, decoded, refused, running, iterationLimit, stepOf, executedLeg, startRun, recorded, afterLeg, decodeLegs}
 use Rattle.calls_core.specs.Calls.{Lists, Outcome, leftBy, zeroed, afterLegs}
+use Rattle.calls_core.proofs.Calls.{same-step, legs-agree}
 use Rattle.legs_core.specs.Kept.{shotOf}
 
 module _ (t : Settings) (flat : List Float) (seed : ℕ) (syndrome : List ℕ) (prior : List Float) (cv cm co vc vm vo order : List ℕ) where
@@ -30,36 +28,25 @@ module _ (t : Settings) (flat : List Float) (seed : ℕ) (syndrome : List ℕ) (
       record { graph = graph checks mechanisms cv cm co vc vm vo; prior = prior; settings = t; gammas = flat; order = order; syndrome = syndrome; seed = seed }
 
   module _ (checks mechanisms : ℕ) where
-    step-whole : (schedule : Schedule) (r : ℕ)
-        → iteration schedule (walked checks mechanisms cv co vm vo) (t .alpha) syndrome prior (gammaOf t flat mechanisms seed r) order
-        ≡ iteration schedule (graph checks mechanisms cv cm co vc vm vo) (t .alpha) syndrome prior (gammaOf t flat mechanisms seed r) order
-    unfolding floodingIteration checkSerialIteration checkPass variablePass serialPass serialCheck updateCheck updateVariable
-    step-whole Flooding r = refl
-    step-whole CheckSerial r = refl
-
+    -- one leg
     executed-whole : (r : ℕ) (p : List Float) → executedLeg (few checks mechanisms) r p ≡ executedLeg (whole checks mechanisms) r p
     unfolding executedLeg stepOf startLeg cleared fromVariables satisfied matches
     executed-whole r p =
         ap
         (λ step. runLeg step (satisfied (graph checks mechanisms cv cm co vc vm vo) syndrome) (iterationLimit t r) false 0 (startLeg (graph checks mechanisms cv cm co vc vm vo) prior p))
-        (step-whole (t .schedule) r)
+        (same-step checks mechanisms cv cm co vc vm vo (t .alpha) syndrome prior (gammaOf t flat mechanisms seed r) order (t .schedule))
 
+    -- one leg, recorded and judged
     after-whole : (r : ℕ) (run : Run) → afterLeg (few checks mechanisms) r run ≡ afterLeg (whole checks mechanisms) r run
     unfolding afterLeg recorded posteriorFault
     after-whole r run = rw (executed-whole r (run .posterior))
 
-    legs-whole : (n : ℕ) (p : Progress) (r : ℕ) → legs (few checks mechanisms) n p r ≡ legs (whole checks mechanisms) n p r
-    unfolding legs
-    legs-whole zero (running run) r = refl
-    legs-whole zero (finished e) r = refl
-    legs-whole (suc n) (running run) r =
-        legs-whole n (afterLeg (few checks mechanisms) r run) (suc r) ∙ ap (λ p. legs (whole checks mechanisms) n p (suc r)) (after-whole r run)
-    legs-whole (suc n) (finished e) r = refl
-
+    -- all legs
     decode-whole : decodeLegs (few checks mechanisms) ≡ decodeLegs (whole checks mechanisms)
     unfolding decodeLegs startRun
-    decode-whole = legs-whole (suc (t .«num_legs»)) (running (startRun (few checks mechanisms))) 0
+    decode-whole = legs-agree (few checks mechanisms) (whole checks mechanisms) after-whole (suc (t .«num_legs»)) (running (startRun (few checks mechanisms))) 0
 
+    -- and what they leave
     left-whole : (edges : ℕ) (l : Lists) (e : Ended) → afterLegs edges (few checks mechanisms) e l ≡ afterLegs edges (whole checks mechanisms) e l
     unfolding leftBy zeroed
     left-whole edges l (decoded run) = refl

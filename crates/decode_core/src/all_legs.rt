@@ -220,7 +220,7 @@ fn run_shot(
 }
 
 // A decode past its tests, over the fronts of leg lists that may be longer.
-pub fn decode_shot(
+pub fn decode_fronts(
     t: Settings,
     gammas: &[f64],
     seed: u64,

@@ -6,9 +6,9 @@ ghost use Rattle.orders_core.specs.Order.{upto};
 ghost use Rattle.calls_core.specs.Decode.{decodeLegs};
 ghost use Rattle.calls_core.specs.Calls.{outcome, afterLegs};
 ghost use Rattle.legs_core.specs.Kept.{shotOf, Reads};
-use crate::all_legs::decode_shot;
+use crate::all_legs::decode_fronts;
 use calls_core::Decoded;
-use legs_core::bytes::index;
+use legs_core::bytes::index_order;
 use settings::Settings;
 
 // A decode in index order, of up to 1024 checks.
@@ -42,8 +42,8 @@ fn decode_few(
 {
     let checks = syndrome.len();
     let mut order = [0u32; 1024];
-    index(&mut order[0..checks]);
-    decode_shot(
+    index_order(&mut order[0..checks]);
+    decode_fronts(
         t,
         gammas,
         seed,
@@ -98,8 +98,8 @@ fn decode_many(
 {
     let checks = syndrome.len();
     let mut order = [0u32; 65536];
-    index(&mut order[0..checks]);
-    decode_shot(
+    index_order(&mut order[0..checks]);
+    decode_fronts(
         t,
         gammas,
         seed,

@@ -110,7 +110,7 @@ pub corrected-other : (best : Option Float) (w : Float) (bits old : List ℕ) (b
 corrected-other best w bits old b e h = rw (corrected-true best w bits old, sym e ∙ h)
 
 -- and of one that ran out
-pub corrected-out : (found : Bool) (x w : Float) (bits old new : List ℕ) → new ≡ cond found old bits → new ≡ corrected false (bestOf found x) w bits old
+corrected-out : (found : Bool) (x w : Float) (bits old new : List ℕ) → new ≡ cond found old bits → new ≡ corrected false (bestOf found x) w bits old
 corrected-out true x w bits old new q = q
 corrected-out false x w bits old new q = q
 

@@ -98,10 +98,8 @@ bestAfter converged best weight = cond (converged && isNoneOr best weight) (some
 
 -- the correction after a leg with these bits
 abbrev pub corrected : Bool → Option Float → Float → List ℕ → List ℕ → List ℕ
-corrected false none weight bits old = bits
-corrected false (some current) weight bits old = old
-corrected true none weight bits old = bits
-corrected true (some current) weight bits old = cond (lt weight current) bits old
+corrected converged none weight bits old = bits
+corrected converged (some current) weight bits old = cond (converged && lt weight current) bits old
 
 -- what the leg r adds, and these rows
 unfoldable pub keptWith : Shot → Kept → ℕ → Leg → List ℕ → Kept

@@ -39,7 +39,7 @@ pub fn copy_bytes(from: &[u8], to: &mut [u8])
 }
 
 // The index order: 0, 1, 2 and so on.
-pub fn index(order: &mut [u32])
+pub fn index_order(order: &mut [u32])
     requires { ⌜ length (now order) ≤ 65536 ⌝ }
     ensures { λ _. ⌜ now (order .exit) ≡ upto (length (now (order .entry))) ⌝ }
 {

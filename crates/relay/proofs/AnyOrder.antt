@@ -5,8 +5,7 @@ use mathlib.Core.List.{List}
 use mathlib.Core.Logic.{_↔_}
 use Rattle.refusals.specs.declared.Answer.{Answer}
 use Rattle.refusals.specs.declared.Answer.the-variants.{Done, Refused}
-use Rattle.refusals.specs.Tests.{unless}
-use Rattle.refusals.proofs.Tests.{or-done, unless-done}
+use Rattle.refusals.proofs.Tests.{or-done}
 use Rattle.graph.specs.Graph.{Graph}
 use Rattle.graph.specs.Sound.{Sound}
 use Rattle.graph.proofs.Sound.{passes-sound}
@@ -15,19 +14,9 @@ use Rattle.settings.specs.declared.Schedule.the-variants.{Flooding, CheckSerial
 use Rattle.orders_core.specs.Order.{upto, NamesOnce, KeepsOrder, namesFault, exchangeFault}
 use Rattle.calls_core.specs.Decode.{Shot, Ended, decoded, refused, decodeLegs}
 use Rattle.calls_core.specs.Calls.{Lists, listsFit, decodeFault, leftBy, zeroed, afterLegs, afterTests, decodeInOrder, decode}
-use Rattle.orders_core.proofs.Counts.{names-once-is}
 use Rattle.orders_core.proofs.OrderWords.{upto-names, index-taken, none-exchanged-is}
+use Rattle.calls_core.proofs.Named.{names-told, names-taken}
 use Rattle.relay.proofs.SameOutcome.{inIndexOrder, decode-same}
-
--- an order that 23 takes names each check once
-names-told : (checks : ℕ) (order : List ℕ) → namesFault checks order ≡ Done → NamesOnce checks order
-unfolding namesFault
-names-told checks order h = names-once-is checks order .0 (unless-done _ _ h)
-
--- and one that names each check once is taken by 23
-names-taken : (checks : ℕ) (order : List ℕ) → NamesOnce checks order → namesFault checks order ≡ Done
-unfolding namesFault unless
-names-taken checks order h = rw (names-once-is checks order .1 h)
 
 module _ (edges : ℕ) (x : Shot) (l : Lists) (names : namesFault (x .graph .checks) (x .order) ≡ Done) (free : exchangeFault (x .settings .schedule) (x .graph) (x .order) ≡ Done) where
   -- the tests say the same of the index order
@@ -36,10 +25,10 @@ module _ (edges : ℕ) (x : Shot) (l : Lists) (names : namesFault (x .graph .che
   fault-same = rw (names, free, names-taken (x .graph .checks) (upto (x .graph .checks)) (upto-names (x .graph .checks)), index-taken (x .settings .schedule) (x .graph))
 
   -- what a run leaves does not depend on the order
-  after-same : (e : Ended) → afterLegs edges x e l ≡ afterLegs edges (inIndexOrder x) e l
+  left-same : (e : Ended) → afterLegs edges x e l ≡ afterLegs edges (inIndexOrder x) e l
   unfolding leftBy zeroed
-  after-same (decoded run) = refl
-  after-same (refused r) = refl
+  left-same (decoded run) = refl
+  left-same (refused r) = refl
 
   -- a call whose tests are passed is over a graph
   passed-sound : decodeFault edges x l ≡ Done → Sound (x .graph)
@@ -49,7 +38,7 @@ module _ (edges : ℕ) (x : Shot) (l : Lists) (names : namesFault (x .graph .che
   -- whatever the tests say
   whole-same : (a : Answer) → decodeFault edges x l ≡ a → afterTests a (afterLegs edges x (decodeLegs x) l) l ≡ afterTests a (afterLegs edges (inIndexOrder x) (decodeLegs (inIndexOrder x)) l) l
   whole-same Done h =
-      ap (λ e. afterLegs edges x e l) (decode-same x (passed-sound h) (names-told (x .graph .checks) (x .order) names) free) ∙ after-same (decodeLegs (inIndexOrder x))
+      ap (λ e. afterLegs edges x e l) (decode-same x (passed-sound h) (names-told (x .graph .checks) (x .order) names) free) ∙ left-same (decodeLegs (inIndexOrder x))
   whole-same (Refused r) h = refl
 
   -- the call in that order is the call in index order

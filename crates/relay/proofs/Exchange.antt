@@ -37,7 +37,7 @@ pub record Sized (g : Graph) (s : State) : Type 0 where
 -- ---- lists of messages
 
 -- writing keeps the length
-pub written-length : (p : Float) (cToV l : List Float) (ms : List ℕ) → length (written p cToV l ms) ≡ length l
+written-length : (p : Float) (cToV l : List Float) (ms : List ℕ) → length (written p cToV l ms) ≡ length l
 unfolding written
 written-length p cToV l [] = refl
 written-length p cToV l (m ∷ ms) = written-length p cToV (set l m (p -ᶠ getD cToV m nan)) ms ∙ length-set l m (p -ᶠ getD cToV m nan)
@@ -90,7 +90,7 @@ part-written a e p cToV l h (cons {x = m} {xs = ms} o t) =
     part-written a e p cToV (set l m (p -ᶠ getD cToV m nan)) h t ∙ part-set a e l m (p -ᶠ getD cToV m nan) h o
 
 -- a check sends as many messages as it has
-pub length-sent : (alpha : Float) (odd : Bool) (vs : List ℕ) (xs : List Float) → length (checkMessages alpha odd vs xs) ≡ length xs
+length-sent : (alpha : Float) (odd : Bool) (vs : List ℕ) (xs : List Float) → length (checkMessages alpha odd vs xs) ≡ length xs
 unfolding checkMessages sentTo
 length-sent alpha odd vs xs = length-table (length xs) _
 
@@ -121,16 +121,16 @@ state-is h k l = λ i. state (h i) (k i) (l i)
 
 module _ (g : Graph) (sound : Sound g) (alpha : Float) (syndrome : List ℕ) (bias : List Float) where
   -- the check c
-  abbrev U : State → ℕ → State
-  U = updateCheck g alpha syndrome
+  abbrev check : State → ℕ → State
+  check = updateCheck g alpha syndrome
 
   -- the variable v
-  abbrev W : State → ℕ → State
-  W = updateVariable g bias
+  abbrev variable : State → ℕ → State
+  variable = updateVariable g bias
 
   -- where the part of a check begins
-  abbrev lo : ℕ → ℕ
-  lo c = getD (g .checkOffset) c 0
+  abbrev start : ℕ → ℕ
+  start c = getD (g .checkOffset) c 0
 
   -- what the check c sends in the state s
   abbrev new : State → ℕ → List Float
@@ -139,7 +139,7 @@ module _ (g : Graph) (sound : Sound g) (alpha : Float) (syndrome : List ℕ) (bi
   -- ---- the graph
 
   -- a check's part ends within the entries
-  part-ends : (c : ℕ) → c < g .checks → lo (suc c) ≤ length (g .checkVar)
+  part-ends : (c : ℕ) → c < g .checks → start (suc c) ≤ length (g .checkVar)
   part-ends c h = omega (arith, sound .check-parts .ends, offsets-rise (g .checks) (length (g .checkVar)) (g .checkOffset) (sound .check-parts) (suc c) (g .checks) h (omega arith))
 
   -- each entry of a mechanism is a message of its own
@@ -147,7 +147,7 @@ module _ (g : Graph) (sound : Sound g) (alpha : Float) (syndrome : List ℕ) (bi
   owned v k h l = record { inside = sound .messages-rise v h .below k l; owner = sound .meets v k h l .is }
 
   -- parts follow one another
-  off-rises : (a b : ℕ) → a < b → b < g .checks → lo (suc a) ≤ lo b
+  off-rises : (a b : ℕ) → a < b → b < g .checks → start (suc a) ≤ start b
   off-rises a b h k = offsets-rise (g .checks) (length (g .checkVar)) (g .checkOffset) (sound .check-parts) (suc a) b h (omega arith)
 
   -- so all its entries are
@@ -155,61 +155,61 @@ module _ (g : Graph) (sound : Sound g) (alpha : Float) (syndrome : List ℕ) (bi
   owned-all v h = all-places (varEntries g v) (λ k l. owned v k h l)
 
   -- a mechanism's messages lie outside the part of a check that does not name it
-  outside : (c v : ℕ) → c < g .checks → v < g .mechanisms → All (λ x. v ≡ x → ⊥) (checkEntries g c) → All (Outside (lo c) (lo (suc c))) (varEntries g v)
-  outside c v h k t = all-map (λ m o. go m o (stands (lo c) (lo (suc c)) m)) (owned-all v k)
+  outside : (c v : ℕ) → c < g .checks → v < g .mechanisms → All (λ x. v ≡ x → ⊥) (checkEntries g c) → All (Outside (start c) (start (suc c))) (varEntries g v)
+  outside c v h k t = all-map (λ m o. go m o (stands (start c) (start (suc c)) m)) (owned-all v k)
     where
-      go : (m : ℕ) → Owns (g .checkVar) v m → Stands (lo c) (lo (suc c)) m → Outside (lo c) (lo (suc c)) m
+      go : (m : ℕ) → Owns (g .checkVar) v m → Stands (start c) (start (suc c)) m → Outside (start c) (start (suc c)) m
       go m o (out u) = u
       go m o (within j s r) =
-          let l = length-part (lo c) (lo (suc c)) (g .checkVar) (part-ends c h) in
-          absurd (all-at t j (omega (arith, l)) (sym (getD-part (lo c) (lo (suc c)) (g .checkVar) j 0 r ∙ ap (λ n. getD (g .checkVar) n 0) (sym s) ∙ o .owner)))
+          let l = length-part (start c) (start (suc c)) (g .checkVar) (part-ends c h) in
+          absurd (all-at t j (omega (arith, l)) (sym (getD-part (start c) (start (suc c)) (g .checkVar) j 0 r ∙ ap (λ n. getD (g .checkVar) n 0) (sym s) ∙ o .owner)))
 
   -- the messages of two mechanisms are others
   others : (v w : ℕ) → v < g .mechanisms → w < g .mechanisms → (v ≡ w → ⊥) → All (λ n. All (λ m. n ≡ m → ⊥) (varEntries g w)) (varEntries g v)
   others v w h k q = all-map (λ n o. all-map (λ m u e. q (sym (o .owner) ∙ ap (λ i. getD (g .checkVar) i 0) e ∙ u .owner)) (owned-all w k)) (owned-all v h)
 
   -- each entry of a check names a mechanism
-  names-mech : (c : ℕ) → c < g .checks → All (λ v. v < g .mechanisms) (checkEntries g c)
-  names-mech c h = all-places (checkEntries g c) go
+  names-mechanism : (c : ℕ) → c < g .checks → All (λ v. v < g .mechanisms) (checkEntries g c)
+  names-mechanism c h = all-places (checkEntries g c) go
     where
       go : (j : ℕ) → j < length (checkEntries g c) → getD (checkEntries g c) j 0 < g .mechanisms
       go j l =
-          let e = length-part (lo c) (lo (suc c)) (g .checkVar) (part-ends c h) in
-          let r : lo c + j < lo (suc c) = omega (arith, e) in
-          rw (getD-part (lo c) (lo (suc c)) (g .checkVar) j 0 r) (sound .names .small (lo c + j) (omega (arith, part-ends c h)))
+          let e = length-part (start c) (start (suc c)) (g .checkVar) (part-ends c h) in
+          let r : start c + j < start (suc c) = omega (arith, e) in
+          rw (getD-part (start c) (start (suc c)) (g .checkVar) j 0 r) (sound .names .small (start c + j) (omega (arith, part-ends c h)))
 
   -- ---- the steps
 
   -- a check's new messages fit its part
-  new-length : (c : ℕ) → c < g .checks → (s : State) → Sized g s → length (new s c) ≡ lo (suc c) - lo c
-  new-length c h s z = length-sent alpha _ (checkEntries g c) (row (g .checkOffset) c (s .vToC)) ∙ length-part (lo c) (lo (suc c)) (s .vToC) (omega (arith, part-ends c h, z .back))
+  new-length : (c : ℕ) → c < g .checks → (s : State) → Sized g s → length (new s c) ≡ start (suc c) - start c
+  new-length c h s z = length-sent alpha _ (checkEntries g c) (row (g .checkOffset) c (s .vToC)) ∙ length-part (start c) (start (suc c)) (s .vToC) (omega (arith, part-ends c h, z .back))
 
   -- a check keeps the sizes
-  pub keep-check : (c : ℕ) → c < g .checks → (s : State) → Sized g s → Sized g (U s c)
+  pub keep-check : (c : ℕ) → c < g .checks → (s : State) → Sized g s → Sized g (check s c)
   unfolding updateCheck
   keep-check c h s z =
       record {
-        out = length-spliced (s .cToV) (lo c) (lo (suc c)) (new s c) (sound .check-parts .rises c h) (omega (arith, part-ends c h, z .out)) (new-length c h s z) ∙ z .out;
+        out = length-spliced (s .cToV) (start c) (start (suc c)) (new s c) (sound .check-parts .rises c h) (omega (arith, part-ends c h, z .out)) (new-length c h s z) ∙ z .out;
         back = z .back;
       }
 
   -- a variable keeps the sizes
-  pub keep-variable : (v : ℕ) (s : State) → Sized g s → Sized g (W s v)
+  pub keep-variable : (v : ℕ) (s : State) → Sized g s → Sized g (variable s v)
   unfolding updateVariable
   keep-variable v s z = record { out = z .out; back = written-length _ (s .cToV) (s .vToC) (varEntries g v) ∙ z .back }
 
   -- two checks change places, whatever they share: each reads only what variables sent
-  pub swap-checks : (a b : ℕ) → a < b → b < g .checks → (s : State) → Sized g s → U (U s a) b ≡ U (U s b) a
+  pub swap-checks : (a b : ℕ) → a < b → b < g .checks → (s : State) → Sized g s → check (check s a) b ≡ check (check s b) a
   unfolding updateCheck
   swap-checks a b h k s z =
       state-is
-      (spliced-swap (s .cToV) nan (lo a) (lo (suc a)) (lo b) (lo (suc b)) (new s a) (new s b) (sound .check-parts .rises a (omega arith)) (off-rises a b h k) (sound .check-parts .rises b k)
+      (spliced-swap (s .cToV) nan (start a) (start (suc a)) (start b) (start (suc b)) (new s a) (new s b) (sound .check-parts .rises a (omega arith)) (off-rises a b h k) (sound .check-parts .rises b k)
       (omega (arith, part-ends b k, z .out)) (new-length a (omega arith) s z) (new-length b k s z))
       refl
       refl
 
   -- a check, and a mechanism that it does not name
-  swap-mixed : (c v : ℕ) → c < g .checks → v < g .mechanisms → All (λ x. v ≡ x → ⊥) (checkEntries g c) → (s : State) → Sized g s → W (U s c) v ≡ U (W s v) c
+  swap-mixed : (c v : ℕ) → c < g .checks → v < g .mechanisms → All (λ x. v ≡ x → ⊥) (checkEntries g c) → (s : State) → Sized g s → variable (check s c) v ≡ check (variable s v) c
   unfolding updateCheck updateVariable
   swap-mixed c v h k t s z =
       let o = outside c v h k t in
@@ -217,18 +217,18 @@ module _ (g : Graph) (sound : Sound g) (alpha : Float) (syndrome : List ℕ) (bi
       let old = s .cToV in
       let ms = varEntries g v in
       let p = getD bias v nan +ᶠ total old ms in
-      let wide = spliced old (lo c) (lo (suc c)) (new s c) in
+      let wide = spliced old (start c) (start (suc c)) (new s c) in
       let same : All (Same wide old) ms =
-      all-map (λ m u. spliced-out old (lo c) (lo (suc c)) (new s c) (sound .check-parts .rises c h) (omega (arith, part-ends c h, z .out)) (new-length c h s z) m nan u) o in
+      all-map (λ m u. spliced-out old (start c) (start (suc c)) (new s c) (sound .check-parts .rises c h) (omega (arith, part-ends c h, z .out)) (new-length c h s z) m nan u) o in
       let p-is : getD bias v nan +ᶠ total wide ms ≡ p = ap (λ x. getD bias v nan +ᶠ x) (total-same wide old same) in
-      let at-is : row (g .checkOffset) c (written p old (s .vToC) ms) ≡ row (g .checkOffset) c (s .vToC) = part-written (lo c) (lo (suc c)) p old (s .vToC) (sound .check-parts .rises c h) o in
+      let at-is : row (g .checkOffset) c (written p old (s .vToC) ms) ≡ row (g .checkOffset) c (s .vToC) = part-written (start c) (start (suc c)) p old (s .vToC) (sound .check-parts .rises c h) o in
       state-is
-      (ap (λ x. spliced old (lo c) (lo (suc c)) (checkMessages alpha odd (checkEntries g c) x)) (sym at-is))
+      (ap (λ x. spliced old (start c) (start (suc c)) (checkMessages alpha odd (checkEntries g c) x)) (sym at-is))
       (ap (λ x. written x wide (s .vToC) ms) p-is ∙ written-same p wide old (s .vToC) same)
       (ap (set (s .posterior) v) p-is)
 
   -- two variables
-  swap-variables : (v w : ℕ) → v < g .mechanisms → w < g .mechanisms → (v ≡ w → ⊥) → (s : State) → W (W s v) w ≡ W (W s w) v
+  swap-variables : (v w : ℕ) → v < g .mechanisms → w < g .mechanisms → (v ≡ w → ⊥) → (s : State) → variable (variable s v) w ≡ variable (variable s w) v
   unfolding updateVariable
   swap-variables v w h k q s =
       state-is
@@ -240,38 +240,38 @@ module _ (g : Graph) (sound : Sound g) (alpha : Float) (syndrome : List ℕ) (bi
 
   -- a check, after the mechanisms of another
   check-past : (c : ℕ) → c < g .checks → (vs : List ℕ) → All (λ v. v < g .mechanisms) vs → All (λ v. All (λ x. v ≡ x → ⊥) (checkEntries g c)) vs
-      → (s : State) → Sized g s → foldl W (U s c) vs ≡ U (foldl W s vs) c
-  check-past c h vs b t = past (Sized g) W (λ s. U s c) (go vs b t)
+      → (s : State) → Sized g s → foldl variable (check s c) vs ≡ check (foldl variable s vs) c
+  check-past c h vs b t = past (Sized g) variable (λ s. check s c) (go vs b t)
     where
       go : (us : List ℕ) → All (λ v. v < g .mechanisms) us → All (λ v. All (λ x. v ≡ x → ⊥) (checkEntries g c)) us
-          → All (λ v. (s : State) → Sized g s → (W (U s c) v ≡ U (W s v) c) × Sized g (W s v)) us
+          → All (λ v. (s : State) → Sized g s → (variable (check s c) v ≡ check (variable s v) c) × Sized g (variable s v)) us
       go [] nil nil = nil
       go (v ∷ us) (cons k ks) (cons l ls) = cons (λ s z. (swap-mixed c v h k l s z, keep-variable v s z)) (go us ks ls)
 
   -- a variable, after others
-  variable-past : (w : ℕ) → w < g .mechanisms → (vs : List ℕ) → All (λ v. v < g .mechanisms) vs → All (λ v. v ≡ w → ⊥) vs → (s : State) → Sized g s → foldl W (W s w) vs ≡ W (foldl W s vs) w
-  variable-past w h vs b t = past (Sized g) W (λ s. W s w) (go vs b t)
+  variable-past : (w : ℕ) → w < g .mechanisms → (vs : List ℕ) → All (λ v. v < g .mechanisms) vs → All (λ v. v ≡ w → ⊥) vs → (s : State) → Sized g s → foldl variable (variable s w) vs ≡ variable (foldl variable s vs) w
+  variable-past w h vs b t = past (Sized g) variable (λ s. variable s w) (go vs b t)
     where
-      go : (us : List ℕ) → All (λ v. v < g .mechanisms) us → All (λ v. v ≡ w → ⊥) us → All (λ v. (s : State) → Sized g s → (W (W s w) v ≡ W (W s v) w) × Sized g (W s v)) us
+      go : (us : List ℕ) → All (λ v. v < g .mechanisms) us → All (λ v. v ≡ w → ⊥) us → All (λ v. (s : State) → Sized g s → (variable (variable s w) v ≡ variable (variable s v) w) × Sized g (variable s v)) us
       go [] nil nil = nil
       go (v ∷ us) (cons k ks) (cons l ls) = cons (λ s z. (sym (swap-variables v w k h l s), keep-variable v s z)) (go us ks ls)
 
   -- variables keep the sizes
-  keep-variables : (vs : List ℕ) (s : State) → Sized g s → Sized g (foldl W s vs)
+  keep-variables : (vs : List ℕ) (s : State) → Sized g s → Sized g (foldl variable s vs)
   keep-variables [] s z = z
-  keep-variables (v ∷ vs) s z = keep-variables vs (W s v) (keep-variable v s z)
+  keep-variables (v ∷ vs) s z = keep-variables vs (variable s v) (keep-variable v s z)
 
   -- variables, after others
   variables-past : (vs : List ℕ) → All (λ v. v < g .mechanisms) vs → (ws : List ℕ) → All (λ w. w < g .mechanisms) ws → All (λ w. All (λ v. v ≡ w → ⊥) vs) ws
-      → (s : State) → Sized g s → foldl W (foldl W s vs) ws ≡ foldl W (foldl W s ws) vs
+      → (s : State) → Sized g s → foldl variable (foldl variable s vs) ws ≡ foldl variable (foldl variable s ws) vs
   variables-past vs b [] nil nil s z = refl
   variables-past vs b (w ∷ ws) (cons h hs) (cons t ts) s z =
-      ap (λ u. foldl W u ws) (sym (variable-past w h vs b t s z)) ∙ variables-past vs b ws hs ts (W s w) (keep-variable w s z)
+      ap (λ u. foldl variable u ws) (sym (variable-past w h vs b t s z)) ∙ variables-past vs b ws hs ts (variable s w) (keep-variable w s z)
 
   -- a check of a serial iteration keeps the sizes
   pub keep-serial : (c : ℕ) → c < g .checks → (s : State) → Sized g s → Sized g (serialCheck g alpha syndrome bias s c)
   unfolding serialCheck
-  keep-serial c h s z = keep-variables (checkEntries g c) (U s c) (keep-check c h s z)
+  keep-serial c h s z = keep-variables (checkEntries g c) (check s c) (keep-check c h s z)
 
   -- checks that share no mechanism change places
   pub swap-serial : (a b : ℕ) → b < a → a < g .checks → shares (checkEntries g) b a ≡ false → (s : State) → Sized g s
@@ -281,14 +281,14 @@ module _ (g : Graph) (sound : Sound g) (alpha : Float) (syndrome : List ℕ) (bi
       let l : b < g .checks = omega arith in
       let ea = checkEntries g a in
       let eb = checkEntries g b in
-      let na = names-mech a k in
-      let nb = names-mech b l in
+      let na = names-mechanism a k in
+      let nb = names-mechanism b l in
       let t : All (λ v. All (λ x. v ≡ x → ⊥) ea) eb = all-map (λ v e. has-none ea v e) (any-none _ eb q) in
       let u : All (λ x. All (λ v. v ≡ x → ⊥) eb) ea = all-swap ea t in
       let u′ : All (λ x. All (λ v. x ≡ v → ⊥) eb) ea = all-map (λ x d. all-map (λ v n e. n (sym e)) d) u in
       let za = keep-check a k s z in
       let zb = keep-check b l s z in
-      ap (λ r. foldl W r eb) (sym (check-past b l ea na u′ (U s a) za))
-      ∙ ap (λ r. foldl W (foldl W r ea) eb) (sym (swap-checks b a h k s z))
-      ∙ sym (variables-past eb nb ea na u (U (U s b) a) (keep-check a k (U s b) zb))
-      ∙ ap (λ r. foldl W r ea) (check-past a k eb nb t (U s b) zb)
+      ap (λ r. foldl variable r eb) (sym (check-past b l ea na u′ (check s a) za))
+      ∙ ap (λ r. foldl variable (foldl variable r ea) eb) (sym (swap-checks b a h k s z))
+      ∙ sym (variables-past eb nb ea na u (check (check s b) a) (keep-check a k (check s b) zb))
+      ∙ ap (λ r. foldl variable r ea) (check-past a k eb nb t (check s b) zb)

@@ -12,7 +12,7 @@ pub data Orders (Free : ℕ → ℕ → Type 0) : ℕ → List ℕ → Type 0 wh
   more : {n : ℕ} (pre post : List ℕ) → All (Free n) post → Orders Free n (pre ++ post) → Orders Free (suc n) (pre ++ (n ∷ post))
 
 -- it names nothing from n on
-pub orders-below : {Free : ℕ → ℕ → Type 0} {n : ℕ} {xs : List ℕ} → Orders Free n xs → All (λ k. k < n) xs
+orders-below : {Free : ℕ → ℕ → Type 0} {n : ℕ} {xs : List ℕ} → Orders Free n xs → All (λ k. k < n) xs
 orders-below none = nil
 orders-below (more {n = n} pre post t o) =
     let a = all-map up (orders-below o) in

@@ -16,11 +16,12 @@ use Rattle.relay_core.specs.Step.{State, updateCheck, computeBias, checkPass, v
 use Rattle.orders_core.specs.Order.{upto, NamesOnce, exchanged, exchangeFault}
 use Rattle.relay_core.specs.Leg.{startLeg, runLeg, satisfied}
 use Rattle.relay_core.specs.Gammas.{gammaOf}
-use Rattle.calls_core.specs.Decode.{Shot, Run, Progress, running, finished, iterationLimit, stepOf, executedLeg, startRun, recorded, afterLeg, legs, decodeLegs}
+use Rattle.calls_core.specs.Decode.{Shot, Run, running, iterationLimit, stepOf, executedLeg, startRun, recorded, afterLeg, decodeLegs}
 use Rattle.calls_core.specs.Calls.{withOrder}
+use Rattle.calls_core.proofs.Calls.{legs-agree}
 use Rattle.orders_core.proofs.Counts.{names-below}
 use Rattle.relay.proofs.Rearrange.{keeps, same}
-use Rattle.relay.proofs.Witness.{FreeIf, orders, Apart, kept, kept-any}
+use Rattle.relay.proofs.Witness.{FreeIf, orders, Apart, keeps-order, keeps-any}
 use Rattle.relay.proofs.Exchange.{Sized, keep-check, keep-variable, keep-serial, swap-checks, swap-serial}
 
 -- ---- one iteration
@@ -31,31 +32,31 @@ module _ (g : Graph) (sound : Sound g) (order : List ℕ) (names : NamesOnce (g 
   Any x y = Unit
 
   -- the checks of a flooding iteration, in any order that names each once
-  pub pass-same : (s : State) → Sized g s → checkPass g alpha syndrome order s ≡ checkPass g alpha syndrome (upto (g .checks)) s
+  pass-same : (s : State) → Sized g s → checkPass g alpha syndrome order s ≡ checkPass g alpha syndrome (upto (g .checks)) s
   unfolding checkPass
   pass-same s z =
       same (updateCheck g alpha syndrome) (g .checks) (Sized g) (FreeIf Any) (λ a b t. t .0) (keep-check g sound alpha syndrome [])
-      (λ a b h t u y. sym (swap-checks g sound alpha syndrome [] b a (t .0) h u y)) (orders Any (g .checks) order names (kept-any order)) (omega arith) s z
+      (λ a b h t u y. sym (swap-checks g sound alpha syndrome [] b a (t .0) h u y)) (orders Any (g .checks) order names (keeps-any order)) (omega arith) s z
 
   -- a flooding iteration
-  pub flooding-same : (prior gamma : List Float) (s : State) → Sized g s
+  flooding-same : (prior gamma : List Float) (s : State) → Sized g s
       → floodingIteration g alpha syndrome prior gamma order s ≡ floodingIteration g alpha syndrome prior gamma (upto (g .checks)) s
   unfolding floodingIteration
   flooding-same prior gamma s z = ap (λ t. variablePass g (computeBias prior gamma (t .posterior)) t (g .mechanisms)) (pass-same s z)
 
   -- a serial iteration, in an order in which nothing is exchanged
-  pub serial-same : exchanged (checkEntries g) [] order ≡ Done → (prior gamma : List Float) (s : State) → Sized g s
+  serial-same : exchanged (checkEntries g) [] order ≡ Done → (prior gamma : List Float) (s : State) → Sized g s
       → checkSerialIteration g alpha syndrome prior gamma order s ≡ checkSerialIteration g alpha syndrome prior gamma (upto (g .checks)) s
   unfolding checkSerialIteration serialPass
   serial-same e prior gamma s z =
       let bias = computeBias prior gamma (s .posterior) in
       let R = Apart (checkEntries g) in
       same (serialCheck g alpha syndrome bias) (g .checks) (Sized g) (FreeIf R) (λ a b t. t .0) (keep-serial g sound alpha syndrome bias)
-      (λ a b h t u y. swap-serial g sound alpha syndrome bias a b (t .0) h (t .1) u y) (orders R (g .checks) order names (kept (checkEntries g) order e))
+      (λ a b h t u y. swap-serial g sound alpha syndrome bias a b (t .0) h (t .1) u y) (orders R (g .checks) order names (keeps-order (checkEntries g) order e))
       (omega arith) s z
 
   -- an iteration of either schedule
-  pub iteration-same : (schedule : Schedule) → exchangeFault schedule g order ≡ Done → (prior gamma : List Float) (s : State) → Sized g s
+  iteration-same : (schedule : Schedule) → exchangeFault schedule g order ≡ Done → (prior gamma : List Float) (s : State) → Sized g s
       → iteration schedule g alpha syndrome prior gamma order s ≡ iteration schedule g alpha syndrome prior gamma (upto (g .checks)) s
   unfolding exchangeFault
   iteration-same Flooding e prior gamma s z = flooding-same prior gamma s z
@@ -119,15 +120,7 @@ module _ (x : Shot) (sound : Sound (x .graph)) (names : NamesOnce (x .graph .che
   unfolding afterLeg recorded
   after-same r run = rw (executed-same r (run .posterior))
 
-  -- all that follow
-  legs-same : (n : ℕ) (p : Progress) (r : ℕ) → legs x n p r ≡ legs (inIndexOrder x) n p r
-  unfolding legs
-  legs-same zero (running run) r = refl
-  legs-same zero (finished e) r = refl
-  legs-same (suc n) (running run) r = legs-same n (afterLeg x r run) (suc r) ∙ ap (λ p. legs (inIndexOrder x) n p (suc r)) (after-same r run)
-  legs-same (suc n) (finished e) r = refl
-
   -- for every settings, syndrome, seed and gammas
   pub decode-same : decodeLegs x ≡ decodeLegs (inIndexOrder x)
   unfolding decodeLegs startRun
-  decode-same = legs-same (suc (x .settings .«num_legs»)) (running (startRun x)) 0
+  decode-same = legs-agree x (inIndexOrder x) after-same (suc (x .settings .«num_legs»)) (running (startRun x)) 0

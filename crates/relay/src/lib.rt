@@ -158,7 +158,7 @@ pub fn decode_in_order(
     );
     match a {
         Answer::Refused(r) => Decoded::Refused(r),
-        Answer::Done => decode_core::all_legs::decode_shot(
+        Answer::Done => decode_core::all_legs::decode_fronts(
             settings,
             gammas,
             seed,

@@ -1,7 +1,12 @@
 -- `decode_core::decode_tests::order_fault` meets its contract. The index order passes both tests; another is tested by one, then by the other.
 -- Assumes nothing.
+use mathlib.Core.Path.{sym, ap, _∙_}
+use Rattle.refusals.specs.Tests.{orElse}
 use Rattle.refusals.proofs.Tests.{or-refused, or-passed}
-use Rattle.decode_core.proofs.Faults.{index-passes, names-passed}
+use Rattle.messages_core.specs.Needs.{ofChecks}
+use Rattle.orders_core.specs.Order.{namesFault, exchangeFault}
+use Rattle.calls_core.proofs.Named.{index-passes}
+use Rattle.decode_core.proofs.Faults.{names-passed}
 use borrow.Author.Needs.{needs}
 use Rattle.decode_core.proofs.decode_tests.order_fault.Statement.{statement}
 use Rattle.decode_core.proofs.decode_tests.order_fault.Tie as tie
@@ -10,7 +15,10 @@ is-index-order-requires : tie.Need-is-index-order-requires
 is-index-order-requires c κs = search needs
 
 returns : tie.Need-returns
-returns c = let a = c .before .before .before .before .before .args in index-passes (a .schedule) (a .checks) (a .check-var .now) (a .check-offset .now) (a .order .now) (c .before .is-index-order .ensures (c .if1 .taken))
+returns c = let a = c .before .before .before .before .before .args in
+    let g = ofChecks (a .checks) (a .check-var .now) (a .check-offset .now) in
+    sym
+    (ap (λ o. orElse (namesFault (a .checks) o) (exchangeFault (a .schedule) g o)) (c .before .is-index-order .ensures (c .if1 .taken)) ∙ index-passes (a .schedule) g)
 
 names-fault-requires : tie.Need-names-fault-requires
 names-fault-requires c κs = search needs

@@ -5,7 +5,7 @@ use Rattle.graph.specs.Graph.{graph}
 use Rattle.legs_core.specs.Kept.{shotFault}
 use Rattle.decode_core.proofs.WholeGraph.{whole}
 use Rattle.refusals.proofs.Tests.{or-refused, or-passed}
-use Rattle.decode_core.proofs.Faults.{mechanisms-few, lists-fault, settings-passed}
+use Rattle.decode_core.proofs.Faults.{mechanisms-few, lists-fault, legs-few}
 use borrow.Author.Needs.{needs}
 use Rattle.decode_core.proofs.decode_tests.shot_fault.Statement.{statement}
 use Rattle.decode_core.proofs.decode_tests.shot_fault.Tie as tie
@@ -33,7 +33,7 @@ returns-2 c = or-passed _ _ _ _ _ (c .before .before .before .before .before .ch
 legs-fit-requires : tie.Need-legs-fit-requires
 legs-fit-requires c κs =
     let a = c .before .before .before .before .before .before .before .before .before .before .before .before .before .before .before .before .before .before .before .before .before .before .before .before .before .args in
-    (settings-passed (a .t) (a .size .mechanisms) (a .gammas .now) _ _ (c .before .before .check-settings .ensures) (c .before .is-done2 .ensures) (c .if2 .left), mechanisms-few (a .size .edges) (a .priors .now) (graph (a .size .checks) (a .size .mechanisms) (a .check-var .now) (a .check-message .now) (a .check-offset .now) (a .var-check .now) (a .var-message .now) (a .var-offset .now)) _ _ (c .before .before .before .before .before .check-graph .ensures) (c .before .before .before .before .is-done .ensures) (c .before .before .before .if1 .left))
+    (legs-few (a .t) (a .size .mechanisms) (a .gammas .now) _ _ (c .before .before .check-settings .ensures) (c .before .is-done2 .ensures) (c .if2 .left), mechanisms-few (a .size .edges) (a .priors .now) (graph (a .size .checks) (a .size .mechanisms) (a .check-var .now) (a .check-message .now) (a .check-offset .now) (a .var-check .now) (a .var-message .now) (a .var-offset .now)) _ _ (c .before .before .before .before .before .check-graph .ensures) (c .before .before .before .before .is-done .ensures) (c .before .before .before .if1 .left))
 
 work-fits-requires : tie.Need-work-fits-requires
 work-fits-requires c κs = search needs

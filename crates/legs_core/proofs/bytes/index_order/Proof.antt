@@ -1,4 +1,4 @@
--- `legs_core::bytes::index` meets its contract. The invariant: each place passed holds its own number.
+-- `legs_core::bytes::index_order` meets its contract. The invariant: each place passed holds its own number.
 -- Assumes nothing.
 use mathlib.Core.Path.{_≡_, refl}
 use Prim.Native.Nat.{ℕ, _≤_, _<_, _-_}
@@ -6,8 +6,8 @@ use native.Mathlib.Omega.{arith}
 use lib.ListN.{length, getD, length-set}
 use Rattle.orders_core.proofs.OrderWords.{index-order}
 use Rattle.legs_core.proofs.Copies.{count-turn}
-use Rattle.legs_core.proofs.bytes.index.Statement.{statement}
-use Rattle.legs_core.proofs.bytes.index.Tie as tie
+use Rattle.legs_core.proofs.bytes.index_order.Statement.{statement}
+use Rattle.legs_core.proofs.bytes.index_order.Tie as tie
 
 abbrev Inv-loop : tie.InvT-loop
 Inv-loop order₀ c₀ order c = (c ≤ length order) × (length order ≡ length order₀) × ((k : ℕ) → k < c → getD order k 0 ≡ k)
@@ -42,8 +42,8 @@ same-length c = omega arith
 returns : tie.Need-returns Inv-loop μ-loop
 returns c = let l = c .before .loop in index-order _ (l .order) (l .inv .1) (λ k h. l .inv .2 k (omega arith))
 
-pub index-spec : {M : Type 1} → statement M
-index-spec =
+pub index-order-spec : {M : Type 1} → statement M
+index-order-spec =
     tie.close
     (tie.spec
     Inv-loop

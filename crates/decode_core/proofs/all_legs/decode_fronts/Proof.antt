@@ -1,4 +1,4 @@
--- `decode_core::all_legs::decode_shot` meets its contract. The fronts that come back stand before the surplus.
+-- `decode_core::all_legs::decode_fronts` meets its contract. The fronts that come back stand before the surplus.
 -- Assumes nothing.
 use Prim.Native.Nat.{_+_, _*_, _-_}
 use native.Mathlib.Numerals.{add-one}
@@ -10,8 +10,8 @@ use Rattle.legs_core.specs.Kept.{shotOf}
 use Rattle.decode_core.proofs.Faults.{cells-small}
 use Rattle.decode_core.proofs.Shots.{shot-is, front-lent, cells-lent, front-tail}
 use borrow.Author.Needs.{needs}
-use Rattle.decode_core.proofs.all_legs.decode_shot.Statement.{statement}
-use Rattle.decode_core.proofs.all_legs.decode_shot.Tie as tie
+use Rattle.decode_core.proofs.all_legs.decode_fronts.Statement.{statement}
+use Rattle.decode_core.proofs.all_legs.decode_fronts.Tie as tie
 
 add-legs : tie.Need-add-legs
 add-legs c = search needs
@@ -105,8 +105,8 @@ returns c =
     let n = a .t .«num_legs» in
     shot-is (shotOf (a .t) (a .gammas .now) (a .seed) (a .syndrome .now) (a .priors .now) (a .check-var .now) (a .check-offset .now) (a .var-message .now) (a .var-offset .now) (a .order .now)) (length (a .check-var .now)) (record { legState = a .leg-state .now; legIterations = a .leg-iterations .now; legWeight = a .leg-weight .now; rows = a .rows .now; correction = a .correction .now; posterior = a .posterior .now; gamma = a .gamma .now; bias = a .bias .now; cToV = a .c-to-v .now; vToC = a .v-to-c .now }) (x .last .1 .1 .1 .1 .1 .1 .1 .1 .1 .1 .0) (x .last .1 .1 .1 .1 .1 .1 .1 .1 .1 .1 .1 .0) (x .last .1 .1 .1 .1 .1 .1 .1 .1 .1 .1 .1 .1 .0) (x .last .1 .1 .1 .1 .1 .1 .1 .1 .1 .1 .1 .1 .1 .0) _ _ _ _ _ _ _ _ _ _ (decodeLegs (shotOf (a .t) (a .gammas .now) (a .seed) (a .syndrome .now) (a .priors .now) (a .check-var .now) (a .check-offset .now) (a .var-message .now) (a .var-offset .now) (a .order .now))) _ (x .ensures .0) (x .ensures .1 .0) (front-tail (n + 1) (a .leg-state .now) (x .last .1 .1 .1 .1 .1 .1 .1 .1 .1 .1 .0) (x .kept .1 .1 .1 .1 .1 .1 .1 .1 .1 .1 .0) (rw add-one (m .0)), front-tail (n + 1) (a .leg-iterations .now) (x .last .1 .1 .1 .1 .1 .1 .1 .1 .1 .1 .1 .0) (x .kept .1 .1 .1 .1 .1 .1 .1 .1 .1 .1 .1 .0) (rw add-one (m .1)), front-tail (n + 1) (a .leg-weight .now) (x .last .1 .1 .1 .1 .1 .1 .1 .1 .1 .1 .1 .1 .0) (x .kept .1 .1 .1 .1 .1 .1 .1 .1 .1 .1 .1 .1 .0) (rw add-one (m .2)), front-tail ((n + 1) * length (a .priors .now)) (a .rows .now) (x .last .1 .1 .1 .1 .1 .1 .1 .1 .1 .1 .1 .1 .1 .0) (x .kept .1 .1 .1 .1 .1 .1 .1 .1 .1 .1 .1 .1 .1 .0) (rw add-one (m .3))) (x .ensures .1 .1)
 
-pub decode-shot-spec : {M : Type 1} → statement M
-decode-shot-spec =
+pub decode-fronts-spec : {M : Type 1} → statement M
+decode-fronts-spec =
     tie.close
     (tie.spec
     add-legs
