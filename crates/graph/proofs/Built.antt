@@ -150,9 +150,9 @@ module _ (checks mechanisms : ℕ) (inc : ℕ → ℕ → Bool) where
   unfolding graphOf
   second-pass checkOffset checkVar checkMessage next rowAt placeAt em eo eg b =
       let vc : rowAt ≡ joined mechanisms (checksOf checks inc) = b .owners ∙ rw (em, eo) graph-vars in
-      let vg : placeAt ≡ joined mechanisms (places (entries checks mechanisms inc)) = b .lists ∙ rw em in
+      let vm : placeAt ≡ joined mechanisms (places (entries checks mechanisms inc)) = b .lists ∙ rw em in
       let vo : next ≡ offsets mechanisms (checksOf checks inc) = b .starts ∙ rw em graph-var-offsets in
-      rw (em, eo, eg, vc, vg, vo)
+      rw (em, eo, eg, vc, vm, vo)
 
   -- the same, with the numbers
   pub finished : (checkVar checkMessage checkOffset varCheck varMessage varOffset : List ℕ) → checkVar ≡ entries checks mechanisms inc → checkOffset ≡ offsets checks (mechanismsOf mechanisms inc)

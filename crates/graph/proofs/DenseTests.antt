@@ -66,6 +66,7 @@ module _ (checks mechanisms edges : ℕ) (priors : List Float) (bytes : ℕ) (fi
     pub priors-many : length priors ≡ mechanisms
     pub fits : fit ≡ true
 
+  -- and that they do
   pub dense-told : denseTests checks mechanisms edges priors bytes fit ≡ Done → DenseTold
   unfolding denseTests
   dense-told h =

@@ -130,7 +130,7 @@ pub rising-no : (off : List ℕ) (r a b : ℕ) → a ≡ getD off r 0 → b ≡ 
 unfolding rising
 rising-no off r a b p q h = let e : b ≡ getD off (suc r) 0 = rw add-one at q in lt-leb (getD off r 0) (getD off (suc r) 0) (omega arith)
 
--- a detector out of range, repeated, or neither
+-- a detector out of range
 pub detector-range : (checks m : ℕ) (ds : List ℕ) (i d : ℕ) → d ≡ getD ds i 0 → checks ≤ d → Refused (DetectorOutOfRange m) ≡ detectorFault checks m ds i
 unfolding detectorFault orElse unless
 detector-range checks m ds i d p h = rw (le-ltb (getD ds i 0) checks (omega arith))

@@ -167,7 +167,7 @@ module _ (edges : ℕ) (g : Graph) (f : Long edges g) (t : Passes edges g) where
   -- so the lists are the graph of what they tell
   pub sound : g ≡ graphOf (g .checks) (g .mechanisms) (told g)
   unfolding graphOf same
-  sound = graph-same _ _ _ _ _ _ _ _ _ _ _ _ _ _ mech-is msg off-is vc vg vo
+  sound = graph-same _ _ _ _ _ _ _ _ _ _ _ _ _ _ mech-is msg off-is vc vm vo
     where
       i : ℕ → ℕ → Bool
       i = told g
@@ -185,8 +185,8 @@ module _ (edges : ℕ) (g : Graph) (f : Long edges g) (t : Passes edges g) where
           ∙ ap (λ (x : List ℕ). map (rowOf x (g .checks)) (joined (g .mechanisms) (places (entries (g .checks) (g .mechanisms) (told g))))) off-is
           ∙ graph-vars (g .checks) (g .mechanisms) (told g)
 
-      vg : g .varMessage ≡ joined (g .mechanisms) (places (entries (g .checks) (g .mechanisms) (told g)))
-      vg = messages-are ∙ ap (λ (x : List ℕ). joined (g .mechanisms) (places x)) mech-is
+      vm : g .varMessage ≡ joined (g .mechanisms) (places (entries (g .checks) (g .mechanisms) (told g)))
+      vm = messages-are ∙ ap (λ (x : List ℕ). joined (g .mechanisms) (places x)) mech-is
 
       vo : g .varOffset ≡ offsets (g .mechanisms) (checksOf (g .checks) (told g))
       vo = var-offset-is ∙ ap (λ (x : List ℕ). offsets (g .mechanisms) (places x)) mech-is ∙ graph-var-offsets (g .checks) (g .mechanisms) (told g)
@@ -253,30 +253,30 @@ module _ (checks mechanisms : ℕ) (inc : ℕ → ℕ → Bool) where
       (getD (row (offsets mechanisms (checksOf checks inc)) v (joined mechanisms (places (entries checks mechanisms inc)))) i 0)
   unfolding places
   var-parts-meet v i h l =
-      let cm = entries checks mechanisms inc in
+      let cv = entries checks mechanisms inc in
       let co = offsets checks (mechanismsOf mechanisms inc) in
       let vo = offsets mechanisms (checksOf checks inc) in
       let vc = joined mechanisms (checksOf checks inc) in
-      let vg = joined mechanisms (places cm) in
+      let vm = joined mechanisms (places cv) in
       let keys = graph-keys checks mechanisms inc in
-      let long : length vg ≡ length cm = length-bucket mechanisms cm keys in
+      let long : length vm ≡ length cv = length-bucket mechanisms cv keys in
       let cut = graph-var-cut checks mechanisms inc in
-      let nc = row-length mechanisms (length cm) vo vc cut (sym (graph-length checks mechanisms inc)) v h in
-      let ng = row-length mechanisms (length cm) vo vg cut long v h in
+      let nc = row-length mechanisms (length cv) vo vc cut (sym (graph-length checks mechanisms inc)) v h in
+      let ng = row-length mechanisms (length cv) vo vm cut long v h in
       let x : ℕ = getD vo v 0 + i in
-      let room : x < length cm = omega (arith, nc, cut .ends, offsets-rise mechanisms (length cm) vo cut (suc v) mechanisms h (omega arith)) in
-      let a : getD (row vo v vc) i 0 ≡ getD vc x 0 = row-at mechanisms (length cm) vo vc cut (sym (graph-length checks mechanisms inc)) v i h l in
-      let b : getD (row vo v vg) i 0 ≡ getD vg x 0 = row-at mechanisms (length cm) vo vg cut long v i h (omega arith) in
-      let e : getD vc x 0 ≡ rowOf co checks (getD vg x 0) = ap (λ (y : List ℕ). getD y x 0) (sym (graph-vars checks mechanisms inc)) ∙ map-at (rowOf co checks) vg x (omega arith) in
-      let s : getD vo v 0 ≡ start (places cm) v = ap (λ (y : List ℕ). getD y v 0) (sym (graph-var-offsets checks mechanisms inc)) ∙ offsets-at mechanisms v (places cm) (omega arith) in
-      let s′ : getD vo (suc v) 0 ≡ start (places cm) (suc v) = ap (λ (y : List ℕ). getD y (suc v) 0) (sym (graph-var-offsets checks mechanisms inc)) ∙ offsets-at mechanisms (suc v) (places cm) h in
-      let k : i < length (places cm v) = omega (arith, nc, s, s′, start-suc (places cm) v) in
-      let w = passed (stands cm v) (length cm) i k in
-      let m : getD vg x 0 ≡ getD (places cm v) i 0 = ap (λ (y : ℕ). getD vg (y + i) 0) s ∙ joined-at (places cm) v mechanisms i h k in
-      let r = row-is checks (length cm) co (graph-offsets checks mechanisms inc) (getD (places cm v) i 0) (w .below) in
-      let p : getD (row vo v vg) i 0 ≡ getD (places cm v) i 0 = b ∙ m in
-      let q : getD (row vo v vc) i 0 ≡ rowOf co checks (getD (places cm v) i 0) = a ∙ e ∙ ap (rowOf co checks) m in
-      rw (p, q) (record { from = r .from; to = r .to; is = stands-true cm v _ (w .passes) })
+      let room : x < length cv = omega (arith, nc, cut .ends, offsets-rise mechanisms (length cv) vo cut (suc v) mechanisms h (omega arith)) in
+      let a : getD (row vo v vc) i 0 ≡ getD vc x 0 = row-at mechanisms (length cv) vo vc cut (sym (graph-length checks mechanisms inc)) v i h l in
+      let b : getD (row vo v vm) i 0 ≡ getD vm x 0 = row-at mechanisms (length cv) vo vm cut long v i h (omega arith) in
+      let e : getD vc x 0 ≡ rowOf co checks (getD vm x 0) = ap (λ (y : List ℕ). getD y x 0) (sym (graph-vars checks mechanisms inc)) ∙ map-at (rowOf co checks) vm x (omega arith) in
+      let s : getD vo v 0 ≡ start (places cv) v = ap (λ (y : List ℕ). getD y v 0) (sym (graph-var-offsets checks mechanisms inc)) ∙ offsets-at mechanisms v (places cv) (omega arith) in
+      let s′ : getD vo (suc v) 0 ≡ start (places cv) (suc v) = ap (λ (y : List ℕ). getD y (suc v) 0) (sym (graph-var-offsets checks mechanisms inc)) ∙ offsets-at mechanisms (suc v) (places cv) h in
+      let k : i < length (places cv v) = omega (arith, nc, s, s′, start-suc (places cv) v) in
+      let w = passed (stands cv v) (length cv) i k in
+      let m : getD vm x 0 ≡ getD (places cv v) i 0 = ap (λ (y : ℕ). getD vm (y + i) 0) s ∙ joined-at (places cv) v mechanisms i h k in
+      let r = row-is checks (length cv) co (graph-offsets checks mechanisms inc) (getD (places cv v) i 0) (w .below) in
+      let p : getD (row vo v vm) i 0 ≡ getD (places cv v) i 0 = b ∙ m in
+      let q : getD (row vo v vc) i 0 ≡ rowOf co checks (getD (places cv v) i 0) = a ∙ e ∙ ap (rowOf co checks) m in
+      rw (p, q) (record { from = r .from; to = r .to; is = stands-true cv v _ (w .passes) })
 
   -- so every graph passes
   pub graph-passes : Passes (length (entries checks mechanisms inc)) (graphOf checks mechanisms inc)

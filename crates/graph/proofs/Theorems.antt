@@ -75,7 +75,7 @@ unfolding buildDense built denseFault
 dense-good priors matrix g h =
     none-good (g .mechanisms) priors (dense-accepted priors matrix g h .priors-many) (or-done _ _ (or-done _ _ (or-done _ _ (or-done _ _ h .1) .1) .1) .1)
 
--- ---- 1: sparse and dense
+-- ---- sparse and dense
 
 -- Sparse and dense building give the same lists on the same incidences: where a sparse and a dense model are both accepted, and for each check and
 -- mechanism within the counts the one names the pair exactly where the other marks it, the six lists are the same, whatever the priors.
@@ -114,7 +114,7 @@ dense-is-sparse edges priors off dets matrix g h l e =
     ∙ ap (outcome Done) (sym (graph-agrees (g .checks) (g .mechanisms) (among off dets) (marked (g .mechanisms) matrix) e))
     ∙ sym (sparse-whole edges priors off dets g h)
 
--- ---- 2: the detectors' order
+-- ---- the detectors' order
 
 -- The detectors' order within a mechanism changes nothing: two accepted models of the same counts, each of whose mechanisms has the same set of detectors
 -- in both, build the same lists.
@@ -125,7 +125,7 @@ unfolding among
 order-free edges edges′ priors priors′ off off′ dets dets′ g h k e =
     sparse-lists edges priors off dets g h ∙ graph-agrees (g .checks) (g .mechanisms) (among off dets) (among off′ dets′) (λ c m x y. e m c y) ∙ sym (sparse-lists edges′ priors′ off′ dets′ g k)
 
--- ---- 3: what is built passes
+-- ---- what is built passes
 
 -- Lists that `build_sparse` wrote pass 7.
 pub sparse-passes : (edges : ℕ) (priors : List Float) (off dets : List ℕ) (g : Graph) → buildSparse edges priors off dets g .answer ≡ Done → isGraph (buildSparse edges priors off dets g .lists) ≡ true
@@ -152,7 +152,7 @@ dense-checked priors matrix g h =
     (graph-checked (g .checks) (g .mechanisms) (countEdges matrix) (marked (g .mechanisms) matrix) priors (t .checks-few) (t .mechanisms-few) (t .edges-few)
     (matrix-edges (g .checks) (g .mechanisms) matrix (t .bytes-many)) (dense-good priors matrix g h))
 
--- ---- 4: what passes is built
+-- ---- what passes is built
 
 -- as many priors of positive zero
 abbrev pub zeroes : ℕ → List Float
@@ -181,7 +181,7 @@ checked-built edges priors g h =
     ∙ built-from g g (told g) priors (is-graph-told g (t .is-graph)) (t .checks-few) (t .mechanisms-few) (omega (arith, n, t .edges-few)) (record { many = t .priors-many; good = t .priors-good })
     (rw n (t .fits))
 
--- ---- 5: one result
+-- ---- one result
 
 -- Two results that one equation allows coincide.
 pub coincide {ℓ} : {A : Type ℓ} (x y z : A) → x ≡ z → y ≡ z → x ≡ y

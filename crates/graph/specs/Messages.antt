@@ -27,6 +27,7 @@ pub record Scan : Type 0 where
   pub min2 : Float
   pub least : ℕ
 
+-- a scan of its parts
 abbrev pub scanOf : Float → Float → Float → ℕ → Scan
 scanOf sign min1 min2 least = record { totalSign = sign; min1 = min1; min2 = min2; least = least }
 

@@ -78,6 +78,7 @@ mechanismFault checks priors off dets m =
 
 -- ---- 7: graph lists that no model builds
 
+-- the six lists are the same
 unfoldable pub sameGraph : Graph → Graph → Bool
 sameGraph g h =
     sameList (g .checkVar) (h .checkVar)
@@ -96,6 +97,7 @@ pub record Outcome : Type 0 where
   pub answer : Answer
   pub lists : Graph
 
+-- an outcome of its parts
 abbrev pub outcome : Answer → Graph → Outcome
 outcome a g = record { answer = a; lists = g }
 

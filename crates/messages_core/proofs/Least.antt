@@ -43,6 +43,7 @@ module _ (x min1 min2 : Float) (o : Ordered min1 min2) where
   next-cases false true p q = rw p
   next-cases false false p q = rw (o .not-above)
 
+  -- whatever the cases
   pub next-is : cond (lt (cond (lt (abs x) min2) (abs x) min2) min1) min1 (cond (lt (abs x) min2) (abs x) min2)
       ≡ cond (lt (abs x) min1) min1 (cond (lt (abs x) min2) (abs x) min2)
   next-is = next-cases (lt (abs x) min1) (lt (abs x) min2) refl refl
@@ -63,5 +64,6 @@ module _ (x min1 min2 : Float) (o : Ordered min1 min2) where
       }
   ordered-cases false false p q = o
 
+  -- whatever the cases
   pub ordered-next : Ordered (cond (lt (abs x) min1) (abs x) min1) (cond (lt (abs x) min1) min1 (cond (lt (abs x) min2) (abs x) min2))
   ordered-next = ordered-cases (lt (abs x) min1) (lt (abs x) min2) refl refl

@@ -1,8 +1,5 @@
 // What min-sum and Relay do alike with messages, one to an edge. Inner functions for these two crates: they ask that entries name something and that
 // lists fit, which a graph that has passed its tests grants.
-use refusals::Answer;
-use refusals::Refusal;
-use tests_core::is_done;
 ghost use mathlib.Core.Path.{_≡_};
 ghost use mathlib.Core.Bool.{cond};
 ghost use mathlib.Core.List.{map};
@@ -14,6 +11,9 @@ ghost use Rattle.refusals.specs.declared.Refusal.the-variants.{NonFinite};
 ghost use Rattle.refusals.specs.Tests.{unless, firstOf};
 ghost use Rattle.graph.specs.Messages.{total as totalOf, scanOf, startScan, valueFault};
 ghost use Rattle.messages_core.specs.Needs.{Entries, Ordered};
+use refusals::Answer;
+use refusals::Refusal;
+use tests_core::is_done;
 
 // An entry of a list of indices.
 pub fn at(xs: &[u32], i: usize) -> usize

@@ -51,11 +51,13 @@ module _ (scale sign min1 min2 : Float) (least : ℕ) (messages : List Float) (n
 module _ (scale : Float) (odd : Bool) (messages out : List Float) (sign min1 min2 : Float) (least : ℕ)
     (s : scanOf sign min1 min2 least ≡ scan odd messages (length messages))
     (o : out ≡ sentTo scale (scanOf sign min1 min1 0) messages (length messages)) where
+  -- the least is one of them: the next is put there
   pub sends-next : (x : Float) → least < length messages → x ≡ signWithout sign (getD messages least nan) *ᶠ min2 *ᶠ scale
       → set out least x ≡ checkMessages scale odd messages
   unfolding checkMessages
   sends-next x h e = rw (o, sym s) (least-put scale sign min1 min2 least messages (length messages) x h e)
 
+  -- it is nobody's: nothing is put
   pub sends-least : length messages ≤ least → out ≡ checkMessages scale odd messages
   unfolding checkMessages
   sends-least h = rw (o, sym s) (least-nowhere scale sign min1 min2 least messages (length messages) h)

@@ -22,6 +22,7 @@ pub record Lists : Type 0 where
   pub cToV : List Float
   pub vToC : List Float
 
+-- the lists of their parts
 abbrev pub lists : List Float → List Float → List Float → List Float → Lists
 lists p w c v = record { posterior = p; ewaPosterior = w; cToV = c; vToC = v }
 
@@ -30,6 +31,7 @@ pub record Outcome : Type 0 where
   pub answer : Answer
   pub left : Lists
 
+-- an outcome of its parts
 abbrev pub outcome : Answer → Lists → Outcome
 outcome a l = record { answer = a; left = l }
 

@@ -63,10 +63,12 @@ checkMessages scale odd messages = sentTo scale (scan odd messages (length messa
 
 -- ---- one iteration, over all messages
 
+-- the messages, to variables and to checks
 pub record Messages : Type 0 where
   pub cToV : List Float
   pub vToC : List Float
 
+-- messages of both lists
 abbrev pub messages : List Float → List Float → Messages
 messages c v = record { cToV = c; vToC = v }
 
@@ -145,7 +147,7 @@ averagedTo g prior weight s ewa n = table n (λ v. mixed weight (getD ewa v nan)
 unfoldable pub averaged : Graph → List Float → Float → Messages → List Float → List Float
 averaged g prior weight s ewa = averagedTo g prior weight s ewa (g .mechanisms)
 
--- the weight of an iteration with its number within the outer round: 1 in the very first, else 0.3
+-- the weight of iteration i of the outer round `outer`: 1 in the very first of all, else 0.3
 unfoldable pub weightOf : ℕ → ℕ → Float
 weightOf outer i = cond (eqb i 0 && eqb outer 0) one⁺ ewaWeight
 
@@ -154,6 +156,7 @@ pub record Belief : Type 0 where
   pub now : Messages
   pub ewaPosterior : List Float
 
+-- a belief of its parts
 abbrev pub belief : Messages → List Float → Belief
 belief s ewa = record { now = s; ewaPosterior = ewa }
 
@@ -165,7 +168,7 @@ chosen belief raw = cond (Bool·beq (lt zero⁺ belief) (lt zero⁺ raw) && lt (
 unfoldable pub chosenTo : Graph → List Float → Belief → ℕ → List Float
 chosenTo g prior b n = table n (λ v. chosen (getD (b .ewaPosterior) v nan) (rawPosterior g prior (b .now) v))
 
--- where an outer round starts: messages from the running posterior, which before the first round is the priors, and check messages from 0.0
+-- where an outer round starts: messages from the running posterior, which before the first round is the priors, and check messages 0.0
 unfoldable pub startRound : Graph → List Float → Belief
 startRound g ewa = belief (messages (cleared g) (fromVariables g ewa)) ewa
 
@@ -176,7 +179,7 @@ module _ (g : Graph) (serial : Bool) (scale : Float) (syndrome : List ℕ) (prio
       let s = iteration serial g scale syndrome prior (b .now) in
       belief s (averaged g prior weight s (b .ewaPosterior))
 
-  -- an iteration with its number within the outer round
+  -- iteration i of the outer round `outer`
   unfoldable pub turn : ℕ → ℕ → Belief → Belief
   turn outer i b = turned (weightOf outer i) b
 

@@ -1,8 +1,4 @@
 // The run: an iteration with its weight, outer rounds, and the end rule.
-use refusals::Answer;
-use tests_core::both;
-use tests_core::is_done;
-use tests_core::same_number;
 ghost use mathlib.Core.Path.{_≡_};
 ghost use mathlib.Core.Bool.{true, false};
 ghost use mathlib.Core.List.{[]};
@@ -11,6 +7,10 @@ ghost use lib.ListN.{length};
 ghost use Rattle.messages_core.specs.Needs.{Walks, walked, ofVariables};
 ghost use Rattle.min_sum.specs.MinSum.{messages, belief, weightOf, turned, round as roundOf, rounds as roundsOf, chosen as chosenOf, chosenTo, minSumBp};
 ghost use Rattle.min_sum.specs.Beliefs.{lists, outcome, ran as ranOf};
+use refusals::Answer;
+use tests_core::both;
+use tests_core::is_done;
+use tests_core::same_number;
 
 // The weight of an iteration: 1 in the very first, else 0.3.
 fn weight(outer: usize, i: usize) -> f64

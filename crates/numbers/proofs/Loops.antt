@@ -89,6 +89,7 @@ abbrev pub Outside : ℕ → ℕ → ℕ → Type 0
 Outside a e i = (i < a) ⊎ (e ≤ i)
 
 module _ {ℓ} {A : Type ℓ} (xs : List A) (a e : ℕ) (new : List A) (h : a ≤ e) (k : e ≤ length xs) (l : length new ≡ e - a) where
+  -- as many stand before the part as its start says
   front : length (take a xs) ≡ a
   front = length-take-le a xs (omega arith)
 

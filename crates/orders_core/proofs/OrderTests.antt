@@ -89,14 +89,16 @@ seen-done checks order i seen h l s =
       none-else = λ k m. none-from checks k m b;
     })
 
--- the ways out: another length, a name that is no check, a name twice
+-- the ways out: another length
 pub name-length : (checks : ℕ) (order : List ℕ) → (length order ≡ checks → ⊥) → namesOnce checks order ≡ false
 unfolding namesOnce
 name-length checks order h = rw (ne-eqb (length order) checks h)
 
+-- a name that is no check
 pub name-beyond : (checks : ℕ) (order : List ℕ) (i : ℕ) → i < length order → checks ≤ getD order i 0 → namesOnce checks order ≡ false
 name-beyond checks order i h l = not-so _ (λ e. omega (arith, all-at (names-below (names-once-is checks order .0 e)) i h))
 
+-- a name twice
 pub name-twice : (checks : ℕ) (order : List ℕ) (i : ℕ) (seen : List ℕ) (c : ℕ) → checks ≤ 65536 → i < length order → c ≡ getD order i 0 → c < checks
     → (getD seen c 0 ≡ 0 → ⊥) → Seen checks order i seen → namesOnce checks order ≡ false
 name-twice checks order i seen c h k e b z s = not-so _ (λ t. go (names-once-is checks order .0 t .once-each c b))
@@ -115,50 +117,57 @@ is-same true b f g = sym (f refl)
 is-same false true f g = g refl
 is-same false false f g = refl
 
--- a disjunction
+-- a disjunction whose second holds
 or-true : (a b : Bool) → b ≡ true → (a || b) ≡ true
 or-true true b h = refl
 or-true false b h = h
 
+-- one of which neither does
 or-false : (a b : Bool) → a ≡ false → b ≡ false → (a || b) ≡ false
 or-false a b h k = rw (h, k)
 
--- none passes, and two tests that agree
+-- none passes
 pub any-false : (p : ℕ → Bool) {xs : List ℕ} → All (λ x. p x ≡ false) xs → anyOf p xs ≡ false
 any-false p nil = refl
 any-false p (cons {x = x} {xs = xs} h t) = or-false (p x) (anyOf p xs) h (any-false p t)
 
+-- two tests that agree
 pub any-same : (p q : ℕ → Bool) {xs : List ℕ} → All (λ x. p x ≡ q x) xs → anyOf p xs ≡ anyOf q xs
 any-same p q nil = refl
 any-same p q (cons {x = x} {xs = xs} h t) = ap (λ b. b || anyOf p xs) h ∙ ap (λ b. q x || b) (any-same p q t)
 
--- exchanging an inner and an outer search
+-- four tests, the middle two exchanged
 four-or : (a b c d : Bool) → (a || b || (c || d)) ≡ (a || c || (b || d))
 four-or true b c d = refl
 four-or false true true d = refl
 four-or false true false d = refl
 four-or false false c d = refl
 
+-- a search for either of two is a search for each
 any-or : (p q : ℕ → Bool) (xs : List ℕ) → anyOf (λ x. p x || q x) xs ≡ (anyOf p xs || anyOf q xs)
 any-or p q [] = refl
 any-or p q (x ∷ xs) = ap (λ b. p x || q x || b) (any-or p q xs) ∙ four-or (p x) (q x) (anyOf p xs) (anyOf q xs)
 
+-- a test that nothing passes finds nothing
 any-never : (xs : List ℕ) → anyOf (λ x. false) xs ≡ false
 any-never [] = refl
 any-never (x ∷ xs) = any-never xs
 
+-- exchanging an inner and an outer search
 pub any-swap : (p : ℕ → ℕ → Bool) (xs ys : List ℕ) → anyOf (λ x. anyOf (p x) ys) xs ≡ anyOf (λ y. anyOf (λ x. p x y) xs) ys
 any-swap p xs [] = any-never xs
 any-swap p xs (y ∷ ys) = any-or (λ x. p x y) (λ x. anyOf (p x) ys) xs ∙ ap (λ b. anyOf (λ x. p x y) xs || b) (any-swap p xs ys)
 
+-- a condition that does not depend on the element stands outside
 any-and : (b : Bool) (p : ℕ → Bool) (xs : List ℕ) → anyOf (λ x. b && p x) xs ≡ (b && anyOf p xs)
 any-and true p xs = refl
 any-and false p xs = any-never xs
 
--- a turn of a search, and its end
+-- a turn of a search that finds nothing
 pub any-take : (p : ℕ → Bool) (xs : List ℕ) (i : ℕ) → i < length xs → anyOf p (take i xs) ≡ false → p (getD xs i 0) ≡ false → anyOf p (take (i + 1) xs) ≡ false
 any-take p xs i h e k = rw (add-one, take-suc xs i 0 h) (any-false p (all-append (any-none p (take i xs) e) (cons k nil)))
 
+-- and one that does
 pub any-found : (p : ℕ → Bool) (xs : List ℕ) (i : ℕ) → i < length xs → p (getD xs i 0) ≡ true → anyOf p xs ≡ true
 any-found p [] i h e = absurd (not-suc-le-zero h)
 any-found p (x ∷ xs) zero h e = rw e
@@ -181,6 +190,7 @@ pub marked-take : (x : ℕ) (l es : List ℕ) (i : ℕ) → i < length es → ma
 unfolding marked
 marked-take x l es i h = foldl-take _ _ es i 0 h
 
+-- marks leave the length
 pub length-marked : (x : ℕ) (l es : List ℕ) → length (marked x l es) ≡ length l
 unfolding marked
 length-marked x l [] = refl
@@ -219,9 +229,11 @@ or-assoc false b c = refl
 
 -- the highest check that has v is above c just where some check above c has v
 module _ (entries : ℕ → List ℕ) (c v : ℕ) where
+  -- one check more
   abbrev Step : ℕ → ℕ → ℕ
   Step t d = cond (has (entries d) v) (max t d) t
 
+  -- it is above c where the highest was, or where the check has v and is above c
   above-step : (b : Bool) (t d : ℕ) → ltb c (cond b (max t d) t) ≡ (ltb c t || (ltb c d && b))
   above-step true t d = above-max c t d ∙ ap (λ z. ltb c t || z) (and-one (ltb c d))
     where
@@ -235,6 +247,7 @@ module _ (entries : ℕ → List ℕ) (c v : ℕ) where
       none-or false true = refl
       none-or false false = refl
 
+  -- so is it after several
   above-fold : (ds : List ℕ) (t : ℕ) → ltb c (foldl Step t ds) ≡ (ltb c t || anyOf (λ d. ltb c d && has (entries d) v) ds)
   above-fold [] t = or-none (ltb c t)
     where
@@ -246,6 +259,7 @@ module _ (entries : ℕ → List ℕ) (c v : ℕ) where
       ∙ ap (λ z. z || anyOf (λ e. ltb c e && has (entries e) v) ds) (above-step (has (entries d) v) t d)
       ∙ or-assoc (ltb c t) (ltb c d && has (entries d) v) (anyOf (λ e. ltb c e && has (entries e) v) ds)
 
+  -- and after all, from none
   above-highest : (before : List ℕ) → ltb c (highest entries before v) ≡ anyOf (λ d. ltb c d && has (entries d) v) before
   unfolding highest
   above-highest before = above-fold before 0 ∙ ap (λ z. z || anyOf (λ d. ltb c d && has (entries d) v) before) (le-ltb c 0 (omega arith))
@@ -284,16 +298,18 @@ tells-turn entries before last c l t o v h =
         omega (arith, t v h)
     go false e = t v h
 
--- a turn of the search, and its end
+-- a turn of the search
 pub exchange-turn : (entries : ℕ → List ℕ) (order : List ℕ) (i c : ℕ) → i < length order → c ≡ getD order i 0 → late entries (take i order) c ≡ false
     → exchanged entries (take (i + 1) order) (drop (i + 1) order) ≡ exchanged entries (take i order) (drop i order)
 unfolding exchanged
 exchange-turn entries order i c h e l = rw (add-one, take-suc order i 0 h, drop-cons order i 0 h, ← e, l)
 
+-- its end, where nothing is late
 pub exchange-done : (entries : ℕ → List ℕ) (order : List ℕ) (i : ℕ) → length order ≤ i → Done ≡ exchanged entries (take i order) (drop i order)
 unfolding exchanged
 exchange-done entries order i h = rw (drop-of-length-le order h)
 
+-- or where a check is
 pub exchange-found : (entries : ℕ → List ℕ) (order : List ℕ) (i c : ℕ) → i < length order → c ≡ getD order i 0 → late entries (take i order) c ≡ true
     → Refused (OrderExchanged c) ≡ exchanged entries (take i order) (drop i order)
 unfolding exchanged
@@ -301,12 +317,13 @@ exchange-found entries order i c h e l = rw (drop-cons order i 0 h, ← e, l)
 
 -- ---- turns of the inner loops, as the code has them
 
--- turns of `is_overtaken`, and what it finds
+-- a turn of `is_overtaken`
 pub overtaken-turn : (x : ℕ) (last es : List ℕ) (i v : ℕ) → i < length es → v ≡ getD es i 0 → getD last v 0 ≤ x → overtaken x last (take i es) ≡ false
     → overtaken x last (take (i + 1) es) ≡ false
 unfolding overtaken
 overtaken-turn x last es i v h e l o = any-take (λ w. ltb x (getD last w 0)) es i h o (le-ltb x (getD last (getD es i 0) 0) (rw (← e) l))
 
+-- and what it finds
 pub overtaken-found : (x : ℕ) (last es : List ℕ) (i v : ℕ) → i < length es → v ≡ getD es i 0 → x < getD last v 0 → true ≡ overtaken x last es
 unfolding overtaken
 overtaken-found x last es i v h e l = sym (any-found (λ w. ltb x (getD last w 0)) es i h (lt-ltb x (getD last (getD es i 0) 0) (rw (← e) l)))
@@ -330,21 +347,26 @@ module _ (off mech order last : List ℕ) (i c a e next : ℕ) (h : i < length o
   abbrev entries : ℕ → List ℕ
   entries d = row off d mech
 
+  -- are the part that the code cuts out
   part-is : part a e mech ≡ entries c
   part-is = rw (s, f, add-one)
 
+  -- so what the code finds says whether the check is late
   found-late : (b : Bool) → b ≡ overtaken next last (part a e mech) → Entries 65536 (part a e mech) → b ≡ late entries (take i order) c
   found-late b o m =
       let m′ : Entries 65536 (entries c) = subst (Entries 65536) part-is m in
       o ∙ ap (overtaken next last) part-is ∙ ap (λ y. overtaken y last (entries c)) x ∙ overtaken-is entries (take i order) last c t (all-places _ (m′ .names))
 
+  -- a late one is the answer
   pub test-found : (b : Bool) → b ≡ overtaken next last (part a e mech) → Entries 65536 (part a e mech) → b ≡ true → Refused (OrderExchanged c) ≡ exchanged entries (take i order) (drop i order)
   test-found b o m y = exchange-found entries order i c h q (sym (found-late b o m) ∙ y)
 
+  -- after another the search goes on
   pub test-goes-on : (b : Bool) → b ≡ overtaken next last (part a e mech) → Entries 65536 (part a e mech) → b ≡ false
       → exchanged entries (take (i + 1) order) (drop (i + 1) order) ≡ exchanged entries (take i order) (drop i order)
   test-goes-on b o m y = exchange-turn entries order i c h q (sym (found-late b o m) ∙ y)
 
+  -- and the marks tell of it too
   pub test-tells : (b : Bool) → b ≡ overtaken next last (part a e mech) → b ≡ false → length last ≡ 65536 → (new : List ℕ) → new ≡ marked next last (part a e mech)
       → Tells entries (take (i + 1) order) new
   test-tells b o y l new w =

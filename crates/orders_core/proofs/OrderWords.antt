@@ -54,12 +54,15 @@ shares-sym entries c d =
 -- ---- none is late, or a first one is
 
 module _ (g : Graph) (order : List ℕ) where
+  -- the mechanisms of a check
   abbrev entries : ℕ → List ℕ
   entries = checkEntries g
 
+  -- whether the check at the place i is late
   abbrev Late : ℕ → Bool
   Late i = late entries (take i order) (getD order i 0)
 
+  -- what the search answers from the place i on
   abbrev From : ℕ → Answer
   From i = exchanged entries (take i order) (drop i order)
 
@@ -69,9 +72,11 @@ module _ (g : Graph) (order : List ℕ) where
   still (suc i) h f =
       ap From (sym (add-one i)) ∙ exchange-turn entries order i (getD order i 0) h refl (f i (omega arith)) ∙ still i (omega arith) (λ j l. f j (omega arith))
 
+  -- none is late: the search ends without one
   pub none-late : ((j : ℕ) → j < length order → Late j ≡ false) → exchanged entries [] order ≡ Done
   none-late f = sym (still (length order) (omega arith) f) ∙ sym (exchange-done entries order (length order) (omega arith))
 
+  -- a first one is: the search answers it
   pub first-late : (c : ℕ) → FirstLate g order c → exchanged entries [] order ≡ Refused (OrderExchanged c)
   first-late c w =
       sym (still (w .place) (omega (arith, w .inside)) (w .earlier)) ∙ sym (exchange-found entries order (w .place) c (w .inside) (sym (w .named)) (w .isLate))
@@ -81,6 +86,7 @@ module _ (g : Graph) (order : List ℕ) where
     clear : ((j : ℕ) → j < n → Late j ≡ false) → Searched n
     met : (i : ℕ) → i < n → Late i ≡ true → ((j : ℕ) → j < i → Late j ≡ false) → Searched n
 
+  -- one place further
   search-on : (n : ℕ) (b : Bool) → Late n ≡ b → Searched n → Searched (suc n)
   search-on n b e (met i h l f) = met i (omega arith) l f
   search-on n true e (clear f) = met n (omega arith) e f
@@ -90,6 +96,7 @@ module _ (g : Graph) (order : List ℕ) where
       go j h (yes q) = rw q e
       go j h (no q) = f j (omega arith)
 
+  -- all of them
   searched : (n : ℕ) → Searched n
   searched zero = clear (λ j h. absurd (omega arith))
   searched (suc n) = search-on n (Late n) refl (searched n)
@@ -108,6 +115,7 @@ module _ (g : Graph) (order : List ℕ) where
           let n = first-late (getD order i 0) w in
           same (getD order i 0) w (cc)
 
+  -- a check that is above all before it that share a mechanism with it is not late
   late-is : (j : ℕ) → j < length order → ((i : ℕ) → i < j → shares entries (getD order i 0) (getD order j 0) ≡ true → getD order i 0 ≤ getD order j 0) → Late j ≡ false
   unfolding late above
   late-is j h f = any-false _ (all-places (take j order) (λ i l. go i (omega (arith, length-take-le j order (omega arith)))))
@@ -122,6 +130,7 @@ module _ (g : Graph) (order : List ℕ) where
           rw (getD-take j order i 0 l)
           (test (ltb (getD order j 0) (getD order i 0)) (shares entries (getD order j 0) (getD order i 0)) (λ p q. omega (arith, ltb-true (getD order j 0) (getD order i 0) p, f i l (shares-sym entries (getD order i 0) (getD order j 0) ∙ q))))
 
+  -- and the other way
   not-late : (j : ℕ) → j < length order → Late j ≡ false → (i : ℕ) → i < j → shares entries (getD order i 0) (getD order j 0) ≡ true → getD order i 0 ≤ getD order j 0
   unfolding late above
   not-late j h e i l s =
@@ -145,12 +154,13 @@ module _ (g : Graph) (order : List ℕ) where
 
 -- ---- the index order is accepted
 
--- its length, and what stands where
+-- its length
 pub upto-length : (n : ℕ) → length (upto n) ≡ n
 unfolding upto
 upto-length zero = refl
 upto-length (suc n) = length-append (upto n) (n ∷ []) ∙ omega (arith, upto-length n)
 
+-- what stands where
 upto-at : (n i : ℕ) → i < n → getD (upto n) i 0 ≡ i
 unfolding upto
 upto-at zero i h = absurd (omega arith)
@@ -162,6 +172,7 @@ upto-at (suc n) i h = go (ℕ-discrete i n) (λ l. upto-at n i l)
         ap (λ k. getD (upto n ++ (n ∷ [])) k 0) s ∙ getD-append-seam (upto n) n [] 0 ∙ sym e
     go (no e) rec = List·getD-append (upto n) (n ∷ []) 0 i (omega (arith, upto-length n)) ∙ rec (omega arith)
 
+-- it counts as with its last name first
 upto-more : (k n : ℕ) → count k (upto (suc n)) ≡ count k (n ∷ upto n)
 unfolding upto
 upto-more k n = count-insert k n (upto n) [] ∙ ap (λ xs. count k (n ∷ xs)) (append-nil (upto n))
@@ -184,7 +195,7 @@ upto-keeps : (g : Graph) (n : ℕ) → KeepsOrder g (upto n)
 upto-keeps g n =
     record { keeps = λ i j l h s. omega (arith, upto-length n, upto-at n i (omega (arith, upto-length n)), upto-at n j (omega (arith, upto-length n))) }
 
--- the index order passes both tests
+-- the index order passes 24, whatever the schedule
 pub index-taken : (schedule : Schedule) (g : Graph) → exchangeFault schedule g (upto (g .checks)) ≡ Done
 unfolding exchangeFault
 index-taken Flooding g = refl

@@ -64,7 +64,7 @@ unfoldable pub exchangeFault : Schedule → Graph → List ℕ → Answer
 exchangeFault Flooding g order = Done
 exchangeFault CheckSerial g order = exchanged (checkEntries g) [] order
 
--- ---- the same in document 01's words, by place: `Theorems` ties the tests to them
+-- ---- the same in document 01's words, by place: `relay`'s `Theorems` ties the tests to them, by proofs/OrderWords.antt
 
 -- the order names each check once, and nothing else
 pub record NamesOnce (checks : ℕ) (order : List ℕ) : Type 0 where

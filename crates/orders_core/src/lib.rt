@@ -1,8 +1,4 @@
 // Tests 23 and 24: which orders of checks are taken, in O(checks + edges), over local arrays, since a refusal writes nothing.
-use messages_core::at;
-use refusals::Answer;
-use refusals::Refusal;
-use settings::Schedule;
 ghost use mathlib.Core.Path.{_≡_};
 ghost use mathlib.Core.Bool.{true};
 ghost use mathlib.Core.List.{[]};
@@ -12,6 +8,10 @@ ghost use Rattle.numbers.specs.Loops.{row};
 ghost use Rattle.messages_core.specs.Needs.{Offsets, Entries, ofChecks};
 ghost use Rattle.orders_core.specs.Order.{upto, namesOnce, exchanged, namesFault, exchangeFault};
 ghost use Rattle.orders_core.specs.Marks.{marked, overtaken};
+use messages_core::at;
+use refusals::Answer;
+use refusals::Refusal;
+use settings::Schedule;
 
 // Whether the order names each check once.
 fn names_each_once(checks: usize, order: &[u32]) -> bool

@@ -1,4 +1,4 @@
--- `graph::check_graph` meets its contract: each answer is the definition at what the tests before it said. Assumes nothing.
+-- `graph::check_graph` meets its contract. Each answer is the definition at what the tests before it said. Assumes nothing.
 use mathlib.Core.Bool.{true, _&&_}
 use mathlib.Core.Path.{_≡_, sym, ap, _∙_}
 use Prim.Native.Nat.{ℕ}

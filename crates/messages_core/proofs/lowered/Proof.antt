@@ -1,4 +1,4 @@
--- `messages_core::lowered` meets its contract: each field is found by itself, and the two least stay ordered. Assumes nothing.
+-- `messages_core::lowered` meets its contract. Each field is found by itself, and the two least stay ordered. Assumes nothing.
 use Rattle.messages_core.proofs.Least.{ordered-next}
 use borrow.Author.Needs.{needs}
 use Rattle.messages_core.proofs.lowered.Statement.{statement}

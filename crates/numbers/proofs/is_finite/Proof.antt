@@ -1,4 +1,4 @@
--- `numbers::is_finite` meets its contract: by cases on the float, the two tests against infinity are the definition. Assumes nothing.
+-- `numbers::is_finite` meets its contract. By cases on the float, the two tests against infinity are the definition. Assumes nothing.
 use lib.Ieee.{neg}
 use borrow.Author.Needs.{needs}
 use Rattle.numbers.proofs.Floats.{finite-test}

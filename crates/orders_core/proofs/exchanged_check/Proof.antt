@@ -1,6 +1,4 @@
--- `orders_core::exchanged_check` meets its contract. The loop's invariant: nothing is exchanged among the names so far, and `last` has the highest of them for each mechanism. So the marks of a
--- check's mechanisms tell whether it is late.
--- Assumes nothing.
+-- `orders_core::exchanged_check` meets its contract. The invariant: nothing is exchanged among the names so far, and `last` has the highest of them for each mechanism. So the marks of a check's mechanisms tell whether it is late. Assumes nothing.
 use mathlib.Core.Path.{_≡_, refl, _∙_, ap}
 use mathlib.Core.List.{[]}
 use Prim.Native.Nat.{ℕ, _≤_, _<_, _-_}

@@ -1,5 +1,4 @@
--- `orders_core::is_index_order` meets its contract. The loop's invariant: each place so far holds its own number.
--- Assumes nothing.
+-- `orders_core::is_index_order` meets its contract. The invariant: each place so far holds its own number. Assumes nothing.
 use mathlib.Core.Path.{_≡_, sym, _∙_}
 use mathlib.Core.Bool.{false≢true}
 use Prim.Native.Nat.{ℕ, _≤_, _<_, _-_}

@@ -1,5 +1,4 @@
--- `orders_core::is_overtaken` meets its contract. The loop's invariant: no entry so far holds more than c.
--- Assumes nothing.
+-- `orders_core::is_overtaken` meets its contract. The invariant: no entry so far holds more than c. Assumes nothing.
 use mathlib.Core.Path.{_≡_, refl, sym, _∙_, ap}
 use mathlib.Core.Bool.{false}
 use Prim.Native.Nat.{_≤_, _<_, _-_}

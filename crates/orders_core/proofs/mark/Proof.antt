@@ -1,5 +1,4 @@
--- `orders_core::mark` meets its contract. The loop's invariant: the places that the entries so far name hold c.
--- Assumes nothing.
+-- `orders_core::mark` meets its contract. The invariant: the places that the entries so far name hold c. Assumes nothing.
 use mathlib.Core.Path.{_≡_, refl, _∙_, ap}
 use Prim.Native.Nat.{_≤_, _<_, _-_}
 use native.Mathlib.Omega.{arith}

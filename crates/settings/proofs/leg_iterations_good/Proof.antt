@@ -1,5 +1,4 @@
--- `settings::leg_iterations_good` meets its contract. It answers by the tests of the definition.
--- Assumes nothing.
+-- `settings::leg_iterations_good` meets its contract. It answers by the tests of the definition. Assumes nothing.
 use Rattle.settings.specs.Settings.{legIterationsGood}
 use borrow.Author.Needs.{needs}
 use Rattle.settings.proofs.leg_iterations_good.Statement.{statement}

@@ -1,5 +1,4 @@
--- `settings::none_or_some` meets its contract. Each arm answers by the comparison that led there.
--- Assumes nothing.
+-- `settings::none_or_some` meets its contract. Each arm answers by the comparison that led there. Assumes nothing.
 use borrow.Author.Tests.{le-leb, lt-leb}
 use Rattle.settings.proofs.none_or_some.Statement.{statement}
 use Rattle.settings.proofs.none_or_some.Tie as tie

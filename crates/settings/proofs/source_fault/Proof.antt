@@ -1,5 +1,4 @@
--- `settings::source_fault` meets its contract. Each arm answers what the definition says of its source.
--- Assumes nothing.
+-- `settings::source_fault` meets its contract. Each arm answers what the definition says of its source. Assumes nothing.
 use Rattle.settings.specs.Settings.{sourceFault}
 use borrow.Author.Needs.{needs}
 use Rattle.settings.proofs.source_fault.Statement.{statement}

@@ -1,4 +1,4 @@
--- `tests_core::one_more` meets its contract: at 0 no number is one less, and above it a - 1 is b exactly where a is b + 1. Assumes nothing.
+-- `tests_core::one_more` meets its contract. At 0 no number is one less, and above it a - 1 is b exactly where a is b + 1. Assumes nothing.
 use mathlib.Core.Path.{sym}
 use Prim.Native.Nat.{suc}
 use native.Mathlib.Omega.{arith}

@@ -1,4 +1,4 @@
--- `graph::build::from_checks` meets its contract: the numbers are a table, and the bucket pass over the check lists is the rest. Assumes nothing.
+-- `graph::build::from_checks` meets its contract. The numbers are a table, and the bucket pass over the check lists is the rest. Assumes nothing.
 use mathlib.Core.Path.{ap, _∙_}
 use Prim.Native.Nat.{ℕ}
 use borrow.Author.Needs.{needs}

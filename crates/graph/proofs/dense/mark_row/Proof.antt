@@ -1,4 +1,4 @@
--- `graph::dense::mark_row` meets its contract: the loop's invariant: up to `place` stand what stood before `start` and the marked of the first m. Assumes nothing.
+-- `graph::dense::mark_row` meets its contract. The invariant: up to `place` stand what stood before `start` and the marked of the first m. Assumes nothing.
 use mathlib.Core.List.{_++_, append-nil}
 use mathlib.Core.Path.{_≡_, refl, sym, _∙_}
 use Prim.Native.Nat.{_+_, _-_, _≤_}

@@ -1,4 +1,4 @@
--- `graph::dense::mark_rows` meets its contract: the loop's invariant: up to `place` stand the entries of the first c checks, and their offsets are written. Assumes nothing.
+-- `graph::dense::mark_rows` meets its contract. The invariant: up to `place` stand the entries of the first c checks, and their offsets are written. Assumes nothing.
 use mathlib.Core.Path.{_≡_, refl, _∙_}
 use Prim.Native.Nat.{ℕ, _*_, suc, _+_, _-_, _<_, _≤_}
 use native.Mathlib.Omega.{arith}

@@ -1,4 +1,4 @@
--- `graph::model::dense_fault` meets its contract: each answer is the definition at what the tests before it said. Assumes nothing.
+-- `graph::model::dense_fault` meets its contract. Each answer is the definition at what the tests before it said. Assumes nothing.
 use mathlib.Core.Bool.{true, _&&_}
 use mathlib.Core.Path.{_≡_}
 use Prim.Native.Nat.{_*_}

@@ -1,4 +1,4 @@
--- `graph::model::mechanisms_fault` meets its contract: the loop's invariant: none of the first m refuses; a mechanism's part lies within the detectors, which the offsets cut. Assumes nothing.
+-- `graph::model::mechanisms_fault` meets its contract. The invariant: none of the first m refuses; a mechanism's part lies within the detectors, which the offsets cut. Assumes nothing.
 use mathlib.Core.Path.{_≡_, refl, sym}
 use Prim.Native.Nat.{suc, _-_, _≤_}
 use native.Mathlib.Numerals.{add-one}

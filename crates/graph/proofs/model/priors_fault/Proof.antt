@@ -1,4 +1,4 @@
--- `graph::model::priors_fault` meets its contract: the loop's invariant: none of the first m priors is refused. Assumes nothing.
+-- `graph::model::priors_fault` meets its contract. The invariant: none of the first m priors is refused. Assumes nothing.
 use mathlib.Core.Path.{_≡_, refl, sym}
 use Prim.Native.Nat.{_-_, _≤_}
 use native.Mathlib.Omega.{arith}

@@ -1,4 +1,4 @@
--- `graph::model::sparse_fault` meets its contract: each answer is the definition at what the tests before it said. Assumes nothing.
+-- `graph::model::sparse_fault` meets its contract. Each answer is the definition at what the tests before it said. Assumes nothing.
 use mathlib.Core.Bool.{Bool, _&&_}
 use mathlib.Core.Path.{_≡_, ap, _∙_}
 use lib.ListN.{length}
@@ -14,6 +14,7 @@ use Rattle.graph.proofs.model.sparse_fault.Tie as tie
 fit : (c : tie.After-both) → let a = c .before .before .before .before .before .before .before .args in c .both .result ≡ (sparseLengths (a .s .mechanisms) (a .s .edges) (length (a .priors .now)) (length (a .off .now)) (length (a .dets .now)) && a .fit)
 fit c = c .both .ensures ∙ ap (λ (b : Bool). b && c .before .before .before .before .before .before .before .args .fit) (c .before .model-fits .ensures)
 
+-- the lengths that it tells
 lengths : (c : tie.Else2) → let a = c .before .before .before .before .before .before .before .before .args in Lengths (a .s .checks) (a .s .mechanisms) (a .s .edges) (a .priors .now) (a .off .now) (a .dets .now) (a .fit)
 lengths c = lengths-told _ _ _ _ _ _ _ (was-true _ _ (fit (c .before)) (c .if2 .left))
 

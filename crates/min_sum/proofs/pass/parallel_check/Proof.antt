@@ -1,4 +1,4 @@
--- `min_sum::pass::parallel_check` meets its contract: the check's part lies within the entries; too few of them skip it, and others send. Assumes nothing.
+-- `min_sum::pass::parallel_check` meets its contract. The check's part lies within the entries; too few of them skip it, and others send. Assumes nothing.
 use Prim.Native.Nat.{_≤_}
 use native.Mathlib.Omega.{arith}
 use lib.ListN.{length}

@@ -1,4 +1,4 @@
--- `min_sum::pass::serial_check` meets its contract: the check's part lies within the entries; too few of them skip it, and others send and have their variables updated. Assumes nothing.
+-- `min_sum::pass::serial_check` meets its contract. The check's part lies within the entries; too few of them skip it, and others send and have their variables updated. Assumes nothing.
 use mathlib.Core.Path.{sym, _∙_}
 use Prim.Native.Nat.{_≤_}
 use native.Mathlib.Omega.{arith}

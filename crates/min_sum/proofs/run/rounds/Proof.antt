@@ -1,4 +1,4 @@
--- `min_sum::run::rounds` meets its contract: one round or two, from the priors; a round reads nothing of the messages before it. Assumes nothing.
+-- `min_sum::run::rounds` meets its contract. One round or two, from the priors; a round reads nothing of the messages before it. Assumes nothing.
 use mathlib.Core.Path.{_∙_}
 use borrow.Author.Needs.{needs}
 use Rattle.min_sum.proofs.Rounds.{one-round, two-rounds}
