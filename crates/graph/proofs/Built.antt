@@ -86,7 +86,7 @@ module _ (checks mechanisms : ℕ) (inc : ℕ → ℕ → Bool) where
       (i - start (mechanismsOf mechanisms inc) c, omega (arith, a, b, start-suc (mechanismsOf mechanisms inc) c), omega (arith, a))
 
   -- no check names a mechanism twice
-  pub graph-distinct : Distinct checks (offsets checks (mechanismsOf mechanisms inc)) (entries checks mechanisms inc)
+  graph-distinct : Distinct checks (offsets checks (mechanismsOf mechanisms inc)) (entries checks mechanisms inc)
   graph-distinct =
       record {
         apart = λ r i j h l m n e.
@@ -144,7 +144,7 @@ module _ (checks mechanisms : ℕ) (inc : ℕ → ℕ → Bool) where
   graph-var-offsets = offsets-same mechanisms _ _ (λ m l. sym (length-map (places (entries checks mechanisms inc) m) _) ∙ ap length (vars-of m l))
 
   -- from the check lists the second pass makes the rest, whatever wrote them
-  pub second-pass : (checkOffset checkVar checkMessage next rowAt placeAt : List ℕ) → checkVar ≡ entries checks mechanisms inc → checkOffset ≡ offsets checks (mechanismsOf mechanisms inc)
+  second-pass : (checkOffset checkVar checkMessage next rowAt placeAt : List ℕ) → checkVar ≡ entries checks mechanisms inc → checkOffset ≡ offsets checks (mechanismsOf mechanisms inc)
       → checkMessage ≡ table (length (entries checks mechanisms inc)) same → Bucketed checkOffset checks mechanisms checkVar next rowAt placeAt
       → graph checks mechanisms checkVar checkMessage checkOffset rowAt placeAt next ≡ graphOf checks mechanisms inc
   unfolding graphOf
@@ -177,7 +177,7 @@ module _ (checks mechanisms : ℕ) (off dets : List ℕ) (v : Valid checks mecha
   sparse-entries = map-joined _ checks _ _ (λ c l. mechanisms-of c)
 
   -- and its check offsets
-  pub sparse-offsets : offsets checks (places dets) ≡ offsets checks (mechanismsOf mechanisms (among off dets))
+  sparse-offsets : offsets checks (places dets) ≡ offsets checks (mechanismsOf mechanisms (among off dets))
   sparse-offsets = offsets-same checks _ _ (λ c l. sym (length-map (places dets c) _) ∙ ap length (mechanisms-of c))
 
   -- a valid model has as many edges as detectors

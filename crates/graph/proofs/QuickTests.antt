@@ -13,9 +13,10 @@ use Rattle.numbers.specs.Loops.{row}
 use Rattle.graph.specs.Graph.{Graph, entries, graphOf, told}
 use Rattle.graph.specs.Model.{rising, offsetsGood, isGraph}
 use Rattle.graph.specs.QuickTest.{low, stepGood, risesBelow, ownNumber, metGood, entryGood, entriesGood, checkGood, varGood, graphTest}
-use Rattle.graph.specs.Sound.{Offsets, Long, Rising, Met}
+use Rattle.graph.specs.Sound.{Offsets, Long, Rising}
+use Rattle.graph.proofs.Cuts.{Met}
 use Rattle.graph.proofs.ModelTests.{offsets-told}
-use Rattle.graph.proofs.Passes.{Passes, sound, graph-long, graph-passes}
+use Rattle.graph.proofs.Passes.{Passes, passes-graph, graph-long, graph-passes}
 use Rattle.graph.proofs.Sameness.{is-graph-told, is-graph-some}
 
 -- ---- the quick test
@@ -157,7 +158,7 @@ test-true edges g t =
 pub test-is : (edges : ℕ) (g : Graph) → Long edges g → graphTest edges g ≡ isGraph g
 test-is edges g f =
     ⊎-elim
-    (λ e. e ∙ sym (is-graph-some (g .checks) (g .mechanisms) g _ (sound edges g f (test-told edges g f e))))
+    (λ e. e ∙ sym (is-graph-some (g .checks) (g .mechanisms) g _ (passes-graph edges g f (test-told edges g f e))))
     (λ e.
     ⊎-elim
     (λ k. absurd (true≢false (sym (test-true edges g (passes (is-graph-told g k))) ∙ e)))

@@ -11,8 +11,7 @@ use native.Mathlib.Omega.{arith}
 use lib.ListN.{length, getD, take, drop, set, length-append, length-drop, length-set, List·getD-append}
 use lib.Seq.{length-take-le, getD-take, getD-drop, getD-append-add, ext-getD, getD-set-same, getD-set-other}
 use borrow.Author.Count.{below-more}
-use Rattle.numbers.proofs.Cases.{equal-or-not}
-use Rattle.numbers.proofs.Tests.{and-left, and-right}
+use Rattle.numbers.proofs.Cases.{equal-or-not, and-both}
 use Rattle.numbers.specs.Loops.{table, every, part, spliced}
 
 -- ---- a fold
@@ -29,7 +28,7 @@ foldl-take f s (x ∷ xs) (suc i) d h = foldl-take f (f s x) xs i d (le-of-suc-l
 -- where every one holds, each does
 pub every-at : (n : ℕ) (p : ℕ → Bool) → every n p ≡ true → (i : ℕ) → i < n → p i ≡ true
 every-at zero p h i l = absurd (not-suc-le-zero l)
-every-at (suc n) p h i l = below-more (λ k. p k ≡ true) n (every-at n p (and-left (every n p) (p n) h)) (and-right (every n p) (p n) h) i (omega arith)
+every-at (suc n) p h i l = let w = and-both (every n p) (p n) h in below-more (λ k. p k ≡ true) n (every-at n p (w .0)) (w .1) i (omega arith)
 
 -- where each holds, every one does
 pub every-true : (n : ℕ) (p : ℕ → Bool) → ((i : ℕ) → i < n → p i ≡ true) → every n p ≡ true

@@ -31,7 +31,7 @@ tail-le true n = omega arith
 tail-le false n = omega arith
 
 -- a list counts at least what its tail does
-pub count-tail : (k x : ℕ) (xs : List ℕ) → count k xs ≤ count k (x ∷ xs)
+count-tail : (k x : ℕ) (xs : List ℕ) → count k xs ≤ count k (x ∷ xs)
 unfolding count
 count-tail k x xs = tail-le (eqb x k) (count k xs)
 
@@ -153,7 +153,7 @@ pub names-below : {n : ℕ} {xs : List ℕ} → NamesOnce n xs → All (λ k. k 
 names-below {n} {xs} h = all-below n xs (h .none-else)
 
 -- as many names as there are checks
-pub names-length : {n : ℕ} {xs : List ℕ} → NamesOnce n xs → length xs ≡ n
+names-length : {n : ℕ} {xs : List ℕ} → NamesOnce n xs → length xs ≡ n
 names-length {n} {xs} h = sym (sum-length n (names-below h)) ∙ sum-ones n xs (h .once-each)
 
 -- the test is passed just where each check is named once, and nothing else is

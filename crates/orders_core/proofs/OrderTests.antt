@@ -164,7 +164,7 @@ any-and true p xs = refl
 any-and false p xs = any-never xs
 
 -- a turn of a search that finds nothing
-pub any-take : (p : ℕ → Bool) (xs : List ℕ) (i : ℕ) → i < length xs → anyOf p (take i xs) ≡ false → p (getD xs i 0) ≡ false → anyOf p (take (i + 1) xs) ≡ false
+any-take : (p : ℕ → Bool) (xs : List ℕ) (i : ℕ) → i < length xs → anyOf p (take i xs) ≡ false → p (getD xs i 0) ≡ false → anyOf p (take (i + 1) xs) ≡ false
 any-take p xs i h e k = rw (add-one, take-suc xs i 0 h) (any-false p (all-append (any-none p (take i xs) e) (cons k nil)))
 
 -- and one that does
@@ -186,7 +186,7 @@ has-all {P} v e (cons {x = x} {xs = xs} h t) = go (eqb x v) refl e (λ q. has-al
     go false q k rec = rec k
 
 -- one mark more
-pub marked-take : (x : ℕ) (l es : List ℕ) (i : ℕ) → i < length es → marked x l (take (suc i) es) ≡ set (marked x l (take i es)) (getD es i 0) x
+marked-take : (x : ℕ) (l es : List ℕ) (i : ℕ) → i < length es → marked x l (take (suc i) es) ≡ set (marked x l (take i es)) (getD es i 0) x
 unfolding marked
 marked-take x l es i h = foldl-take _ _ es i 0 h
 
@@ -274,7 +274,7 @@ unfolding highest
 tells-start entries v h = getD-replicate 65536 v 0 0 h
 
 -- the code's test is the definition's
-pub overtaken-is : (entries : ℕ → List ℕ) (before last : List ℕ) (c : ℕ) → Tells entries before last → All (λ v. v < 65536) (entries c)
+overtaken-is : (entries : ℕ → List ℕ) (before last : List ℕ) (c : ℕ) → Tells entries before last → All (λ v. v < 65536) (entries c)
     → overtaken c last (entries c) ≡ late entries before c
 unfolding overtaken late above shares
 overtaken-is entries before last c t b =
@@ -284,7 +284,7 @@ overtaken-is entries before last c t b =
     ∙ any-same _ _ (all-always (λ d. any-and (ltb c d) (λ v. has (entries d) v) (entries c)) before)
 
 -- and its marks tell of one check more
-pub tells-turn : (entries : ℕ → List ℕ) (before last : List ℕ) (c : ℕ) → length last ≡ 65536 → Tells entries before last → overtaken c last (entries c) ≡ false
+tells-turn : (entries : ℕ → List ℕ) (before last : List ℕ) (c : ℕ) → length last ≡ 65536 → Tells entries before last → overtaken c last (entries c) ≡ false
     → Tells entries (before ++ (c ∷ [])) (marked c last (entries c))
 unfolding overtaken highest
 tells-turn entries before last c l t o v h =

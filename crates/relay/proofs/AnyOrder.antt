@@ -8,8 +8,7 @@ use Rattle.refusals.specs.declared.Answer.the-variants.{Done, Refused}
 use Rattle.refusals.specs.Tests.{unless}
 use Rattle.refusals.proofs.Tests.{or-done, unless-done}
 use Rattle.graph.specs.Graph.{Graph}
-use Rattle.graph.specs.Sound.{Sound}
-use Rattle.graph.proofs.Sound.{passes-sound}
+use Rattle.graph.proofs.Sound.{Sound, passes-sound}
 use Rattle.graph.proofs.GraphTests.{graph-told}
 use Rattle.settings.specs.declared.Schedule.the-variants.{Flooding, CheckSerial}
 use Rattle.orders_core.specs.Order.{upto, NamesOnce, KeepsOrder, namesFault, exchangeFault}

@@ -82,7 +82,7 @@ fn in_order(low: f64, high: f64) -> bool
 }
 
 // n is at least 1, or there are no legs.
-fn none_or_some(n: usize, legs: usize) -> bool
+fn some_or_no_legs(n: usize, legs: usize) -> bool
     ensures { λ r. ⌜ r ≡ (leb 1 n || eqb legs 0) ⌝ }
 {
     if 1 <= n {
@@ -109,7 +109,7 @@ fn pre_good(n: usize) -> bool
 fn leg_iterations_good(legs: usize, n: usize) -> bool
     ensures { λ r. ⌜ r ≡ legIterationsGood legs n ⌝ }
 {
-    both(at_most(n, 65535), none_or_some(n, legs))
+    both(at_most(n, 65535), some_or_no_legs(n, legs))
 }
 
 // 15.
@@ -165,7 +165,7 @@ fn source_fault(source: GammaSource, legs: usize, mechanisms: usize, gammas: &[f
 {
     match source {
         GammaSource::Explicit(sets) => or_else(
-            unless(none_or_some(sets, legs), Refusal::NoGammaSets),
+            unless(some_or_no_legs(sets, legs), Refusal::NoGammaSets),
             or_else(
                 unless(
                     sets_good(sets, mechanisms, gammas.len()),

@@ -6,8 +6,7 @@ use lib.Dec.{eqb}
 use lib.ListN.{length}
 use borrow.Author.Needs.{needs}
 use borrow.Author.Tests.{not-true, not-false, eqb-true}
-use Rattle.numbers.proofs.Cases.{was-true, was-false}
-use Rattle.numbers.proofs.Tests.{and-left, and-right}
+use Rattle.numbers.proofs.Cases.{and-both, was-true, was-false}
 use Rattle.refusals.specs.Tests.{firstOf}
 use Rattle.refusals.specs.declared.Answer.{Answer}
 use Rattle.graph.specs.Graph.{Graph, graph}
@@ -38,12 +37,12 @@ fits c = was-true _ _ (fit (c .before)) (c .if2 .left)
 
 -- of the graph lists
 long : (c : tie.Else2) → Long (c .before .before .before .before .before .before .before .before .before .before .before .before .before .args .size .edges) (lists (c .before .before .before .before .before .before .before .before .before .before .before .before .before))
-long c = long-told _ (lists (c .before .before .before .before .before .before .before .before .before .before .before .before .before)) (and-right (eqb (length (c .before .before .before .before .before .before .before .before .before .before .before .before .before .args .priors .now)) (c .before .before .before .before .before .before .before .before .before .before .before .before .before .args .size .mechanisms)) _ (fits c))
+long c = long-told _ (lists (c .before .before .before .before .before .before .before .before .before .before .before .before .before)) (and-both (eqb (length (c .before .before .before .before .before .before .before .before .before .before .before .before .before .args .priors .now)) (c .before .before .before .before .before .before .before .before .before .before .before .before .before .args .size .mechanisms)) _ (fits c) .1)
 
 -- there are as many priors as mechanisms
 priors : (c : tie.Else2) {a : Answer} → a ≡ firstOf (length (c .before .before .before .before .before .before .before .before .before .before .before .before .before .args .priors .now)) (priorFault (c .before .before .before .before .before .before .before .before .before .before .before .before .before .args .priors .now))
     → a ≡ firstOf (c .before .before .before .before .before .before .before .before .before .before .before .before .before .args .size .mechanisms) (priorFault (c .before .before .before .before .before .before .before .before .before .before .before .before .before .args .priors .now))
-priors c e = e ∙ ap (λ (n : ℕ). firstOf n (priorFault (c .before .before .before .before .before .before .before .before .before .before .before .before .before .args .priors .now))) (eqb-true _ _ (and-left _ _ (fits c)))
+priors c e = e ∙ ap (λ (n : ℕ). firstOf n (priorFault (c .before .before .before .before .before .before .before .before .before .before .before .before .before .args .priors .now))) (eqb-true _ _ (and-both _ _ (fits c) .0))
 
 sizes-good-requires : tie.Need-sizes-good-requires
 sizes-good-requires c κs = search needs

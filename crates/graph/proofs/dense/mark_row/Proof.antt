@@ -4,7 +4,7 @@ use mathlib.Core.Path.{_≡_, refl, sym, _∙_}
 use Prim.Native.Nat.{_+_, _-_, _≤_}
 use native.Mathlib.Omega.{arith}
 use lib.ListN.{length, take}
-use Rattle.graph.specs.Lists.{passing, start}
+use Rattle.graph.specs.Lists.{passing}
 use Rattle.graph.specs.Steps.{nonzero, marks}
 use Rattle.graph.proofs.MatrixTurns.{row-turn-room, row-turn}
 use Rattle.graph.proofs.dense.mark_row.Statement.{statement}

@@ -8,7 +8,8 @@ use borrow.Author.Needs.{needs}
 use Rattle.numbers.proofs.Cases.{every-refuse, every-go}
 use Rattle.numbers.specs.Loops.{every}
 use Rattle.graph.specs.QuickTest.{checkGood}
-use Rattle.graph.proofs.QuickTurns.{check-is, cut-bounds}
+use Rattle.graph.proofs.Cuts.{cut-bounds}
+use Rattle.graph.proofs.QuickTurns.{check-is}
 use Rattle.graph.proofs.seven.checks_good.Statement.{statement}
 use Rattle.graph.proofs.seven.checks_good.Tie as tie
 

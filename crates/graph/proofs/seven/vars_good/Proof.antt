@@ -8,7 +8,8 @@ use Rattle.numbers.proofs.Cases.{every-refuse, every-go}
 use Rattle.numbers.specs.Loops.{every}
 use Rattle.graph.specs.Graph.{graph}
 use Rattle.graph.specs.QuickTest.{varGood}
-use Rattle.graph.proofs.QuickTurns.{var-is, cut-bounds, parts-long}
+use Rattle.graph.proofs.Cuts.{cut-bounds}
+use Rattle.graph.proofs.QuickTurns.{var-is, parts-long}
 use Rattle.graph.proofs.seven.vars_good.Statement.{statement}
 use Rattle.graph.proofs.seven.vars_good.Tie as tie
 
