@@ -28,7 +28,8 @@ use Rattle.settings.specs.declared.GammaSource.the-variants.{Explicit}
 use Rattle.settings.specs.declared.Settings.{Settings}
 use Rattle.calls_core.specs.declared.Decoded.the-variants as Decoded
 use Rattle.settings.specs.Settings.{preGood, legIterationsGood, setsGood, sourceFault, settingsFault}
-use Rattle.orders_core.specs.Order.{upto, namesOnce, namesFault, exchangeFault}
+use Rattle.numbers.specs.Loops.{upto}
+use Rattle.orders_core.specs.Order.{namesOnce, namesFault, exchangeFault}
 use Rattle.calls_core.specs.Decode.{Shot, decodeLegs}
 use Rattle.calls_core.specs.Calls.{syndromeFault, Lists, Outcome, outcome, listsFit, decodeFault, afterLegs, decodeInOrder, decode}
 use Rattle.legs_core.specs.Kept.{Reads, shotOf, shotFault}

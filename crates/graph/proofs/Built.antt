@@ -7,13 +7,12 @@ use Prim.Native.Nat.{ℕ, zero, suc, _+_, _-_, _<_, _≤_}
 use native.Mathlib.Omega.{arith}
 use lib.ListN.{length, getD, length-map}
 use Rattle.numbers.proofs.Cases.{either}
-use Rattle.numbers.proofs.Loops.{length-table, getD-table}
-use Rattle.numbers.specs.Loops.{table}
+use Rattle.numbers.proofs.Loops.{is-table, length-table, getD-table}
+use Rattle.numbers.specs.Loops.{upto}
 use Rattle.graph.specs.Graph.{graph, mechanismsOf, flipped, checksOf, entries, graphOf, among}
-use Rattle.graph.specs.Lists.{passing, joined, start, offsets, same, places}
+use Rattle.graph.specs.Lists.{passing, joined, start, offsets, places}
 use Rattle.graph.specs.Sound.{Offsets, Keys}
 use Rattle.graph.specs.Steps.{rowOf, Bucketed, Finished, Distinct, Valid}
-use Rattle.graph.proofs.BucketPass.{is-table}
 use Rattle.graph.proofs.Passing.{passing-at, passing-counts, passed, passing-same, start-zero, start-suc, length-joined, start-rises, joined-at, lies}
 use Rattle.graph.proofs.Rows.{among-yes, among-place, rows-of, map-joined}
 use Rattle.graph.proofs.Slots.{length-bucket}
@@ -145,7 +144,7 @@ module _ (checks mechanisms : ℕ) (inc : ℕ → ℕ → Bool) where
 
   -- from the check lists the second pass makes the rest, whatever wrote them
   second-pass : (checkOffset checkVar checkMessage next rowAt placeAt : List ℕ) → checkVar ≡ entries checks mechanisms inc → checkOffset ≡ offsets checks (mechanismsOf mechanisms inc)
-      → checkMessage ≡ table (length (entries checks mechanisms inc)) same → Bucketed checkOffset checks mechanisms checkVar next rowAt placeAt
+      → checkMessage ≡ upto (length (entries checks mechanisms inc)) → Bucketed checkOffset checks mechanisms checkVar next rowAt placeAt
       → graph checks mechanisms checkVar checkMessage checkOffset rowAt placeAt next ≡ graphOf checks mechanisms inc
   unfolding graphOf
   second-pass checkOffset checkVar checkMessage next rowAt placeAt em eo eg b =
@@ -158,7 +157,7 @@ module _ (checks mechanisms : ℕ) (inc : ℕ → ℕ → Bool) where
   pub finished : (checkVar checkMessage checkOffset varCheck varMessage varOffset : List ℕ) → checkVar ≡ entries checks mechanisms inc → checkOffset ≡ offsets checks (mechanismsOf mechanisms inc)
       → Finished checks mechanisms checkVar checkMessage checkOffset varCheck varMessage varOffset → graph checks mechanisms checkVar checkMessage checkOffset varCheck varMessage varOffset ≡ graphOf checks mechanisms inc
   finished checkVar checkMessage checkOffset varCheck varMessage varOffset em eo f =
-      second-pass checkOffset checkVar checkMessage varOffset varCheck varMessage em eo (f .numbers ∙ ap (λ (x : List ℕ). table (length x) same) em) (f .pass)
+      second-pass checkOffset checkVar checkMessage varOffset varCheck varMessage em eo (f .numbers ∙ ap (λ (x : List ℕ). upto (length x)) em) (f .pass)
 
   -- what the second pass asks of the first
   pub second-valid : (checkOffset checkVar : List ℕ) → checkVar ≡ entries checks mechanisms inc → checkOffset ≡ offsets checks (mechanismsOf mechanisms inc)

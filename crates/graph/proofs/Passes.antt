@@ -8,13 +8,12 @@ use native.Mathlib.Omega.{arith}
 use lib.ListN.{length, getD, length-map}
 use lib.Seq.{ext-getD}
 use Rattle.numbers.proofs.Cases.{less-or-not}
-use Rattle.numbers.proofs.Loops.{length-table, getD-table, length-part, getD-part}
-use Rattle.numbers.specs.Loops.{table, row}
+use Rattle.numbers.proofs.Loops.{is-table, map-at, length-table, getD-table, length-part, getD-part}
+use Rattle.numbers.specs.Loops.{upto, row}
 use Rattle.graph.specs.Graph.{Graph, mechanismsOf, flipped, checksOf, entries, graphOf, told}
-use Rattle.graph.specs.Lists.{has, joined, start, offsets, same, stands, places}
+use Rattle.graph.specs.Lists.{has, joined, start, offsets, stands, places}
 use Rattle.graph.specs.Sound.{Offsets, Long, Keys, Rising}
 use Rattle.graph.specs.Steps.{count, first, rowOf}
-use Rattle.graph.proofs.BucketPass.{is-table, map-at}
 use Rattle.graph.proofs.Built.{offsets-at, length-offsets, offsets-cut, graph-offsets, Entry, entry, graph-keys, graph-vars, graph-var-offsets}
 use Rattle.graph.proofs.Cuts.{offsets-rise, row-of, row-is, row-end, Met}
 use Rattle.graph.proofs.Passing.{length-rises, passed, start-suc, joined-at}
@@ -166,11 +165,11 @@ module _ (edges : ℕ) (g : Graph) (f : Long edges g) (t : Passes edges g) where
 
   -- so the lists are the graph of what they tell
   pub passes-graph : g ≡ graphOf (g .checks) (g .mechanisms) (told g)
-  unfolding graphOf same
+  unfolding graphOf
   passes-graph = graph-same _ _ _ _ _ _ _ _ _ _ _ _ _ _ check-var-is msg check-offset-is vc vm vo
     where
-      msg : g .checkMessage ≡ table (length (entries (g .checks) (g .mechanisms) (told g))) same
-      msg = is-table _ same (g .checkMessage) (f .check-message ∙ many) (λ k l. t .numbers k (omega (arith, many)))
+      msg : g .checkMessage ≡ upto (length (entries (g .checks) (g .mechanisms) (told g)))
+      msg = is-table _ (λ (k : ℕ). k) (g .checkMessage) (f .check-message ∙ many) (λ k l. t .numbers k (omega (arith, many)))
         where
           many : edges ≡ length (entries (g .checks) (g .mechanisms) (told g))
           many = sym (f .check-var) ∙ ap length check-var-is
@@ -231,7 +230,7 @@ module _ (checks mechanisms : ℕ) (inc : ℕ → ℕ → Bool) where
   graph-long =
       record {
         check-var = refl;
-        check-message = length-table _ same;
+        check-message = length-table _ (λ (k : ℕ). k);
         check-offset = length-offsets checks _;
         var-check = sym graph-length;
         var-message = length-bucket mechanisms (entries checks mechanisms inc) (graph-keys checks mechanisms inc);
@@ -277,12 +276,12 @@ module _ (checks mechanisms : ℕ) (inc : ℕ → ℕ → Bool) where
 
   -- so every graph passes
   pub graph-passes : Passes (length (entries checks mechanisms inc)) (graphOf checks mechanisms inc)
-  unfolding graphOf same
+  unfolding graphOf
   graph-passes =
       record {
         check-cut = graph-offsets checks mechanisms inc;
         check-rises = parts-rise checks mechanisms inc;
-        numbers = λ i l. getD-table _ same i 0 l;
+        numbers = λ i l. getD-table _ (λ (k : ℕ). k) i 0 l;
         var-cut = graph-var-cut checks mechanisms inc;
         var-rises = var-parts-rise;
         var-meets = var-parts-meet;

@@ -8,10 +8,10 @@ use native.Mathlib.Omega.{arith}
 use lib.ListN.{length, getD, take}
 use lib.Seq.{length-take-le, ext-getD, take-add, take-all}
 use Rattle.numbers.proofs.Cases.{either, less-or-not, equal-or-not, last-or-before}
+use Rattle.numbers.proofs.Loops.{is-table}
 use Rattle.numbers.specs.Loops.{row}
 use Rattle.graph.specs.Lists.{passing, joined, start, offsets}
 use Rattle.graph.specs.Sound.{Offsets, Rising}
-use Rattle.graph.proofs.BucketPass.{is-table}
 use Rattle.graph.proofs.Cuts.{offsets-rise}
 use Rattle.graph.proofs.Passing.{passing-none, length-yes, length-no, passing-at, passing-counts}
 

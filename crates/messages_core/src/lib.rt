@@ -9,13 +9,13 @@ ghost use lib.ListN.{length, getD, replicate};
 ghost use Rattle.numbers.specs.Floats.{zero⁺, abs, isFinite};
 ghost use Rattle.refusals.specs.declared.Refusal.the-variants.{NonFinite};
 ghost use Rattle.refusals.specs.Tests.{unless, firstOf};
-ghost use Rattle.graph.specs.Messages.{total as totalOf, scanOf, startScan, valueFault};
+ghost use Rattle.graph.specs.Messages.{total as totalOf, scanOf, startScan, lowered as loweredOf, valueFault};
 ghost use Rattle.messages_core.specs.Needs.{Entries, Ordered};
 use refusals::Answer;
 use refusals::Refusal;
 use tests_core::is_done;
 
-// An entry of a list of indices.
+// An entry of a list of indices. `graph` has the same for itself: a public crate can't pass on a function that asks something.
 pub fn at(xs: &[u32], i: usize) -> usize
     requires { ⌜ i < length (now xs) ⌝ }
     ensures { λ r. ⌜ r ≡ getD (now (xs .entry)) i 0 ⌝ }
@@ -95,7 +95,7 @@ fn next_least(message: f64, magnitude: f64, min1: f64, min2: f64) -> f64
 // The scan, one message further, with its total sign: strict comparison keeps the first minimum.
 pub fn lowered(s: Scan, sign: f64, own: usize, message: f64) -> Scan
     requires { ⌜ Ordered (s .min1) (s .min2) ⌝ }
-    ensures scan { λ r. ⌜ scanOf (r .«total_sign») (r .min1) (r .min2) (r .least) ≡ scanOf sign (cond (lt (abs message) (s .min1)) (abs message) (s .min1)) (cond (lt (abs message) (s .min1)) (s .min1) (cond (lt (abs message) (s .min2)) (abs message) (s .min2))) (cond (lt (abs message) (s .min1)) own (s .least)) ⌝ }
+    ensures scan { λ r. ⌜ scanOf (r .«total_sign») (r .min1) (r .min2) (r .least) ≡ loweredOf (scanOf (s .«total_sign») (s .min1) (s .min2) (s .least)) sign own message ⌝ }
     ensures ordered { λ r. ⌜ Ordered (r .min1) (r .min2) ⌝ }
 {
     let magnitude = numbers::magnitude(message);

@@ -1,6 +1,6 @@
 -- What a check sends, as the code sends it: the least at all positions, and then the next at the position of the least. Assumes nothing.
 use mathlib.Core.Path.{_≡_, refl, sym, _∙_}
-use mathlib.Core.Bool.{Bool, true, false, cond}
+use mathlib.Core.Bool.{Bool}
 use mathlib.Core.List.{List}
 use Prim.Native.Nat.{ℕ, _<_, _≤_}
 use native.Mathlib.Omega.{arith}
@@ -9,14 +9,10 @@ use lib.Ieee.{Float, nan}
 use lib.ListN.{length, getD, set}
 use borrow.Author.Tests.{eq-eqb, ne-eqb}
 use Rattle.numbers.specs.Floats.{_*ᶠ_}
+use Rattle.numbers.proofs.Cases.{either-way}
 use Rattle.numbers.proofs.Loops.{tables-agree, but-one}
 use Rattle.graph.specs.Messages.{scanOf}
 use Rattle.min_sum.specs.MinSum.{signWithout, sent, scan, sentTo, checkMessages}
-
--- one choice
-either-way : (b : Bool) (x : Float) → cond b x x ≡ x
-either-way true x = refl
-either-way false x = refl
 
 -- one minimum for both, in one message
 pub one-minimum : (scale sign minimum message : Float) (i : ℕ) → signWithout sign message *ᶠ minimum *ᶠ scale ≡ sent scale (scanOf sign minimum minimum 0) i message

@@ -43,8 +43,8 @@ listsFit edges g l =
 
 -- the tests before the run: 1, 2, 4, 7, 12, 20, 22. The scale is untested
 unfoldable pub beliefsFault : ℕ → List Float → Graph → List ℕ → ℕ → Lists → Answer
-beliefsFault edges prior g syndrome iterations l =
-    orElse (graphFault edges prior g)
+beliefsFault edges priors g syndrome iterations l =
+    orElse (graphFault edges priors g)
     (orElse (unless (leb iterations 65535) BadIterations)
     (orElse (unless (eqb (length syndrome) (g .checks)) SyndromeLength) (unless (listsFit edges g l) LentListLength)))
 
@@ -62,6 +62,6 @@ afterTests (Refused r) o l = outcome (Refused r) l
 
 -- `beliefs`: serial or not
 unfoldable pub beliefs : ℕ → List Float → Graph → List ℕ → ℕ → Float → Bool → Lists → Outcome
-beliefs edges prior g syndrome iterations scale serial l =
-    let o = ran edges g (minSumBp g serial scale syndrome prior iterations) in
-    afterTests (beliefsFault edges prior g syndrome iterations l) o l
+beliefs edges priors g syndrome iterations scale serial l =
+    let o = ran edges g (minSumBp g serial scale syndrome priors iterations) in
+    afterTests (beliefsFault edges priors g syndrome iterations l) o l

@@ -1,7 +1,7 @@
 -- Numbers and tests by cases, and the turns of a loop of tests. Assumes nothing.
 use mathlib.Core.Path.{_≡_, refl, sym, _∙_}
 use mathlib.Core.Logic.{_⊎_, inl, inr, ⊎-elim}
-use mathlib.Core.Bool.{Bool, true, false, not, _&&_, and-false, false≢true}
+use mathlib.Core.Bool.{Bool, true, false, not, cond, _&&_, and-false, false≢true}
 use Prim.Native.Nat.{ℕ, zero, suc, _+_, _<_, _≤_}
 use native.Mathlib.Omega.{arith}
 use native.Mathlib.Numerals.{add-one}
@@ -34,6 +34,11 @@ last-or-before i n h = ⊎-elim (λ e. inl e) (λ e. inr (omega arith)) (equal-o
 pub and-both : (a b : Bool) → (a && b) ≡ true → (a ≡ true) × (b ≡ true)
 and-both true b h = (refl, h)
 and-both false b h = absurd (false≢true h)
+
+-- both choices alike
+pub either-way {ℓ} : {A : Type ℓ} (b : Bool) (x : A) → cond b x x ≡ x
+either-way true x = refl
+either-way false x = refl
 
 -- what `if !b` that is not taken tells, where b is v
 pub was-true : (b v : Bool) → b ≡ v → not b ≡ false → v ≡ true

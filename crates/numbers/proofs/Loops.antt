@@ -2,7 +2,7 @@
 -- and of a list with a part replaced. (One step more of `turns`, `table` and `every`, at `suc n`, is how they compute.) Assumes nothing.
 use mathlib.Core.Path.{_≡_, refl, sym, ap, _∙_}
 use mathlib.Core.Bool.{Bool, true}
-use mathlib.Core.List.{List, [], _∷_, _++_, foldl}
+use mathlib.Core.List.{List, [], _∷_, _++_, map, foldl}
 use mathlib.Core.Logic.{_⊎_, inl, inr}
 use Prim.Native.Nat.{ℕ, zero, suc, _+_, _-_, _<_, _≤_}
 use native.Mathlib.Nat.{not-suc-le-zero, le-of-suc-le-suc}
@@ -80,6 +80,18 @@ module _ {ℓ} {A : Type ℓ} where
   -- its j-th element
   pub getD-part : (a e : ℕ) (xs : List A) (j : ℕ) (d : A) → a + j < e → getD (part a e xs) j d ≡ getD xs (a + j) d
   getD-part a e xs j d h = getD-take (e - a) (drop a xs) j d (omega arith) ∙ getD-drop a xs j d
+
+-- ---- lists of numbers
+
+-- a list is a table by its elements
+pub is-table : (n : ℕ) (f : ℕ → ℕ) (xs : List ℕ) → length xs ≡ n → ((i : ℕ) → i < n → getD xs i 0 ≡ f i) → xs ≡ table n f
+is-table n f xs e h = ext-getD 0 xs (table n f) (e ∙ sym (length-table n f)) (λ i l. h i (omega arith) ∙ sym (getD-table n f i 0 (omega arith)))
+
+-- an element of a mapped list
+pub map-at : (f : ℕ → ℕ) (xs : List ℕ) (i : ℕ) → i < length xs → getD (map f xs) i 0 ≡ f (getD xs i 0)
+map-at f [] i h = absurd (not-suc-le-zero h)
+map-at f (x ∷ xs) zero h = refl
+map-at f (x ∷ xs) (suc i) h = map-at f xs i (le-of-suc-le-suc h)
 
 -- ---- spliced
 

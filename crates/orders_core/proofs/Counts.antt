@@ -12,7 +12,7 @@ use borrow.Author.Tests.{eqb-true, eq-eqb, ne-eqb}
 use Rattle.orders_core.specs.Order.{count, once, NamesOnce, namesOnce}
 use Rattle.orders_core.proofs.All.{All, nil, cons}
 use Rattle.numbers.specs.Loops.{every}
-use Rattle.numbers.proofs.Tests.{and-left, and-right}
+use Rattle.numbers.proofs.Cases.{and-both}
 use Rattle.numbers.proofs.Loops.{every-at, every-true}
 
 -- of the first name
@@ -163,6 +163,7 @@ names-once-is n xs = (there, λ h. rw (names-length h, eq-eqb n n refl) (every-t
   where
     there : (eqb (length xs) n && every n (once xs)) ≡ true → NamesOnce n xs
     there h =
-        let l = eqb-true (length xs) n (and-left _ (every n (once xs)) h) in
-        let o : (k : ℕ) → k < n → count k xs ≡ 1 = λ k m. eqb-true (count k xs) 1 (every-at n (once xs) (and-right (eqb (length xs) n) _ h) k m) in
+        let w = and-both (eqb (length xs) n) (every n (once xs)) h in
+        let l = eqb-true (length xs) n (w .0) in
+        let o : (k : ℕ) → k < n → count k xs ≡ 1 = λ k m. eqb-true (count k xs) 1 (every-at n (once xs) (w .1) k m) in
         record { once-each = o; none-else = λ k m. omega (arith, sum-beyond n k xs m, sum-ones n xs o) }

@@ -1,7 +1,7 @@
 -- A turn of each loop of tests 23 and 24, and what its ways out say. Assumes nothing.
 use Prim.Native.Nat.{ℕ, zero, suc, _+_, max, _<_, _≤_}
 use mathlib.Core.Path.{_≡_, refl, sym, _∙_, ap, subst}
-use mathlib.Core.Bool.{Bool, true, false, _&&_, _||_, cond, false≢true}
+use mathlib.Core.Bool.{Bool, true, false, _&&_, _||_, and-true, and-false, or-false, or-assoc, cond, false≢true}
 use mathlib.Core.List.{List, [], _∷_, _++_, append-nil, foldl, foldl-append}
 use native.Mathlib.Omega.{arith}
 use native.Mathlib.Nat.{not-suc-le-zero, le-of-suc-le-suc}
@@ -12,7 +12,8 @@ use lib.ListN.{length, getD, set, take, drop, replicate, getD-replicate, length-
 use lib.Seq.{take-suc, drop-cons, split-at, take-all, getD-set-same, getD-set-other}
 use borrow.Author.Tests.{ltb-true, ltb-false, lt-ltb, le-ltb, eqb-true, eqb-false, ne-eqb}
 use Rattle.numbers.specs.Loops.{part, row}
-use Rattle.numbers.proofs.Loops.{foldl-take, length-part, getD-part}
+use Rattle.numbers.proofs.Cases.{either-way}
+use Rattle.numbers.proofs.Loops.{foldl-take}
 use Rattle.refusals.specs.declared.Refusal.the-variants.{OrderExchanged}
 use Rattle.refusals.specs.declared.Answer.the-variants.{Done, Refused}
 use Rattle.graph.specs.Lists.{has}
@@ -122,14 +123,10 @@ or-true : (a b : Bool) → b ≡ true → (a || b) ≡ true
 or-true true b h = refl
 or-true false b h = h
 
--- one of which neither does
-or-false : (a b : Bool) → a ≡ false → b ≡ false → (a || b) ≡ false
-or-false a b h k = rw (h, k)
-
 -- none passes
 pub any-false : (p : ℕ → Bool) {xs : List ℕ} → All (λ x. p x ≡ false) xs → anyOf p xs ≡ false
 any-false p nil = refl
-any-false p (cons {x = x} {xs = xs} h t) = or-false (p x) (anyOf p xs) h (any-false p t)
+any-false p (cons {x = x} {xs = xs} h t) = rw (h, any-false p t)
 
 -- two tests that agree
 pub any-same : (p q : ℕ → Bool) {xs : List ℕ} → All (λ x. p x ≡ q x) xs → anyOf p xs ≡ anyOf q xs
@@ -202,12 +199,8 @@ unfolding marked has
 getD-marked x l [] v h = refl
 getD-marked x l (e ∷ es) v h = getD-marked x (set l e x) es v (rw (length-set l e x) h) ∙ go (eqb e v) refl (has es v)
   where
-    twice : (b : Bool) → cond b x x ≡ x
-    twice true = refl
-    twice false = refl
-
     go : (b : Bool) → eqb e v ≡ b → (c : Bool) → cond c x (getD (set l e x) v 0) ≡ cond (b || c) x (getD l v 0)
-    go true q c = let r : getD (set l e x) v 0 ≡ x = rw (← eqb-true e v q) (getD-set-same l e x 0 (rw (eqb-true e v q) h)) in rw r (twice c)
+    go true q c = let r : getD (set l e x) v 0 ≡ x = rw (← eqb-true e v q) (getD-set-same l e x 0 (rw (eqb-true e v q) h)) in rw r (either-way c x)
     go false q c = ap (cond c x) (getD-set-other l e v x 0 (λ r. eqb-false e v q (sym r)))
 
 -- above the greater of two
@@ -222,11 +215,6 @@ above-max c t d = is-same _ _ (λ h. left (ltb c t) refl (ltb-true _ _ h)) (λ h
     right true e h = omega (arith, ltb-true c t e)
     right false e h = omega (arith, ltb-true c d h)
 
--- brackets
-or-assoc : (a b c : Bool) → (a || b || c) ≡ (a || (b || c))
-or-assoc true b c = refl
-or-assoc false b c = refl
-
 -- the highest check that has v is above c just where some check above c has v
 module _ (entries : ℕ → List ℕ) (c v : ℕ) where
   -- one check more
@@ -235,25 +223,12 @@ module _ (entries : ℕ → List ℕ) (c v : ℕ) where
 
   -- it is above c where the highest was, or where the check has v and is above c
   above-step : (b : Bool) (t d : ℕ) → ltb c (cond b (max t d) t) ≡ (ltb c t || (ltb c d && b))
-  above-step true t d = above-max c t d ∙ ap (λ z. ltb c t || z) (and-one (ltb c d))
-    where
-      and-one : (z : Bool) → z ≡ (z && true)
-      and-one true = refl
-      and-one false = refl
-  above-step false t d = none-or (ltb c t) (ltb c d)
-    where
-      none-or : (y z : Bool) → y ≡ (y || (z && false))
-      none-or true z = refl
-      none-or false true = refl
-      none-or false false = refl
+  above-step true t d = above-max c t d ∙ ap (λ z. ltb c t || z) (sym (and-true (ltb c d)))
+  above-step false t d = sym (rw (and-false (ltb c d)) (or-false (ltb c t)))
 
   -- so is it after several
   above-fold : (ds : List ℕ) (t : ℕ) → ltb c (foldl Step t ds) ≡ (ltb c t || anyOf (λ d. ltb c d && has (entries d) v) ds)
-  above-fold [] t = or-none (ltb c t)
-    where
-      or-none : (z : Bool) → z ≡ (z || false)
-      or-none true = refl
-      or-none false = refl
+  above-fold [] t = sym (or-false (ltb c t))
   above-fold (d ∷ ds) t =
       above-fold ds (Step t d)
       ∙ ap (λ z. z || anyOf (λ e. ltb c e && has (entries e) v) ds) (above-step (has (entries d) v) t d)
@@ -333,13 +308,6 @@ pub marked-turn : (x : ℕ) (l es m : List ℕ) (i v : ℕ) → i < length es �
 marked-turn x l es m i v h e q = rw (add-one, marked-take x l es i h, ← e, q)
 
 -- ---- a turn of `exchanged_check`, as the code has it
-
--- a part's entries, from all entries
-pub part-below : (n a e : ℕ) (mech : List ℕ) → Entries n mech → a ≤ e → e ≤ length mech → Entries n (part a e mech)
-part-below n a e mech h k l = record { names = λ j m. go j (omega (arith, length-part a e mech l)) }
-  where
-    go : (j : ℕ) → a + j < e → getD (part a e mech) j 0 < n
-    go j m = rw (getD-part a e mech j 0 m) (h .names (a + j) (omega arith))
 
 module _ (off mech order last : List ℕ) (i c a e next : ℕ) (h : i < length order) (q : c ≡ getD order i 0) (s : a ≡ getD off c 0) (f : e ≡ getD off (c + 1) 0) (x : next ≡ c)
     (t : Tells (λ d. row off d mech) (take i order) last) where

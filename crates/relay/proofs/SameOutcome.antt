@@ -13,7 +13,8 @@ use Rattle.graph.proofs.Sound.{Sound}
 use Rattle.settings.specs.declared.Schedule.{Schedule}
 use Rattle.settings.specs.declared.Schedule.the-variants.{Flooding, CheckSerial}
 use Rattle.relay_core.specs.Step.{State, updateCheck, computeBias, checkPass, variablePass, floodingIteration, serialCheck, serialPass, checkSerialIteration, iteration}
-use Rattle.orders_core.specs.Order.{upto, NamesOnce, exchanged, exchangeFault}
+use Rattle.numbers.specs.Loops.{upto}
+use Rattle.orders_core.specs.Order.{NamesOnce, exchanged, exchangeFault}
 use Rattle.relay_core.specs.Leg.{startLeg, runLeg, satisfied}
 use Rattle.relay_core.specs.Gammas.{gammaOf}
 use Rattle.calls_core.specs.Decode.{Shot, Run, Progress, running, finished, iterationLimit, stepOf, executedLeg, startRun, recorded, afterLeg, legs, decodeLegs}

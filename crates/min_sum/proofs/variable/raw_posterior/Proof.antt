@@ -4,7 +4,7 @@ use native.Mathlib.Omega.{arith}
 use lib.ListN.{length}
 use borrow.Author.Needs.{needs}
 use Rattle.messages_core.proofs.Parts.{bounds, part-names}
-use Rattle.min_sum.proofs.Variables.{raw-is}
+use Rattle.min_sum.proofs.Variables.{sum-is}
 use Rattle.min_sum.proofs.variable.raw_posterior.Statement.{statement}
 use Rattle.min_sum.proofs.variable.raw_posterior.Tie as tie
 
@@ -43,7 +43,7 @@ total-requires : tie.Need-total-requires
 total-requires c κs = part-names _ _ _ _ (c .before .before .before .before .before .before .before .before .pre .1 .named) (within (c .before .before) .1)
 
 returns : tie.Need-returns
-returns c = raw-is _ _ _ _ _ _ (c .before .before .before .before .before .before .before .before .before .args .v) _ _ _ (c .before .before .before .before .at .ensures) (c .before .before .before .at2 .ensures) (c .total .ensures)
+returns c = sum-is _ _ _ _ _ _ (c .before .before .before .before .before .before .before .before .before .args .v) _ _ _ (c .before .before .before .before .at .ensures) (c .before .before .before .at2 .ensures) (rw (c .total .ensures))
 
 pub raw-posterior-spec : {M : Type 1} → statement M
 raw-posterior-spec =
