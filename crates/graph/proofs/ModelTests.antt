@@ -20,9 +20,9 @@ use Rattle.refusals.specs.declared.Answer.{Answer}
 use Rattle.refusals.specs.declared.Answer.the-variants.{Done, Refused}
 use Rattle.refusals.specs.declared.Refusal.the-variants.{BadPrior, DetectorOutOfRange, DetectorRepeated}
 use Rattle.graph.specs.Lists.{has}
-use Rattle.graph.specs.Model.{rising, offsetsGood, priorGood, priorFault, detectorFault, mechanismFault}
+use Rattle.graph.specs.Model.{rising, offsetsGood, priorGood, detectorFault, mechanismFault, mechanismTest}
 use Rattle.graph.specs.Sound.{Offsets}
-use Rattle.graph.specs.Steps.{Valid, mechanismTest}
+use Rattle.graph.specs.Steps.{Valid}
 use Rattle.graph.proofs.Cuts.{Row, row-is, row-end}
 use Rattle.graph.proofs.Rows.{has-at}
 
@@ -79,7 +79,7 @@ module _ (checks mechanisms : ℕ) (priors : List Float) (off dets : List ℕ) (
   -- of the place i of m's part
   at-told : (m i : ℕ) → Row mechanisms (length dets) off o i m
       → (getD dets i 0 < checks) × ((j : ℕ) → getD off m 0 ≤ j → j < i → getD dets j 0 ≡ getD dets i 0 → ⊥)
-  unfolding mechanismFault mechanismTest priorFault
+  unfolding mechanismFault
   at-told m i r =
       let a = getD off m 0 in
       let e = getD off (suc m) 0 in
@@ -154,5 +154,5 @@ mech-rest checks m x ds a h e = rw (← h) e
 -- a mechanism of a model, its detectors cut out by the code
 pub mech-at : (checks : ℕ) (priors : List Float) (off dets : List ℕ) (m a e : ℕ) (x : Answer) → a ≡ getD off m 0 → e ≡ getD off (m + 1) 0
     → x ≡ mechanismTest checks m (getD priors m nan) (take (e - a) (drop a dets)) → x ≡ mechanismFault checks priors off dets m
-unfolding mechanismFault mechanismTest priorFault
+unfolding mechanismFault
 mech-at checks priors off dets m a e x p q h = let w : e ≡ getD off (suc m) 0 = rw add-one at q in rw (← p, ← w) h

@@ -28,7 +28,7 @@ unfolding add sub mul neg lt le eq ofInt
     Lists.has Lists.passing Lists.joined Lists.start Lists.offsets Lists.stands Lists.places Lists.sameList
     Graph.mechanismsOf Graph.flipped Graph.checksOf Graph.entries Graph.graphOf Graph.among Graph.marked Graph.told
     Messages.fromVariables Messages.cleared Messages.lowered Messages.total Messages.valueFault Messages.posteriorFault
-    Model.countsGood Model.edgesGood Model.sizesGood Model.graphFits Model.sparseFits Model.denseFits Model.rising Model.offsetsGood Model.priorGood Model.priorFault Model.detectorFault Model.mechanismFault Model.sameGraph Model.isGraph Model.built Model.sparseFault Model.buildSparse Model.countEdges Model.denseFault Model.buildDense Model.graphFault
+    Model.graphFits Model.rising Model.offsetsGood Model.priorGood Model.priorFault Model.detectorFault Model.mechanismTest Model.mechanismFault Model.sameGraph Model.isGraph Model.built Model.sparseFault Model.buildSparse Model.countEdges Model.denseFault Model.buildDense Model.graphFault
     MinSum.flippedBy MinSum.scanned MinSum.scan MinSum.signWithout MinSum.sent MinSum.sentTo MinSum.checkMessages MinSum.skipped MinSum.updateCheck MinSum.damped MinSum.written MinSum.rawPosterior MinSum.updateVariable MinSum.parallelCheck MinSum.checksTo MinSum.variablesTo MinSum.parallelIteration MinSum.serialCheck MinSum.serialTo MinSum.serialIteration MinSum.mixed MinSum.averagedTo MinSum.averaged MinSum.weightOf MinSum.chosen MinSum.chosenTo MinSum.startRound MinSum.turned MinSum.turn MinSum.roundTo MinSum.round MinSum.rounds MinSum.minSumBp
     Beliefs.listsFit Beliefs.beliefsFault Beliefs.ran Beliefs.beliefs
     Settings.alphaGood Settings.preGood Settings.legIterationsGood Settings.intervalGood Settings.setsGood Settings.gammaFault Settings.sourceFault Settings.settingsFault

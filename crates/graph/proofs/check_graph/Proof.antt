@@ -10,9 +10,8 @@ use Rattle.numbers.proofs.Cases.{and-both, was-true, was-false}
 use Rattle.refusals.specs.Tests.{firstOf}
 use Rattle.refusals.specs.declared.Answer.{Answer}
 use Rattle.graph.specs.Graph.{Graph, graph}
-use Rattle.graph.specs.Model.{graphFits, priorFault}
+use Rattle.graph.specs.Model.{graphFits, priorFault, sizesGood}
 use Rattle.graph.specs.Sound.{Long}
-use Rattle.graph.specs.Steps.{fewSizes}
 use Rattle.graph.proofs.GraphTests.{fault-1, fault-2, fault-4, fault-7, fault-none}
 use Rattle.graph.proofs.SparseTests.{long-told}
 use Rattle.graph.proofs.check_graph.Statement.{statement}
@@ -23,7 +22,7 @@ abbrev lists : tie.Start → Graph
 lists c = let a = c .args in graph (a .size .checks) (a .size .mechanisms) (a .check-var .now) (a .check-message .now) (a .check-offset .now) (a .var-check .now) (a .var-message .now) (a .var-offset .now)
 
 -- what the first test told
-sizes : (c : tie.Else1) → let s = c .before .before .before .before .before .before .before .before .before .args .size in fewSizes (s .checks) (s .mechanisms) (s .edges) ≡ true
+sizes : (c : tie.Else1) → let s = c .before .before .before .before .before .before .before .before .before .args .size in sizesGood (s .checks) (s .mechanisms) (s .edges) ≡ true
 sizes c = was-true _ _ (c .before .sizes-good .ensures) (c .if1 .left)
 
 -- what the second asks
