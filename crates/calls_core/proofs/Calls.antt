@@ -20,7 +20,8 @@ use Rattle.refusals.proofs.Tests.{done-is, or-done, unless-done}
 use Rattle.graph.specs.Graph.{Graph, graph}
 use Rattle.graph.specs.Model.{graphFault}
 use Rattle.graph.proofs.GraphTests.{graph-told}
-use Rattle.messages_core.specs.Needs.{Entries, Walks, walked, ofVariables}
+use Rattle.graph.specs.Sound.{Keys}
+use Rattle.messages_core.specs.Needs.{Walks, walked, ofVariables}
 use Rattle.messages_core.proofs.Parts.{walks-both}
 use Rattle.messages_core.proofs.Walks.{graph-walks}
 use Rattle.settings.specs.declared.Schedule.{Schedule}
@@ -116,11 +117,11 @@ stepped-counted edges edges′ checks checks′ mechanisms mechanisms′ cv co v
 -- ---- the single iteration
 
 -- an order that names each check once names checks
-names-entries : (n : ℕ) (order : List ℕ) → namesOnce n order ≡ true → Entries n order
-names-entries n order h = record { names = λ k l. all-at (names-below (names-once-is n order .0 h)) k l }
+names-entries : (n : ℕ) (order : List ℕ) → namesOnce n order ≡ true → Keys n order
+names-entries n order h = record { small = λ k l. all-at (names-below (names-once-is n order .0 h)) k l }
 
 -- as many, however they are counted
-entries-counted : (n m : ℕ) (xs : List ℕ) → n ≡ m → Entries m xs → Entries n xs
+entries-counted : (n m : ℕ) (xs : List ℕ) → n ≡ m → Keys m xs → Keys n xs
 entries-counted n m xs e h = rw e h
 
 -- a call that its tests refuse leaves the lists
@@ -135,7 +136,7 @@ pub record Told (edges checks mechanisms : ℕ) (cv co vm vo : List ℕ) (prior 
   pub mechanisms-many : length prior ≡ mechanisms
   pub check-walks : Walks (length syndrome) (length prior) cv co
   pub var-walks : Walks (length prior) (length cv) vm vo
-  pub named : Entries (length syndrome) order
+  pub named : Keys (length syndrome) order
   pub gamma-many : length gamma ≡ length prior
   pub bias-many : length (l .bias) ≡ length prior
   pub posterior-many : length (l .now .posterior) ≡ length prior

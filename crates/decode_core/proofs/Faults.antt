@@ -19,7 +19,8 @@ use Rattle.refusals.proofs.Tests.{done-is, or-first, or-second, or-done, unless
 use Rattle.graph.specs.Graph.{Graph, graph}
 use Rattle.graph.specs.Model.{graphFault}
 use Rattle.graph.proofs.GraphTests.{graph-told}
-use Rattle.messages_core.specs.Needs.{Offsets, Entries, ofChecks}
+use Rattle.graph.specs.Sound.{Offsets, Keys}
+use Rattle.messages_core.specs.Needs.{ofChecks}
 use Rattle.messages_core.proofs.Parts.{walks-both, entries-along}
 use Rattle.messages_core.proofs.Walks.{graph-walks}
 use Rattle.settings.specs.declared.Schedule.{Schedule}
@@ -172,7 +173,7 @@ module _ (edges checks mechanisms : ℕ) (t : Settings) (flat : List Float) (see
   abbrev X : List ℕ → Shot
   X o = whole t flat seed syndrome prior cv cm co vc vm vo o checks mechanisms
 
-  pub told : shotFault edges (X order) l ≡ Done → Entries checks order → Told edges checks mechanisms t flat syndrome prior cv co vm vo order l
+  pub told : shotFault edges (X order) l ≡ Done → Keys checks order → Told edges checks mechanisms t flat syndrome prior cv co vm vo order l
   unfolding shotFault listsFit syndromeFault
   told h names =
       let t1 = or-done _ _ h in
@@ -221,12 +222,12 @@ module _ (edges checks mechanisms : ℕ) (t : Settings) (flat : List Float) (see
 
   -- what they ask of the graph
   pub order-asks : (a : Answer) (b : Bool) → a ≡ shotFault edges (X []) l → b ≡ isDone a → not b ≡ false
-      → (checks ≤ 65536) × (Offsets checks (length cv) co × Entries 65536 cv)
+      → (checks ≤ 65536) × (Offsets checks (length cv) co × Keys 65536 cv)
   unfolding shotFault
   order-asks a b e d h =
       let g = graph-told edges prior (graph checks mechanisms cv cm co vc vm vo) (or-done _ _ (sym e ∙ done-is a (sym d ∙ not-false b h)) .0) in
       let w = graph-walks (graph checks mechanisms cv cm co vc vm vo) (g .is-graph) .0 in
-      (g .checks-few, (w .parts, record { names = λ k i. let q : getD cv k 0 < mechanisms = w .named .names k i in omega (arith, q, g .mechanisms-few) }))
+      (g .checks-few, (w .parts, record { small = λ k i. let q : getD cv k 0 < mechanisms = w .named .small k i in omega (arith, q, g .mechanisms-few) }))
 
   -- a shot that is refused before them
   pub fault-before : (a : Answer) (b : Bool) → a ≡ shotFault edges (X []) l → b ≡ isDone a → not b ≡ true → a ≡ decodeFault edges (X order) l
@@ -262,7 +263,7 @@ module _ (edges checks mechanisms : ℕ) (t : Settings) (flat : List Float) (see
   in-order-told a e d =
       let w = or-done _ _ (sym (fault-joined edges (X order) l) ∙ sym e ∙ d) in
       let n = names-below (names-once-is checks order .0 (unless-done _ _ (or-done _ _ (w .1) .0))) in
-      told (w .0) (record { names = λ k i. all-at n k i })
+      told (w .0) (record { small = λ k i. all-at n k i })
 
   pub in-order-ran : (a : Answer) (o : Outcome) → a ≡ decodeFault edges (X order) l → a ≡ Done
       → o ≡ afterLegs (length cv) (shotOf t flat seed syndrome prior cv co vm vo order) (decodeLegs (shotOf t flat seed syndrome prior cv co vm vo order)) l

@@ -8,20 +8,19 @@ use lib.ListN.{length, getD}
 use Rattle.numbers.specs.Loops.{row}
 use Rattle.graph.specs.Graph.{Graph}
 use Rattle.graph.specs.Model.{isGraph}
-use Rattle.graph.specs.Sound as Sound
-use Rattle.graph.specs.Sound.{Rising}
+use Rattle.graph.specs.Sound.{Offsets, Rising}
 use Rattle.graph.specs.Steps.{rowOf}
-use Rattle.graph.proofs.Cuts.{row-end, row-is}
+use Rattle.graph.proofs.Cuts.{row-is}
 use Rattle.graph.proofs.Passes.{row-length, row-at}
 use Rattle.graph.proofs.Sound.{passes-sound}
 use Rattle.messages_core.specs.Needs.{Walks}
 
 -- a list cut into parts, whose entries rise within each part and name one of n
-walk : (rows n : ℕ) (entries off : List ℕ) → Sound.Offsets rows (length entries) off → ((r : ℕ) → r < rows → Rising n (row off r entries)) → Walks rows n entries off
+walk : (rows n : ℕ) (entries off : List ℕ) → Offsets rows (length entries) off → ((r : ℕ) → r < rows → Rising n (row off r entries)) → Walks rows n entries off
 walk rows n entries off o s =
     record {
-      parts = record { many = o .many; rises = o .rises; ends = row-end rows (length entries) off o };
-      named = record { names = named };
+      parts = o;
+      named = record { small = named };
       rising = record { row-rises = λ r h. record { rises = s r h .rises } };
     }
   where

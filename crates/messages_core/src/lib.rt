@@ -10,7 +10,8 @@ ghost use Rattle.numbers.specs.Floats.{zero⁺, abs, isFinite};
 ghost use Rattle.refusals.specs.declared.Refusal.the-variants.{NonFinite};
 ghost use Rattle.refusals.specs.Tests.{unless, firstOf};
 ghost use Rattle.graph.specs.Messages.{total as totalOf, scanOf, startScan, lowered as loweredOf, valueFault};
-ghost use Rattle.messages_core.specs.Needs.{Entries, Ordered};
+ghost use Rattle.graph.specs.Sound.{Keys};
+ghost use Rattle.messages_core.specs.Needs.{Ordered};
 use refusals::Answer;
 use refusals::Refusal;
 use tests_core::is_done;
@@ -112,7 +113,7 @@ pub fn lowered(s: Scan, sign: f64, own: usize, message: f64) -> Scan
 
 // The sum of the messages that the entries name, in their order, from -0.0.
 pub fn total(entries: &[u32], c_to_v: &[f64]) -> f64
-    requires { ⌜ Entries (length (now «c_to_v»)) (now entries) ⌝ }
+    requires { ⌜ Keys (length (now «c_to_v»)) (now entries) ⌝ }
     ensures { λ r. ⌜ r ≡ totalOf (now («c_to_v» .entry)) (now (entries .entry)) ⌝ }
 {
     let mut sum: f64 = -0.0;
@@ -138,7 +139,7 @@ pub fn clear(xs: &mut [f64])
 
 // Each message of a variable set to that variable's value.
 pub fn from_variables(check_var: &[u32], values: &[f64], v_to_c: &mut [f64])
-    requires { ⌜ Entries (length (now values)) (now «check_var») ⌝ }
+    requires { ⌜ Keys (length (now values)) (now «check_var») ⌝ }
     requires { ⌜ length (now «v_to_c») ≡ length (now «check_var») ⌝ }
     ensures { λ _. ⌜ now («v_to_c» .exit) ≡ map (λ v. getD (now (values .entry)) v nan) (now («check_var» .entry)) ⌝ }
 {

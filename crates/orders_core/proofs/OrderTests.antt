@@ -17,7 +17,7 @@ use Rattle.numbers.proofs.Loops.{foldl-take}
 use Rattle.refusals.specs.declared.Refusal.the-variants.{OrderExchanged}
 use Rattle.refusals.specs.declared.Answer.the-variants.{Done, Refused}
 use Rattle.graph.specs.Lists.{has}
-use Rattle.messages_core.specs.Needs.{Entries}
+use Rattle.graph.specs.Sound.{Keys}
 use Rattle.orders_core.specs.Order.{count, namesOnce, anyOf, shares, above, late, exchanged}
 use Rattle.orders_core.specs.Marks.{highest, marked, overtaken}
 use Rattle.orders_core.proofs.All.{All, nil, cons, all-map, all-always, all-places, all-at, all-append, not-so, any-none}
@@ -320,17 +320,17 @@ module _ (off mech order last : List ℕ) (i c a e next : ℕ) (h : i < length o
   part-is = rw (s, f, add-one)
 
   -- so what the code finds says whether the check is late
-  found-late : (b : Bool) → b ≡ overtaken next last (part a e mech) → Entries 65536 (part a e mech) → b ≡ late entries (take i order) c
+  found-late : (b : Bool) → b ≡ overtaken next last (part a e mech) → Keys 65536 (part a e mech) → b ≡ late entries (take i order) c
   found-late b o m =
-      let m′ : Entries 65536 (entries c) = subst (Entries 65536) part-is m in
-      o ∙ ap (overtaken next last) part-is ∙ ap (λ y. overtaken y last (entries c)) x ∙ overtaken-is entries (take i order) last c t (all-places _ (m′ .names))
+      let m′ : Keys 65536 (entries c) = subst (Keys 65536) part-is m in
+      o ∙ ap (overtaken next last) part-is ∙ ap (λ y. overtaken y last (entries c)) x ∙ overtaken-is entries (take i order) last c t (all-places _ (m′ .small))
 
   -- a late one is the answer
-  pub test-found : (b : Bool) → b ≡ overtaken next last (part a e mech) → Entries 65536 (part a e mech) → b ≡ true → Refused (OrderExchanged c) ≡ exchanged entries (take i order) (drop i order)
+  pub test-found : (b : Bool) → b ≡ overtaken next last (part a e mech) → Keys 65536 (part a e mech) → b ≡ true → Refused (OrderExchanged c) ≡ exchanged entries (take i order) (drop i order)
   test-found b o m y = exchange-found entries order i c h q (sym (found-late b o m) ∙ y)
 
   -- after another the search goes on
-  pub test-goes-on : (b : Bool) → b ≡ overtaken next last (part a e mech) → Entries 65536 (part a e mech) → b ≡ false
+  pub test-goes-on : (b : Bool) → b ≡ overtaken next last (part a e mech) → Keys 65536 (part a e mech) → b ≡ false
       → exchanged entries (take (i + 1) order) (drop (i + 1) order) ≡ exchanged entries (take i order) (drop i order)
   test-goes-on b o m y = exchange-turn entries order i c h q (sym (found-late b o m) ∙ y)
 
