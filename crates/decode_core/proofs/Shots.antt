@@ -119,12 +119,13 @@ module _ {A : Type 0} where
 -- an array of n that is long enough for k, its front counted up
 pub counted-many : (n k : ℕ) (xs ys : List ℕ) → k ≤ n → length xs ≡ n → ys ≡ upto (length (take (k - 0) xs)) → k ≤ length (ys ++ drop (k - 0) xs)
 counted-many n k xs ys h e q =
-    let m : length ys ≡ k = ap length q ∙ length-table _ (λ (k : ℕ). k) ∙ rw sub-zero (length-take-le k xs (omega arith)) in
+    let c : length (take (k - 0) xs) ≡ k = rw sub-zero (length-take-le k xs (omega arith)) in
+    let m : length ys ≡ k = ap length q ∙ length-table _ (λ (i : ℕ). i) ∙ c in
     rw (length-append, m) (omega arith)
 
 -- and lent on
 pub counted-is : (n k : ℕ) (xs ys : List ℕ) → k ≤ n → length xs ≡ n → ys ≡ upto (length (take (k - 0) xs)) → take (k - 0) (ys ++ drop (k - 0) xs) ≡ upto k
 counted-is n k xs ys h e q =
     let c : length (take (k - 0) xs) ≡ k = rw sub-zero (length-take-le k xs (omega arith)) in
-    let m : length ys ≡ k = ap length q ∙ length-table _ (λ (k : ℕ). k) ∙ c in
+    let m : length ys ≡ k = ap length q ∙ length-table _ (λ (i : ℕ). i) ∙ c in
     front-back k ys _ m ∙ q ∙ ap upto c
