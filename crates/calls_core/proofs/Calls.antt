@@ -20,7 +20,8 @@ use Rattle.refusals.proofs.Tests.{done-is, or-done, unless-done}
 use Rattle.graph.specs.Graph.{Graph, graph}
 use Rattle.graph.specs.Model.{graphFault}
 use Rattle.graph.proofs.GraphTests.{graph-told}
-use Rattle.messages_core.specs.Needs.{Entries, Walks, walked, ofVariables}
+use Rattle.graph.specs.Sound.{Keys}
+use Rattle.messages_core.specs.Needs.{Walks, walked, ofVariables}
 use Rattle.messages_core.proofs.Parts.{walks-both, entries-along}
 use Rattle.messages_core.proofs.Walks.{graph-walks}
 use Rattle.settings.specs.declared.Schedule.{Schedule}
@@ -126,7 +127,7 @@ pub record Passed (edges checks mechanisms : ℕ) (cv co vm vo : List ℕ) (prio
   pub mechanisms-many : length prior ≡ mechanisms
   pub check-walks : Walks (length syndrome) (length prior) cv co
   pub var-walks : Walks (length prior) (length cv) vm vo
-  pub named : Entries (length syndrome) order
+  pub named : Keys (length syndrome) order
   pub gamma-many : length gamma ≡ length prior
   pub bias-many : length (l .bias) ≡ length prior
   pub posterior-many : length (l .now .posterior) ≡ length prior

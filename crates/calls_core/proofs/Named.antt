@@ -5,10 +5,11 @@ use mathlib.Core.List.{List}
 use Rattle.refusals.specs.declared.Answer.the-variants.{Done}
 use Rattle.refusals.specs.Tests.{unless, orElse}
 use Rattle.refusals.proofs.Tests.{unless-done}
+use Rattle.numbers.specs.Loops.{upto}
 use Rattle.graph.specs.Graph.{Graph}
-use Rattle.messages_core.specs.Needs.{Entries}
+use Rattle.graph.specs.Sound.{Keys}
 use Rattle.settings.specs.declared.Schedule.{Schedule}
-use Rattle.orders_core.specs.Order.{upto, NamesOnce, namesFault, exchangeFault}
+use Rattle.orders_core.specs.Order.{NamesOnce, namesFault, exchangeFault}
 use Rattle.orders_core.proofs.All.{all-at}
 use Rattle.orders_core.proofs.Counts.{names-below, names-once-is}
 use Rattle.orders_core.proofs.OrderWords.{upto-names, index-taken}
@@ -20,8 +21,8 @@ module _ (checks : ℕ) where
   names-told order h = names-once-is checks order .0 (unless-done _ _ h)
 
   -- and so names checks
-  pub names-entries : (order : List ℕ) → namesFault checks order ≡ Done → Entries checks order
-  names-entries order h = record { names = λ k l. all-at (names-below (names-told order h)) k l }
+  pub names-entries : (order : List ℕ) → namesFault checks order ≡ Done → Keys checks order
+  names-entries order h = record { small = λ k l. all-at (names-below (names-told order h)) k l }
 
   -- one that names each check once is taken
   pub names-taken : (order : List ℕ) → NamesOnce checks order → namesFault checks order ≡ Done

@@ -8,7 +8,7 @@ use lib.Dec.{eqb, leb, ltb}
 use lib.Ieee.{Float, nan}
 use lib.ListN.{length, getD, replicate}
 use Rattle.numbers.specs.Floats.{zero⁺, isFinite}
-use Rattle.numbers.specs.Loops.{every, over}
+use Rattle.numbers.specs.Loops.{every, over, upto}
 use Rattle.refusals.specs.declared.Refusal.the-variants.{BadAlpha, SyndromeLength, SyndromeNotBinary, LentListLength, StateNotFinite, NonFinite}
 use Rattle.refusals.specs.declared.Answer.{Answer}
 use Rattle.refusals.specs.declared.Answer.the-variants.{Done, Refused}
@@ -22,7 +22,7 @@ use Rattle.calls_core.specs.declared.LegRecord.{LegRecord}
 use Rattle.calls_core.specs.declared.LegRecord.the-variants as LegRecord
 use Rattle.settings.specs.Settings.{alphaGood, settingsFault}
 use Rattle.relay_core.specs.Step.{State, state, iteration}
-use Rattle.orders_core.specs.Order.{upto, namesFault, exchangeFault}
+use Rattle.orders_core.specs.Order.{namesFault, exchangeFault}
 use Rattle.calls_core.specs.Decode.{Shot, Run, Ended, decoded, refused, decodeLegs, correctionOf}
 
 -- 21 for one check: its byte is 0 or 1

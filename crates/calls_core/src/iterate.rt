@@ -6,7 +6,8 @@ ghost use lib.ListN.{length, replicate};
 ghost use Rattle.numbers.specs.Floats.{zero⁺};
 ghost use Rattle.numbers.specs.Loops.{every};
 ghost use Rattle.refusals.specs.Tests.{unlessRefused};
-ghost use Rattle.messages_core.specs.Needs.{Entries, Walks, walked, ofVariables};
+ghost use Rattle.graph.specs.Sound.{Keys};
+ghost use Rattle.messages_core.specs.Needs.{Walks, walked, ofVariables};
 ghost use Rattle.relay_core.specs.Step.{state, iteration};
 ghost use Rattle.calls_core.specs.Calls.{messageFinite, mechanismFinite, stepEnd, stepLists, stepOutcome, stepped as steppedOf};
 use messages_core::at;
@@ -21,7 +22,7 @@ use tests_core::is_done;
 
 // Both messages that each of these entries names are finite.
 fn messages_finite(entries: &[u32], c_to_v: &[f64], v_to_c: &[f64]) -> bool
-    requires { ⌜ Entries (length (now «c_to_v»)) (now entries) ⌝ }
+    requires { ⌜ Keys (length (now «c_to_v»)) (now entries) ⌝ }
     requires { ⌜ length (now «v_to_c») ≡ length (now «c_to_v») ⌝ }
     ensures { λ r. ⌜ r ≡ every (length (now (entries .entry))) (messageFinite (state (now («c_to_v» .entry)) (now («v_to_c» .entry)) []) (now (entries .entry))) ⌝ }
 {
@@ -120,7 +121,7 @@ pub fn stepped(
 ) -> Answer
     requires { ⌜ Walks (length (now syndrome)) (length (now priors)) (now «check_var») (now «check_offset») ⌝ }
     requires { ⌜ Walks (length (now priors)) (length (now «check_var»)) (now «var_message») (now «var_offset») ⌝ }
-    requires { ⌜ Entries (length (now syndrome)) (now order) ⌝ }
+    requires { ⌜ Keys (length (now syndrome)) (now order) ⌝ }
     requires { ⌜ (length (now gamma) ≡ length (now priors)) × (length (now bias) ≡ length (now priors)) × (length (now posterior) ≡ length (now priors)) ⌝ }
     requires { ⌜ (length (now «c_to_v») ≡ length (now «check_var»)) × (length (now «v_to_c») ≡ length (now «check_var»)) ⌝ }
     ensures { λ r. ⌜ stepOutcome r (stepLists (state (now («c_to_v» .exit)) (now («v_to_c» .exit)) (now (posterior .exit))) (now (bias .exit))) ≡ steppedOf (length (now («check_var» .entry))) (walked (length (now (syndrome .entry))) (length (now (priors .entry))) (now («check_var» .entry)) (now («check_offset» .entry)) (now («var_message» .entry)) (now («var_offset» .entry))) (iteration schedule (walked (length (now (syndrome .entry))) (length (now (priors .entry))) (now («check_var» .entry)) (now («check_offset» .entry)) (now («var_message» .entry)) (now («var_offset» .entry))) alpha (now (syndrome .entry)) (now (priors .entry)) (now (gamma .entry)) (now (order .entry)) (state (now («c_to_v» .entry)) (now («v_to_c» .entry)) (now (posterior .entry)))) ⌝ }

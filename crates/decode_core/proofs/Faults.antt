@@ -19,7 +19,8 @@ use Rattle.refusals.proofs.Tests.{done-is, or-first, or-second, or-done, unless
 use Rattle.graph.specs.Graph.{Graph, graph}
 use Rattle.graph.specs.Model.{graphFault}
 use Rattle.graph.proofs.GraphTests.{graph-told}
-use Rattle.messages_core.specs.Needs.{Offsets, Entries, ofChecks}
+use Rattle.graph.specs.Sound.{Offsets, Keys}
+use Rattle.messages_core.specs.Needs.{ofChecks}
 use Rattle.messages_core.proofs.Parts.{walks-both, entries-along}
 use Rattle.messages_core.proofs.Walks.{graph-walks}
 use Rattle.settings.specs.declared.Schedule.{Schedule}
@@ -28,7 +29,8 @@ use Rattle.settings.specs.declared.GammaSource.the-variants.{Explicit}
 use Rattle.settings.specs.declared.Settings.{Settings}
 use Rattle.calls_core.specs.declared.Decoded.the-variants as Decoded
 use Rattle.settings.specs.Settings.{preGood, legIterationsGood, setsGood, sourceFault, settingsFault}
-use Rattle.orders_core.specs.Order.{upto, namesOnce, namesFault, exchangeFault}
+use Rattle.numbers.specs.Loops.{upto}
+use Rattle.orders_core.specs.Order.{namesOnce, namesFault, exchangeFault}
 use Rattle.calls_core.proofs.Named.{names-entries, index-passes}
 use Rattle.calls_core.specs.Decode.{Shot, decodeLegs}
 use Rattle.calls_core.specs.Calls.{syndromeFault, Lists, Outcome, outcome, listsFit, decodeFault, afterLegs, decodeInOrder, decode}
@@ -168,7 +170,7 @@ module _ (edges checks mechanisms : ℕ) (t : Settings) (flat : List Float) (see
 
   module _ (order : List ℕ) (l : Lists) where
     -- read off the tests of both calls, with an order that names checks
-    pub passed : shotFault edges (X order) l ≡ Done → Entries checks order → Passed edges checks mechanisms t flat syndrome prior cv co vm vo order l
+    pub passed : shotFault edges (X order) l ≡ Done → Keys checks order → Passed edges checks mechanisms t flat syndrome prior cv co vm vo order l
     unfolding shotFault listsFit syndromeFault
     passed h names =
         let t1 = or-done _ _ h in
@@ -217,12 +219,12 @@ module _ (edges checks mechanisms : ℕ) (t : Settings) (flat : List Float) (see
 
     -- what they ask of the graph
     pub order-asks : (a : Answer) (b : Bool) → a ≡ shotFault edges (X []) l → b ≡ isDone a → not b ≡ false
-        → (checks ≤ 65536) × (Offsets checks (length cv) co × Entries 65536 cv)
+        → (checks ≤ 65536) × (Offsets checks (length cv) co × Keys 65536 cv)
     unfolding shotFault
     order-asks a b e d h =
         let g = graph-told edges prior (graph checks mechanisms cv cm co vc vm vo) (or-done _ _ (sym e ∙ done-is a (sym d ∙ not-false b h)) .0) in
         let w = graph-walks (graph checks mechanisms cv cm co vc vm vo) (g .is-graph) .0 in
-        (g .checks-few, (w .parts, record { names = λ k i. let q : getD cv k 0 < mechanisms = w .named .names k i in omega (arith, q, g .mechanisms-few) }))
+        (g .checks-few, (w .parts, record { small = λ k i. let q : getD cv k 0 < mechanisms = w .named .small k i in omega (arith, q, g .mechanisms-few) }))
 
     -- a shot that is refused before them
     pub fault-before : (a : Answer) (b : Bool) → a ≡ shotFault edges (X []) l → b ≡ isDone a → not b ≡ true → a ≡ decodeFault edges (X order) l

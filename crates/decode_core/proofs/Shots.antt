@@ -16,8 +16,8 @@ use Rattle.numbers.specs.Floats.{zero⁺}
 use Rattle.numbers.proofs.Cases.{either}
 use Rattle.settings.specs.declared.Settings.{Settings}
 use Rattle.calls_core.specs.declared.Decoded.{Decoded}
-use Rattle.orders_core.specs.Order.{upto}
-use Rattle.orders_core.proofs.OrderWords.{upto-length}
+use Rattle.numbers.specs.Loops.{upto}
+use Rattle.numbers.proofs.Loops.{length-table}
 use Rattle.calls_core.specs.Decode.{Shot, Run, Ended, decoded, refused, decodeLegs, correctionOf}
 use Rattle.calls_core.specs.Calls.{Lists, Outcome, outcome, answered, leftBy, zeroed, afterLegs}
 use Rattle.legs_core.specs.Kept.{shotOf, Reads, answerOf, isRefused, Results, results, resultsOf, started}
@@ -121,12 +121,13 @@ module _ {A : Type 0} where
 -- an array of n that is long enough for k, its front counted up
 pub counted-many : (n k : ℕ) (xs ys : List ℕ) → k ≤ n → length xs ≡ n → ys ≡ upto (length (take (k - 0) xs)) → k ≤ length (ys ++ drop (k - 0) xs)
 counted-many n k xs ys h e q =
-    let m : length ys ≡ k = ap length q ∙ upto-length _ ∙ rw sub-zero (length-take-le k xs (omega arith)) in
+    let c : length (take (k - 0) xs) ≡ k = rw sub-zero (length-take-le k xs (omega arith)) in
+    let m : length ys ≡ k = ap length q ∙ length-table _ (λ (i : ℕ). i) ∙ c in
     rw (length-append, m) (omega arith)
 
 -- and lent on
 pub counted-is : (n k : ℕ) (xs ys : List ℕ) → k ≤ n → length xs ≡ n → ys ≡ upto (length (take (k - 0) xs)) → take (k - 0) (ys ++ drop (k - 0) xs) ≡ upto k
 counted-is n k xs ys h e q =
     let c : length (take (k - 0) xs) ≡ k = rw sub-zero (length-take-le k xs (omega arith)) in
-    let m : length ys ≡ k = ap length q ∙ upto-length _ ∙ c in
+    let m : length ys ≡ k = ap length q ∙ length-table _ (λ (i : ℕ). i) ∙ c in
     front-back k ys _ m ∙ q ∙ ap upto c

@@ -2,7 +2,7 @@
 ghost use mathlib.Core.Path.{_≡_};
 ghost use Prim.Native.Nat.{suc, _*_, _≤_};
 ghost use lib.ListN.{length};
-ghost use Rattle.orders_core.specs.Order.{upto};
+ghost use Rattle.numbers.specs.Loops.{upto};
 ghost use Rattle.calls_core.specs.Decode.{decodeLegs};
 ghost use Rattle.calls_core.specs.Calls.{outcome, afterLegs};
 ghost use Rattle.legs_core.specs.Kept.{shotOf, Reads};

@@ -7,7 +7,8 @@ ghost use lib.Dec.{eqb, leb};
 ghost use lib.ListN.{length};
 ghost use Rattle.refusals.specs.Tests.{orElse};
 ghost use Rattle.graph.specs.Graph.{graph};
-ghost use Rattle.messages_core.specs.Needs.{Offsets, Entries, ofChecks};
+ghost use Rattle.graph.specs.Sound.{Offsets, Keys};
+ghost use Rattle.messages_core.specs.Needs.{ofChecks};
 ghost use Rattle.orders_core.specs.Order.{namesFault, exchangeFault};
 ghost use Rattle.calls_core.specs.Calls.{decodeFault};
 ghost use Rattle.legs_core.specs.Kept.{shotFault};
@@ -155,7 +156,7 @@ fn order_fault(
 ) -> Answer
     requires { ⌜ checks ≤ 65536 ⌝ }
     requires { ⌜ Offsets checks (length (now «check_var»)) (now «check_offset») ⌝ }
-    requires { ⌜ Entries 65536 (now «check_var») ⌝ }
+    requires { ⌜ Keys 65536 (now «check_var») ⌝ }
     ensures { λ r. ⌜ r ≡ orElse (namesFault checks (now (order .entry))) (exchangeFault schedule (ofChecks checks (now («check_var» .entry)) (now («check_offset» .entry))) (now (order .entry))) ⌝ }
 {
     if is_index_order(checks, order) {

@@ -7,13 +7,12 @@ use Prim.Native.Nat.{ℕ, zero, suc, _+_, _-_, _<_, _≤_}
 use native.Mathlib.Omega.{arith}
 use lib.ListN.{length, getD, length-map}
 use Rattle.numbers.proofs.Cases.{either}
-use Rattle.numbers.proofs.Loops.{length-table, getD-table}
-use Rattle.numbers.specs.Loops.{table}
+use Rattle.numbers.proofs.Loops.{is-table, length-table, getD-table}
+use Rattle.numbers.specs.Loops.{upto}
 use Rattle.graph.specs.Graph.{graph, mechanismsOf, flipped, checksOf, entries, graphOf, among}
-use Rattle.graph.specs.Lists.{passing, joined, start, offsets, same, places}
+use Rattle.graph.specs.Lists.{passing, joined, start, offsets, places}
 use Rattle.graph.specs.Sound.{Offsets, Keys}
 use Rattle.graph.specs.Steps.{rowOf, Bucketed, Finished, Distinct, Valid}
-use Rattle.graph.proofs.BucketPass.{is-table}
 use Rattle.graph.proofs.Passing.{passing-at, passing-counts, passed, passing-same, start-zero, start-suc, length-joined, start-rises, joined-at, lies}
 use Rattle.graph.proofs.Rows.{among-yes, among-place, rows-of, map-joined}
 use Rattle.graph.proofs.Slots.{length-bucket}
@@ -86,7 +85,7 @@ module _ (checks mechanisms : ℕ) (inc : ℕ → ℕ → Bool) where
       (i - start (mechanismsOf mechanisms inc) c, omega (arith, a, b, start-suc (mechanismsOf mechanisms inc) c), omega (arith, a))
 
   -- no check names a mechanism twice
-  pub graph-distinct : Distinct checks (offsets checks (mechanismsOf mechanisms inc)) (entries checks mechanisms inc)
+  graph-distinct : Distinct checks (offsets checks (mechanismsOf mechanisms inc)) (entries checks mechanisms inc)
   graph-distinct =
       record {
         apart = λ r i j h l m n e.
@@ -144,21 +143,21 @@ module _ (checks mechanisms : ℕ) (inc : ℕ → ℕ → Bool) where
   graph-var-offsets = offsets-same mechanisms _ _ (λ m l. sym (length-map (places (entries checks mechanisms inc) m) _) ∙ ap length (vars-of m l))
 
   -- from the check lists the second pass makes the rest, whatever wrote them
-  pub second-pass : (checkOffset checkVar checkMessage next rowAt placeAt : List ℕ) → checkVar ≡ entries checks mechanisms inc → checkOffset ≡ offsets checks (mechanismsOf mechanisms inc)
-      → checkMessage ≡ table (length (entries checks mechanisms inc)) same → Bucketed checkOffset checks mechanisms checkVar next rowAt placeAt
+  second-pass : (checkOffset checkVar checkMessage next rowAt placeAt : List ℕ) → checkVar ≡ entries checks mechanisms inc → checkOffset ≡ offsets checks (mechanismsOf mechanisms inc)
+      → checkMessage ≡ upto (length (entries checks mechanisms inc)) → Bucketed checkOffset checks mechanisms checkVar next rowAt placeAt
       → graph checks mechanisms checkVar checkMessage checkOffset rowAt placeAt next ≡ graphOf checks mechanisms inc
   unfolding graphOf
   second-pass checkOffset checkVar checkMessage next rowAt placeAt em eo eg b =
       let vc : rowAt ≡ joined mechanisms (checksOf checks inc) = b .owners ∙ rw (em, eo) graph-vars in
-      let vg : placeAt ≡ joined mechanisms (places (entries checks mechanisms inc)) = b .lists ∙ rw em in
+      let vm : placeAt ≡ joined mechanisms (places (entries checks mechanisms inc)) = b .lists ∙ rw em in
       let vo : next ≡ offsets mechanisms (checksOf checks inc) = b .starts ∙ rw em graph-var-offsets in
-      rw (em, eo, eg, vc, vg, vo)
+      rw (em, eo, eg, vc, vm, vo)
 
   -- the same, with the numbers
   pub finished : (checkVar checkMessage checkOffset varCheck varMessage varOffset : List ℕ) → checkVar ≡ entries checks mechanisms inc → checkOffset ≡ offsets checks (mechanismsOf mechanisms inc)
       → Finished checks mechanisms checkVar checkMessage checkOffset varCheck varMessage varOffset → graph checks mechanisms checkVar checkMessage checkOffset varCheck varMessage varOffset ≡ graphOf checks mechanisms inc
   finished checkVar checkMessage checkOffset varCheck varMessage varOffset em eo f =
-      second-pass checkOffset checkVar checkMessage varOffset varCheck varMessage em eo (f .numbers ∙ ap (λ (x : List ℕ). table (length x) same) em) (f .pass)
+      second-pass checkOffset checkVar checkMessage varOffset varCheck varMessage em eo (f .numbers ∙ ap (λ (x : List ℕ). upto (length x)) em) (f .pass)
 
   -- what the second pass asks of the first
   pub second-valid : (checkOffset checkVar : List ℕ) → checkVar ≡ entries checks mechanisms inc → checkOffset ≡ offsets checks (mechanismsOf mechanisms inc)
@@ -177,7 +176,7 @@ module _ (checks mechanisms : ℕ) (off dets : List ℕ) (v : Valid checks mecha
   sparse-entries = map-joined _ checks _ _ (λ c l. mechanisms-of c)
 
   -- and its check offsets
-  pub sparse-offsets : offsets checks (places dets) ≡ offsets checks (mechanismsOf mechanisms (among off dets))
+  sparse-offsets : offsets checks (places dets) ≡ offsets checks (mechanismsOf mechanisms (among off dets))
   sparse-offsets = offsets-same checks _ _ (λ c l. sym (length-map (places dets c) _) ∙ ap length (mechanisms-of c))
 
   -- a valid model has as many edges as detectors

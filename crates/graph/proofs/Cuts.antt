@@ -1,8 +1,9 @@
--- A list that offsets cut into parts: which part a place lies in. Assumes nothing.
+-- A list that offsets cut into parts: which part a place lies in, and where a part ends. Assumes nothing.
 use mathlib.Core.List.{List}
 use mathlib.Core.Logic.{⊎-elim}
 use mathlib.Core.Path.{_≡_, sym}
-use Prim.Native.Nat.{ℕ, zero, suc, _<_, _≤_}
+use Prim.Native.Nat.{ℕ, zero, suc, _+_, _<_, _≤_}
+use native.Mathlib.Numerals.{add-one}
 use native.Mathlib.Omega.{arith}
 use lib.ListN.{getD}
 use borrow.Author.Tests.{le-leb, lt-leb}
@@ -16,6 +17,10 @@ module _ (rows n : ℕ) (off : List ℕ) (o : Offsets rows n off) where
   offsets-rise a zero h l = let e : a ≡ 0 = omega arith in rw e (omega arith)
   offsets-rise a (suc b) h l =
       ⊎-elim (λ e. rw e (omega arith)) (λ d. let r = offsets-rise a b (omega arith) (omega arith) in omega (arith, o .rises b l)) (equal-or-not a (suc b))
+
+  -- a part ends within the list
+  pub row-end : (r : ℕ) → r < rows → getD off (suc r) 0 ≤ n
+  row-end r h = omega (arith, o .ends, offsets-rise (suc r) rows h (omega arith))
 
   -- the part that a place lies in, among the first m
   row-of-to : (m r j : ℕ) → r < m → m ≤ rows → getD off r 0 ≤ j → j < getD off (suc r) 0 → rowOf off m j ≡ r
@@ -49,3 +54,13 @@ module _ (rows n : ℕ) (off : List ℕ) (o : Offsets rows n off) where
   -- and `rowOf` says which
   pub row-is : (j : ℕ) → j < n → Row j (rowOf off rows j)
   row-is j l = let w = find rows j (omega arith) (omega (arith, o .ends)) in rw (row-of (w .0) j (w .1 .below) (w .1 .from) (w .1 .to)) (w .1)
+
+-- where a part begins and ends, as the code reads it
+pub cut-bounds : (rows n : ℕ) (off : List ℕ) (r a e : ℕ) → Offsets rows n off → r < rows → a ≡ getD off r 0 → e ≡ getD off (r + 1) 0 → (a ≤ e) × (e ≤ n)
+cut-bounds rows n off r a e o h p q = let w : e ≡ getD off (suc r) 0 = rw add-one at q in (omega (arith, o .rises r h), omega (arith, row-end rows n off o r h))
+
+-- the place i lies in the part r, and k stands there
+pub record Met (off ks : List ℕ) (k r i : ℕ) : Type 0 where
+  pub from : getD off r 0 ≤ i
+  pub to : i < getD off (suc r) 0
+  pub is : getD ks i 0 ≡ k

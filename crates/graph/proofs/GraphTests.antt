@@ -14,38 +14,37 @@ use Rattle.refusals.specs.declared.Answer.{Answer}
 use Rattle.refusals.specs.declared.Answer.the-variants.{Done, Refused}
 use Rattle.refusals.specs.declared.Refusal.the-variants.{SizeAboveLimit, ModelListLength, BadPrior, NoSuchGraph}
 use Rattle.graph.specs.Graph.{Graph}
-use Rattle.graph.specs.Model.{countsGood, edgesGood, sizesGood, graphFits, priorGood, priorFault, isGraph, graphFault}
+use Rattle.graph.specs.Model.{graphFits, priorGood, priorFault, isGraph, graphFault, sizesGood}
 use Rattle.graph.specs.Sound.{Long}
-use Rattle.graph.specs.Steps.{fewSizes}
 use Rattle.graph.proofs.SparseTests.{long-told}
 
 module _ (edges : ℕ) (priors : List Float) (g : Graph) where
   -- 1
-  pub fault-1 : fewSizes (g .checks) (g .mechanisms) edges ≡ false → Refused SizeAboveLimit ≡ graphFault edges priors g
-  unfolding graphFault orElse unless sizesGood countsGood edgesGood
+  pub fault-1 : sizesGood (g .checks) (g .mechanisms) edges ≡ false → Refused SizeAboveLimit ≡ graphFault edges priors g
+  unfolding graphFault orElse unless
   fault-1 a = rw a
 
   -- 2
-  pub fault-2 : fewSizes (g .checks) (g .mechanisms) edges ≡ true → (eqb (length priors) (g .mechanisms) && graphFits edges g) ≡ false → Refused ModelListLength ≡ graphFault edges priors g
-  unfolding graphFault orElse unless sizesGood countsGood edgesGood
+  pub fault-2 : sizesGood (g .checks) (g .mechanisms) edges ≡ true → (eqb (length priors) (g .mechanisms) && graphFits edges g) ≡ false → Refused ModelListLength ≡ graphFault edges priors g
+  unfolding graphFault orElse unless
   fault-2 a b = rw (a, b)
 
   -- 4
-  pub fault-4 : (r : Answer) → fewSizes (g .checks) (g .mechanisms) edges ≡ true → (eqb (length priors) (g .mechanisms) && graphFits edges g) ≡ true
+  pub fault-4 : (r : Answer) → sizesGood (g .checks) (g .mechanisms) edges ≡ true → (eqb (length priors) (g .mechanisms) && graphFits edges g) ≡ true
       → r ≡ firstOf (g .mechanisms) (priorFault priors) → isDone r ≡ false → r ≡ graphFault edges priors g
-  unfolding graphFault orElse unless sizesGood countsGood edgesGood
+  unfolding graphFault orElse unless
   fault-4 r a b e d = rw (a, b, ← e, d)
 
   -- 7
-  pub fault-7 : (r : Answer) → fewSizes (g .checks) (g .mechanisms) edges ≡ true → (eqb (length priors) (g .mechanisms) && graphFits edges g) ≡ true
+  pub fault-7 : (r : Answer) → sizesGood (g .checks) (g .mechanisms) edges ≡ true → (eqb (length priors) (g .mechanisms) && graphFits edges g) ≡ true
       → r ≡ firstOf (g .mechanisms) (priorFault priors) → isDone r ≡ true → isGraph g ≡ false → Refused NoSuchGraph ≡ graphFault edges priors g
-  unfolding graphFault orElse unless sizesGood countsGood edgesGood
+  unfolding graphFault orElse unless
   fault-7 r a b e d h = rw (a, b, ← e, d, h)
 
   -- none
-  pub fault-none : (r : Answer) → fewSizes (g .checks) (g .mechanisms) edges ≡ true → (eqb (length priors) (g .mechanisms) && graphFits edges g) ≡ true
+  pub fault-none : (r : Answer) → sizesGood (g .checks) (g .mechanisms) edges ≡ true → (eqb (length priors) (g .mechanisms) && graphFits edges g) ≡ true
       → r ≡ firstOf (g .mechanisms) (priorFault priors) → isDone r ≡ true → isGraph g ≡ true → Done ≡ graphFault edges priors g
-  unfolding graphFault orElse unless sizesGood countsGood edgesGood
+  unfolding graphFault orElse unless
   fault-none r a b e d h = rw (a, b, ← e, d, h)
 
   -- what it tells where it refuses nothing
@@ -61,7 +60,7 @@ module _ (edges : ℕ) (priors : List Float) (g : Graph) where
 
   -- and that it does
   pub graph-told : graphFault edges priors g ≡ Done → GraphTold
-  unfolding graphFault sizesGood countsGood edgesGood priorFault
+  unfolding graphFault priorFault
   graph-told h =
       let a = or-done _ _ h in
       let b = or-done _ _ (a .1) in

@@ -17,7 +17,7 @@ use Rattle.numbers.specs.Loops.{part}
 use Rattle.graph.specs.Graph.{mechanismsOf, entries, marked}
 use Rattle.graph.specs.Lists.{passing, start}
 use Rattle.graph.specs.Model.{countEdges}
-use Rattle.graph.specs.Steps.{nonzero, ones, marks}
+use Rattle.graph.specs.Steps.{nonzero, ofByte, marks}
 use Rattle.graph.proofs.Passing.{passing-none, passing-same, start-zero, start-suc, length-joined}
 
 -- ---- counting
@@ -33,12 +33,12 @@ count-append (x ∷ xs) ys =
     (either (eqb x 0))
 
 -- one byte by itself
-count-one : (x m : ℕ) → countEdges (x ∷ []) ≡ length (ones x m)
-unfolding countEdges ones
+count-one : (x m : ℕ) → countEdges (x ∷ []) ≡ length (ofByte x m)
+unfolding countEdges ofByte
 count-one x m = ⊎-elim (λ e. rw e) (λ e. rw e) (either (eqb x 0))
 
 -- one byte more
-pub count-take : (xs : List ℕ) (i m : ℕ) → i < length xs → countEdges (take (suc i) xs) ≡ countEdges (take i xs) + length (ones (getD xs i 0) m)
+pub count-take : (xs : List ℕ) (i m : ℕ) → i < length xs → countEdges (take (suc i) xs) ≡ countEdges (take i xs) + length (ofByte (getD xs i 0) m)
 count-take xs i m h = ap countEdges (take-suc xs i 0 h) ∙ count-append (take i xs) (getD xs i 0 ∷ []) ∙ ap (λ (k : ℕ). countEdges (take i xs) + k) (count-one (getD xs i 0) m)
 
 -- at most one for each byte
@@ -55,18 +55,18 @@ count-none xs = refl
 -- ---- one byte
 
 -- a zero byte adds nothing
-pub ones-none : (byte m : ℕ) → byte ≡ 0 → ones byte m ≡ []
-unfolding ones
-ones-none byte m e = rw (eq-eqb byte 0 e)
+pub of-byte-none : (byte m : ℕ) → byte ≡ 0 → ofByte byte m ≡ []
+unfolding ofByte
+of-byte-none byte m e = rw (eq-eqb byte 0 e)
 
 -- another adds its mechanism
-pub ones-one : (byte m : ℕ) → (byte ≡ 0 → ⊥) → ones byte m ≡ m ∷ []
-unfolding ones
-ones-one byte m n = rw (ne-eqb byte 0 n)
+pub of-byte-one : (byte m : ℕ) → (byte ≡ 0 → ⊥) → ofByte byte m ≡ m ∷ []
+unfolding ofByte
+of-byte-one byte m n = rw (ne-eqb byte 0 n)
 
 -- one byte more of a row
-pub marks-suc : (bytes : List ℕ) (m : ℕ) → passing (suc m) (nonzero bytes) ≡ passing m (nonzero bytes) ++ ones (getD bytes m 0) m
-unfolding passing nonzero ones
+pub marks-suc : (bytes : List ℕ) (m : ℕ) → passing (suc m) (nonzero bytes) ≡ passing m (nonzero bytes) ++ ofByte (getD bytes m 0) m
+unfolding passing nonzero ofByte
 marks-suc bytes m = refl
 
 -- as many are marked as bytes are not zero
@@ -78,7 +78,7 @@ marks-count bytes (suc i) h =
       arith,
       marks-count bytes i (omega arith),
       ap length (marks-suc bytes i),
-      length-append (passing i (nonzero bytes)) (ones (getD bytes i 0) i),
+      length-append (passing i (nonzero bytes)) (ofByte (getD bytes i 0) i),
     )
 
 -- of a whole row

@@ -10,20 +10,20 @@ use lib.Seq.{length-take-le, take-all, take-suc-set}
 use Rattle.graph.specs.Graph.{mechanismsOf, entries, marked}
 use Rattle.graph.specs.Lists.{passing, joined, start}
 use Rattle.graph.specs.Model.{countEdges}
-use Rattle.graph.specs.Steps.{nonzero, ones, marks}
+use Rattle.graph.specs.Steps.{nonzero, ofByte, marks}
 use Rattle.graph.proofs.BucketTurns.{filled-turn}
-use Rattle.graph.proofs.Matrix.{count-take, count-few, ones-none, ones-one, marks-suc, row-room, row-marks, matrix-edges}
+use Rattle.graph.proofs.Matrix.{count-take, count-few, of-byte-none, of-byte-one, marks-suc, row-room, row-marks, matrix-edges}
 use Rattle.graph.proofs.Passing.{length-rises, start-zero, start-suc, length-joined, start-rises}
 
 -- ---- counting
 
 -- a byte that is not zero
 pub count-more : (xs : List ℕ) (i n : ℕ) → i < length xs → (getD xs i 0 ≡ 0 → ⊥) → n ≡ countEdges (take i xs) → n + 1 ≡ countEdges (take (i + 1) xs)
-count-more xs i n h z e = rw (add-one i) (omega (arith, count-take xs i i h, ap length (ones-one (getD xs i 0) i z)))
+count-more xs i n h z e = rw (add-one i) (omega (arith, count-take xs i i h, ap length (of-byte-one (getD xs i 0) i z)))
 
 -- a zero byte
 pub count-same-turn : (xs : List ℕ) (i n : ℕ) → i < length xs → getD xs i 0 ≡ 0 → n ≡ countEdges (take i xs) → n ≡ countEdges (take (i + 1) xs)
-count-same-turn xs i n h z e = rw (add-one i) (omega (arith, count-take xs i i h, ap length (ones-none (getD xs i 0) i z)))
+count-same-turn xs i n h z e = rw (add-one i) (omega (arith, count-take xs i i h, ap length (of-byte-none (getD xs i 0) i z)))
 
 -- the count so far is at most the place
 pub count-place : (xs : List ℕ) (i n : ℕ) → i ≤ length xs → n ≡ countEdges (take i xs) → n ≤ i
@@ -32,40 +32,40 @@ count-place xs i n h e = omega (arith, count-few (take i xs), length-take-le i x
 -- ---- one byte of a row
 
 -- zero
-pub mark-none : (byte m place : ℕ) (out : List ℕ) → byte ≡ 0 → (place ≡ place + length (ones byte m)) × (take place out ≡ take place out ++ ones byte m)
-mark-none byte m place out e = rw (ones-none byte m e) (omega arith, sym (append-nil _))
+pub mark-none : (byte m place : ℕ) (out : List ℕ) → byte ≡ 0 → (place ≡ place + length (ofByte byte m)) × (take place out ≡ take place out ++ ofByte byte m)
+mark-none byte m place out e = rw (of-byte-none byte m e) (omega arith, sym (append-nil _))
 
 -- not zero
 pub mark-one : (byte m place : ℕ) (out out′ : List ℕ) → (byte ≡ 0 → ⊥) → place < length out → out′ ≡ set out place m
-    → (place + 1 ≡ place + length (ones byte m)) × (take (place + 1) out′ ≡ take place out ++ ones byte m)
-mark-one byte m place out out′ n h e = rw (ones-one byte m n) (refl, rw (add-one, e) (take-suc-set out place m h))
+    → (place + 1 ≡ place + length (ofByte byte m)) × (take (place + 1) out′ ≡ take place out ++ ofByte byte m)
+mark-one byte m place out out′ n h e = rw (of-byte-one byte m n) (refl, rw (add-one, e) (take-suc-set out place m h))
 
 -- where there is room for it
-pub mark-room : (byte m place n : ℕ) → (byte ≡ 0 → ⊥) → place + length (ones byte m) ≤ n → place < n
-mark-room byte m place n z h = omega (arith, ap length (ones-one byte m z))
+pub mark-room : (byte m place n : ℕ) → (byte ≡ 0 → ⊥) → place + length (ofByte byte m) ≤ n → place < n
+mark-room byte m place n z h = omega (arith, ap length (of-byte-one byte m z))
 
 -- ---- a row
 
 -- the room that the row has is enough for each byte
 pub row-turn-room : (bytes : List ℕ) (start m place n : ℕ) → m < length bytes → place ≡ start + length (passing m (nonzero bytes)) → start + length (marks bytes) ≤ n
-    → place + length (ones (getD bytes m 0) m) ≤ n
+    → place + length (ofByte (getD bytes m 0) m) ≤ n
 unfolding marks
 row-turn-room bytes start m place n h e r =
     omega (
       arith,
       ap length (marks-suc bytes m),
-      length-append (passing m (nonzero bytes)) (ones (getD bytes m 0) m),
+      length-append (passing m (nonzero bytes)) (ofByte (getD bytes m 0) m),
       length-rises (nonzero bytes) (suc m) (length bytes) h,
     )
 
 -- one byte more
 pub row-turn : (bytes out₀ out out′ : List ℕ) (start m place next : ℕ) → place ≡ start + length (passing m (nonzero bytes)) → take place out ≡ take start out₀ ++ passing m (nonzero bytes)
-    → next ≡ place + length (ones (getD bytes m 0) m) → take next out′ ≡ take place out ++ ones (getD bytes m 0) m
+    → next ≡ place + length (ofByte (getD bytes m 0) m) → take next out′ ≡ take place out ++ ofByte (getD bytes m 0) m
     → (next ≡ start + length (passing (m + 1) (nonzero bytes))) × (take next out′ ≡ take start out₀ ++ passing (m + 1) (nonzero bytes))
 row-turn bytes out₀ out out′ start m place next p t q u =
     rw add-one (
-      omega (arith, ap length (marks-suc bytes m), length-append (passing m (nonzero bytes)) (ones (getD bytes m 0) m)),
-      u ∙ ap (λ (x : List ℕ). x ++ ones (getD bytes m 0) m) t ∙ append-assoc (take start out₀) (passing m (nonzero bytes)) (ones (getD bytes m 0) m)
+      omega (arith, ap length (marks-suc bytes m), length-append (passing m (nonzero bytes)) (ofByte (getD bytes m 0) m)),
+      u ∙ ap (λ (x : List ℕ). x ++ ofByte (getD bytes m 0) m) t ∙ append-assoc (take start out₀) (passing m (nonzero bytes)) (ofByte (getD bytes m 0) m)
           ∙ ap (λ (x : List ℕ). take start out₀ ++ x) (sym (marks-suc bytes m)),
     )
 

@@ -1,5 +1,5 @@
 -- Tests 3 to 6 of document 01 one by one: what each tells where it is passed, and each as the code has it. Assumes nothing.
-use mathlib.Core.Bool.{Bool, true, false, _||_, not, true≢false, false≢true}
+use mathlib.Core.Bool.{Bool, true, false, _||_, not, or-assoc, true≢false, false≢true}
 use mathlib.Core.List.{List, [], _∷_, _++_}
 use mathlib.Core.Path.{_≡_, refl, sym, ap, _∙_}
 use Prim.Native.Nat.{ℕ, suc, _+_, _-_, _<_, _≤_}
@@ -11,20 +11,20 @@ use lib.IntN.{pos}
 use lib.ListN.{length, getD, take, drop}
 use lib.Seq.{getD-take, length-take-le, take-suc}
 use borrow.Author.Tests.{le-leb, lt-leb, le-ltb, ltb-true, leb-true, eqb-true, lt-ltb, ne-eqb}
-use Rattle.numbers.proofs.Cases.{and-both, was-true, was-false}
-use Rattle.numbers.proofs.Loops.{every-at, length-part}
+use Rattle.numbers.proofs.Cases.{and-both}
+use Rattle.numbers.proofs.Loops.{every-at, length-part, getD-part}
 use Rattle.numbers.specs.Loops.{part}
-use Rattle.refusals.proofs.Tests.{or-done, unless-done, first-turn, first-stop, first-all}
-use Rattle.refusals.specs.Tests.{isDone, unless, orElse, firstOf}
+use Rattle.refusals.proofs.Tests.{or-done, unless-done, first-all}
+use Rattle.refusals.specs.Tests.{unless, orElse, firstOf}
 use Rattle.refusals.specs.declared.Answer.{Answer}
 use Rattle.refusals.specs.declared.Answer.the-variants.{Done, Refused}
 use Rattle.refusals.specs.declared.Refusal.the-variants.{BadPrior, DetectorOutOfRange, DetectorRepeated}
 use Rattle.graph.specs.Lists.{has}
-use Rattle.graph.specs.Model.{rising, offsetsGood, priorGood, priorFault, detectorFault, mechanismFault}
+use Rattle.graph.specs.Model.{rising, offsetsGood, priorGood, detectorFault, mechanismFault, mechanismTest}
 use Rattle.graph.specs.Sound.{Offsets}
-use Rattle.graph.specs.Steps.{Valid, mechanismTest}
-use Rattle.graph.proofs.Cuts.{offsets-rise, Row, row-is}
-use Rattle.graph.proofs.Rows.{has-at, part-at}
+use Rattle.graph.specs.Steps.{Valid}
+use Rattle.graph.proofs.Cuts.{Row, row-is, row-end}
+use Rattle.graph.proofs.Rows.{has-at}
 
 -- ---- repeats
 
@@ -32,11 +32,7 @@ use Rattle.graph.proofs.Rows.{has-at, part-at}
 has-append : (xs ys : List ℕ) (x : ℕ) → has (xs ++ ys) x ≡ (has xs x || has ys x)
 unfolding has
 has-append [] ys x = refl
-has-append (y ∷ xs) ys x = rw (has-append xs ys x) (again (eqb y x) (has xs x) (has ys x))
-  where
-    again : (a b c : Bool) → (a || (b || c)) ≡ ((a || b) || c)
-    again true b c = refl
-    again false b c = refl
+has-append (y ∷ xs) ys x = rw (has-append xs ys x) (sym (or-assoc (eqb y x) (has xs x) (has ys x)))
 
 -- one detector more that is another
 pub repeat-turn : (ds : List ℕ) (j d e : ℕ) → j < length ds → e ≡ getD ds j 0 → has (take j ds) d ≡ false → (e ≡ d → ⊥) → has (take (j + 1) ds) d ≡ false
@@ -63,7 +59,7 @@ offsets-told rows n off l h =
     }
 
 -- a detector that passes 5 and 6 is in range and new
-pub detector-told : (checks m : ℕ) (ds : List ℕ) (i : ℕ) → detectorFault checks m ds i ≡ Done → (getD ds i 0 < checks) × (has (take i ds) (getD ds i 0) ≡ false)
+detector-told : (checks m : ℕ) (ds : List ℕ) (i : ℕ) → detectorFault checks m ds i ≡ Done → (getD ds i 0 < checks) × (has (take i ds) (getD ds i 0) ≡ false)
 unfolding detectorFault
 detector-told checks m ds i h =
     let w = or-done _ _ h in
@@ -74,7 +70,7 @@ detector-told checks m ds i h =
     flip false e = refl
 
 -- so is each of a mechanism's
-pub mech-told : (checks m : ℕ) (prior : Float) (ds : List ℕ) → mechanismTest checks m prior ds ≡ Done → (i : ℕ) → i < length ds → (getD ds i 0 < checks) × (has (take i ds) (getD ds i 0) ≡ false)
+mech-told : (checks m : ℕ) (prior : Float) (ds : List ℕ) → mechanismTest checks m prior ds ≡ Done → (i : ℕ) → i < length ds → (getD ds i 0 < checks) × (has (take i ds) (getD ds i 0) ≡ false)
 unfolding mechanismTest
 mech-told checks m prior ds h i l = detector-told checks m ds i (first-all (detectorFault checks m ds) (length ds) (or-done _ _ h .1) i l)
 
@@ -83,18 +79,18 @@ module _ (checks mechanisms : ℕ) (priors : List Float) (off dets : List ℕ) (
   -- of the place i of m's part
   at-told : (m i : ℕ) → Row mechanisms (length dets) off o i m
       → (getD dets i 0 < checks) × ((j : ℕ) → getD off m 0 ≤ j → j < i → getD dets j 0 ≡ getD dets i 0 → ⊥)
-  unfolding mechanismFault mechanismTest priorFault
+  unfolding mechanismFault
   at-told m i r =
       let a = getD off m 0 in
       let e = getD off (suc m) 0 in
-      let room : e ≤ length dets = omega (arith, o .ends, offsets-rise mechanisms (length dets) off o (suc m) mechanisms (r .below) (omega arith)) in
+      let room : e ≤ length dets = row-end mechanisms (length dets) off o m (r .below) in
       let long : length (part a e dets) ≡ e - a = length-part a e dets room in
       let place : i - a < e - a = omega (arith, r .from, r .to) in
       let t = mech-told checks m (getD priors m nan) (part a e dets) (first-all _ mechanisms h m (r .below)) (i - a) (rw long place) in
-      let here : getD (part a e dets) (i - a) 0 ≡ getD dets i 0 = part-at a e (i - a) dets place ∙ ap (λ (x : ℕ). getD dets x 0) (omega (arith, r .from)) in (
+      let here : getD (part a e dets) (i - a) 0 ≡ getD dets i 0 = getD-part a e dets (i - a) 0 (omega (arith, r .from, r .to)) ∙ ap (λ (x : ℕ). getD dets x 0) (omega (arith, r .from)) in (
         rw here at (t .0),
         λ j l k q.
-            let there : getD (part a e dets) (j - a) 0 ≡ getD dets j 0 = part-at a e (j - a) dets (omega (arith, r .to)) ∙ ap (λ (x : ℕ). getD dets x 0) (omega arith) in
+            let there : getD (part a e dets) (j - a) 0 ≡ getD dets j 0 = getD-part a e dets (j - a) 0 (omega (arith, r .to)) ∙ ap (λ (x : ℕ). getD dets x 0) (omega arith) in
             true≢false
             (sym (repeat-found (part a e dets) (i - a) (j - a) (getD (part a e dets) (i - a) 0) _ (omega arith) (rw long (omega (arith, r .to))) refl (there ∙ q ∙ sym here)) ∙ t .1),
       )
@@ -130,7 +126,7 @@ pub rising-no : (off : List ℕ) (r a b : ℕ) → a ≡ getD off r 0 → b ≡ 
 unfolding rising
 rising-no off r a b p q h = let e : b ≡ getD off (suc r) 0 = rw add-one at q in lt-leb (getD off r 0) (getD off (suc r) 0) (omega arith)
 
--- a detector out of range, repeated, or neither
+-- a detector out of range
 pub detector-range : (checks m : ℕ) (ds : List ℕ) (i d : ℕ) → d ≡ getD ds i 0 → checks ≤ d → Refused (DetectorOutOfRange m) ≡ detectorFault checks m ds i
 unfolding detectorFault orElse unless
 detector-range checks m ds i d p h = rw (le-ltb (getD ds i 0) checks (omega arith))
@@ -158,21 +154,5 @@ mech-rest checks m x ds a h e = rw (← h) e
 -- a mechanism of a model, its detectors cut out by the code
 pub mech-at : (checks : ℕ) (priors : List Float) (off dets : List ℕ) (m a e : ℕ) (x : Answer) → a ≡ getD off m 0 → e ≡ getD off (m + 1) 0
     → x ≡ mechanismTest checks m (getD priors m nan) (take (e - a) (drop a dets)) → x ≡ mechanismFault checks priors off dets m
-unfolding mechanismFault mechanismTest priorFault
+unfolding mechanismFault
 mech-at checks priors off dets m a e x p q h = let w : e ≡ getD off (suc m) 0 = rw add-one at q in rw (← p, ← w) h
-
--- ---- the priors alone
-
--- a prior that is refused, where those before it are not
-pub prior-refuse : (priors : List Float) (m n : ℕ) (b : Bool) → m < n → firstOf m (priorFault priors) ≡ Done → b ≡ priorGood (getD priors m nan) → not b ≡ true
-    → Refused (BadPrior m) ≡ firstOf n (priorFault priors)
-unfolding priorFault unless
-prior-refuse priors m n b l h e t =
-    let bad : priorFault priors m ≡ Refused (BadPrior m) = rw (was-false _ _ e t) in
-    sym (first-stop (priorFault priors) m n l h (ap isDone bad) ∙ bad)
-
--- one that is not
-pub prior-go : (priors : List Float) (m : ℕ) (b : Bool) → firstOf m (priorFault priors) ≡ Done → b ≡ priorGood (getD priors m nan) → not b ≡ false
-    → firstOf (m + 1) (priorFault priors) ≡ Done
-unfolding priorFault unless
-prior-go priors m b h e t = first-turn (priorFault priors) m h (rw (was-true _ _ e t))

@@ -19,9 +19,8 @@ use Rattle.refusals.specs.declared.Answer.the-variants.{Done}
 use Rattle.refusals.specs.declared.Refusal.the-variants.{BadPrior}
 use Rattle.graph.specs.Graph.{Graph, mechanismsOf, flipped, checksOf, entries, graphOf, among}
 use Rattle.graph.specs.Lists.{has, joined, offsets}
-use Rattle.graph.specs.Model.{graphFits, offsetsGood, priorGood, priorFault, detectorFault, mechanismFault, outcome, buildSparse, graphFault}
+use Rattle.graph.specs.Model.{graphFits, offsetsGood, priorGood, priorFault, detectorFault, mechanismFault, outcome, buildSparse, graphFault, sizesGood, sparseFits, sparseFault, mechanismTest}
 use Rattle.graph.specs.Sound.{Rising}
-use Rattle.graph.specs.Steps.{fewSizes, sparseLengths, sparseTests}
 use Rattle.graph.proofs.Built.{length-offsets, graph-among}
 use Rattle.graph.proofs.GraphTests.{fault-none}
 use Rattle.graph.proofs.ModelTests.{detector-fine}
@@ -44,17 +43,17 @@ rising-new n ds r i h = ⊎-elim old (λ e. e) (either (has (take i ds) (getD ds
 -- rising detectors and a good prior pass 4, 5 and 6
 mechanism-none : (checks : ℕ) (priors : List Float) (off dets : List ℕ) (m : ℕ) → priorGood (getD priors m nan) ≡ true → Rising checks (row off m dets)
     → mechanismFault checks priors off dets m ≡ Done
-unfolding mechanismFault priorFault orElse unless
+unfolding mechanismFault mechanismTest orElse unless
 mechanism-none checks priors off dets m p r =
     let ds = row off m dets in
     rw p (first-none (detectorFault checks m ds) (length ds) (λ i l. sym (detector-fine checks m ds i (getD ds i 0) refl (r .below i l) (rising-new checks ds r i l))))
 
 -- sizes within the limits
-sizes-few : (checks mechanisms edges : ℕ) → checks ≤ 65536 → mechanisms ≤ 65536 → edges ≤ 1048576 → fewSizes checks mechanisms edges ≡ true
+sizes-few : (checks mechanisms edges : ℕ) → checks ≤ 65536 → mechanisms ≤ 65536 → edges ≤ 1048576 → sizesGood checks mechanisms edges ≡ true
 sizes-few checks mechanisms edges a b c = rw (le-leb checks 65536 a, le-leb mechanisms 65536 b, le-leb edges 1048576 c)
 
 -- a model's lengths that fit
-lengths-fit : (mechanisms edges p o d : ℕ) (fit : Bool) → p ≡ mechanisms → o ≡ suc mechanisms → d ≡ edges → fit ≡ true → (sparseLengths mechanisms edges p o d && fit) ≡ true
+lengths-fit : (mechanisms edges p o d : ℕ) (fit : Bool) → p ≡ mechanisms → o ≡ suc mechanisms → d ≡ edges → fit ≡ true → (sparseFits mechanisms edges p o d && fit) ≡ true
 lengths-fit mechanisms edges p o d fit a b c e = rw (eq-eqb p mechanisms a, eq-eqb o (suc mechanisms) b, eq-eqb d edges c, e)
 
 -- priors that pass 4
@@ -75,7 +74,7 @@ none-good mechanisms priors l h = record { many = l; good = λ m k. unless-done 
 -- so are those of a model that passes 4, 5 and 6
 pub mechanisms-good : (checks mechanisms : ℕ) (priors : List Float) (off dets : List ℕ) → length priors ≡ mechanisms → firstOf mechanisms (mechanismFault checks priors off dets) ≡ Done
     → GoodPriors mechanisms priors
-unfolding mechanismFault priorFault
+unfolding mechanismFault mechanismTest
 mechanisms-good checks mechanisms priors off dets l h =
     record { many = l; good = λ m k. unless-done _ (BadPrior m) (or-done _ _ (first-all (mechanismFault checks priors off dets) mechanisms h m k) .0) }
 
@@ -100,7 +99,7 @@ module _ (inc : ℕ → ℕ → Bool) (priors : List Float) (old : Graph) (hc : 
 
   -- so the tests pass
   passed-all : Done
-      ≡ sparseTests (old .checks) (old .mechanisms) (length (entries (old .checks) (old .mechanisms) inc)) priors (offsets (old .mechanisms) (checksOf (old .checks) inc))
+      ≡ sparseFault (old .checks) (old .mechanisms) (length (entries (old .checks) (old .mechanisms) inc)) priors (offsets (old .mechanisms) (checksOf (old .checks) inc))
       (joined (old .mechanisms) (checksOf (old .checks) inc)) true
   passed-all =
       sparse-4 (old .checks) (old .mechanisms) _ priors _ _ true Done

@@ -8,18 +8,17 @@ use native.Mathlib.Omega.{arith}
 use lib.ListN.{length, getD, length-map}
 use lib.Seq.{ext-getD}
 use Rattle.numbers.proofs.Cases.{less-or-not}
-use Rattle.numbers.proofs.Loops.{length-table, getD-table, length-part}
-use Rattle.numbers.specs.Loops.{table, row}
+use Rattle.numbers.proofs.Loops.{is-table, map-at, length-table, getD-table, length-part, getD-part}
+use Rattle.numbers.specs.Loops.{upto, row}
 use Rattle.graph.specs.Graph.{Graph, mechanismsOf, flipped, checksOf, entries, graphOf, told}
-use Rattle.graph.specs.Lists.{has, joined, start, offsets, same, stands, places}
-use Rattle.graph.specs.Sound.{Offsets, Long, Keys, Rising, Met}
+use Rattle.graph.specs.Lists.{has, joined, start, offsets, stands, places}
+use Rattle.graph.specs.Sound.{Offsets, Long, Keys, Rising}
 use Rattle.graph.specs.Steps.{count, first, rowOf}
-use Rattle.graph.proofs.BucketPass.{is-table, map-at}
 use Rattle.graph.proofs.Built.{offsets-at, length-offsets, offsets-cut, graph-offsets, Entry, entry, graph-keys, graph-vars, graph-var-offsets}
-use Rattle.graph.proofs.Cuts.{offsets-rise, row-of, row-is}
+use Rattle.graph.proofs.Cuts.{offsets-rise, row-of, row-is, row-end, Met}
 use Rattle.graph.proofs.Passing.{length-rises, passed, start-suc, joined-at}
 use Rattle.graph.proofs.Rising.{few, full, all-full, parts-joined, parts-offsets}
-use Rattle.graph.proofs.Rows.{has-at, has-place, part-at}
+use Rattle.graph.proofs.Rows.{has-at, has-place}
 use Rattle.graph.proofs.Sameness.{graph-same}
 use Rattle.graph.proofs.Slots.{stands-yes, stands-true, first-suc, first-last, length-bucket}
 
@@ -27,11 +26,11 @@ use Rattle.graph.proofs.Slots.{stands-yes, stands-true, first-suc, firs
 module _ (rows n : ℕ) (off xs : List ℕ) (o : Offsets rows n off) (many : length xs ≡ n) where
   -- a part's length
   pub row-length : (r : ℕ) → r < rows → length (row off r xs) ≡ getD off (suc r) 0 - getD off r 0
-  row-length r h = length-part (getD off r 0) (getD off (suc r) 0) xs (omega (arith, o .ends, offsets-rise rows n off o (suc r) rows h (omega arith)))
+  row-length r h = length-part (getD off r 0) (getD off (suc r) 0) xs (omega (arith, row-end rows n off o r h))
 
   -- a part's elements
   pub row-at : (r i : ℕ) → r < rows → i < length (row off r xs) → getD (row off r xs) i 0 ≡ getD xs (getD off r 0 + i) 0
-  row-at r i h l = part-at (getD off r 0) (getD off (suc r) 0) i xs (rw (row-length r h) at l)
+  row-at r i h l = getD-part (getD off r 0) (getD off (suc r) 0) xs i 0 (omega (arith, row-length r h))
 
 -- what the quick test asks
 pub record Passes (edges : ℕ) (g : Graph) : Type 0 where
@@ -58,17 +57,17 @@ module _ (edges : ℕ) (g : Graph) (f : Long edges g) (t : Passes edges g) where
       all-full (told g c) (g .mechanisms) xs (t .check-rises c h) (λ q l. has-at xs q _ l refl) (λ i l e. has-place xs i e)
 
   -- so are all check entries
-  mech-is : g .checkVar ≡ entries (g .checks) (g .mechanisms) (told g)
+  check-var-is : g .checkVar ≡ entries (g .checks) (g .mechanisms) (told g)
   unfolding entries
-  mech-is = parts-joined (g .checks) (g .checkOffset) (g .checkVar) cut _ check-row
+  check-var-is = parts-joined (g .checks) (g .checkOffset) (g .checkVar) cut _ check-row
 
   -- and the check offsets
-  off-is : g .checkOffset ≡ offsets (g .checks) (mechanismsOf (g .mechanisms) (told g))
-  off-is = parts-offsets (g .checks) (g .checkOffset) (g .checkVar) cut _ check-row
+  check-offset-is : g .checkOffset ≡ offsets (g .checks) (mechanismsOf (g .mechanisms) (told g))
+  check-offset-is = parts-offsets (g .checks) (g .checkOffset) (g .checkVar) cut _ check-row
 
   -- every check entry is a mechanism
   pub keys : Keys (g .mechanisms) (g .checkVar)
-  keys = rw mech-is (graph-keys (g .checks) (g .mechanisms) (told g))
+  keys = rw check-var-is (graph-keys (g .checks) (g .mechanisms) (told g))
 
   -- a variable has as many messages as checks
   pub lengths-agree : (v : ℕ) → v < (g .mechanisms) → length (row (g .varOffset) v (g .varMessage)) ≡ length (row (g .varOffset) v (g .varCheck))
@@ -82,7 +81,7 @@ module _ (edges : ℕ) (g : Graph) (f : Long edges g) (t : Passes edges g) where
         below = λ i l.
             let i′ = rw (lengths-agree v h) at l in
             let w = t .var-meets v i h i′ in
-            omega (arith, w .to, cut .ends, offsets-rise (g .checks) _ (g .checkOffset) cut (suc (getD (row (g .varOffset) v (g .varCheck)) i 0)) (g .checks) (t .var-rises v h .below i i′) (omega arith));
+            omega (arith, w .to, row-end (g .checks) _ (g .checkOffset) cut (getD (row (g .varOffset) v (g .varCheck)) i 0) (t .var-rises v h .below i i′));
         rises = λ i j l m.
             let j′ = rw (lengths-agree v h) at m in
             let a = t .var-meets v i h (omega arith) in
@@ -165,31 +164,28 @@ module _ (edges : ℕ) (g : Graph) (f : Long edges g) (t : Passes edges g) where
           ∙ sym (map-at (rowOf (g .checkOffset) (g .checks)) (g .varMessage) i (omega (arith, f .var-check, f .var-message)))
 
   -- so the lists are the graph of what they tell
-  pub sound : g ≡ graphOf (g .checks) (g .mechanisms) (told g)
-  unfolding graphOf same
-  sound = graph-same _ _ _ _ _ _ _ _ _ _ _ _ _ _ mech-is msg off-is vc vg vo
+  pub passes-graph : g ≡ graphOf (g .checks) (g .mechanisms) (told g)
+  unfolding graphOf
+  passes-graph = graph-same _ _ _ _ _ _ _ _ _ _ _ _ _ _ check-var-is msg check-offset-is vc vm vo
     where
-      i : ℕ → ℕ → Bool
-      i = told g
-
-      msg : g .checkMessage ≡ table (length (entries (g .checks) (g .mechanisms) (told g))) same
-      msg = is-table _ same (g .checkMessage) (f .check-message ∙ many) (λ k l. t .numbers k (omega (arith, many)))
+      msg : g .checkMessage ≡ upto (length (entries (g .checks) (g .mechanisms) (told g)))
+      msg = is-table _ (λ (k : ℕ). k) (g .checkMessage) (f .check-message ∙ many) (λ k l. t .numbers k (omega (arith, many)))
         where
           many : edges ≡ length (entries (g .checks) (g .mechanisms) (told g))
-          many = sym (f .check-var) ∙ ap length mech-is
+          many = sym (f .check-var) ∙ ap length check-var-is
 
       vc : g .varCheck ≡ joined (g .mechanisms) (checksOf (g .checks) (told g))
       vc =
           checks-are
-          ∙ ap (map (rowOf (g .checkOffset) (g .checks))) (messages-are ∙ ap (λ (x : List ℕ). joined (g .mechanisms) (places x)) mech-is)
-          ∙ ap (λ (x : List ℕ). map (rowOf x (g .checks)) (joined (g .mechanisms) (places (entries (g .checks) (g .mechanisms) (told g))))) off-is
+          ∙ ap (map (rowOf (g .checkOffset) (g .checks))) (messages-are ∙ ap (λ (x : List ℕ). joined (g .mechanisms) (places x)) check-var-is)
+          ∙ ap (λ (x : List ℕ). map (rowOf x (g .checks)) (joined (g .mechanisms) (places (entries (g .checks) (g .mechanisms) (told g))))) check-offset-is
           ∙ graph-vars (g .checks) (g .mechanisms) (told g)
 
-      vg : g .varMessage ≡ joined (g .mechanisms) (places (entries (g .checks) (g .mechanisms) (told g)))
-      vg = messages-are ∙ ap (λ (x : List ℕ). joined (g .mechanisms) (places x)) mech-is
+      vm : g .varMessage ≡ joined (g .mechanisms) (places (entries (g .checks) (g .mechanisms) (told g)))
+      vm = messages-are ∙ ap (λ (x : List ℕ). joined (g .mechanisms) (places x)) check-var-is
 
       vo : g .varOffset ≡ offsets (g .mechanisms) (checksOf (g .checks) (told g))
-      vo = var-offset-is ∙ ap (λ (x : List ℕ). offsets (g .mechanisms) (places x)) mech-is ∙ graph-var-offsets (g .checks) (g .mechanisms) (told g)
+      vo = var-offset-is ∙ ap (λ (x : List ℕ). offsets (g .mechanisms) (places x)) check-var-is ∙ graph-var-offsets (g .checks) (g .mechanisms) (told g)
 
 -- ---- every graph passes
 
@@ -234,7 +230,7 @@ module _ (checks mechanisms : ℕ) (inc : ℕ → ℕ → Bool) where
   graph-long =
       record {
         check-var = refl;
-        check-message = length-table _ same;
+        check-message = length-table _ (λ (k : ℕ). k);
         check-offset = length-offsets checks _;
         var-check = sym graph-length;
         var-message = length-bucket mechanisms (entries checks mechanisms inc) (graph-keys checks mechanisms inc);
@@ -253,39 +249,39 @@ module _ (checks mechanisms : ℕ) (inc : ℕ → ℕ → Bool) where
       (getD (row (offsets mechanisms (checksOf checks inc)) v (joined mechanisms (places (entries checks mechanisms inc)))) i 0)
   unfolding places
   var-parts-meet v i h l =
-      let cm = entries checks mechanisms inc in
+      let cv = entries checks mechanisms inc in
       let co = offsets checks (mechanismsOf mechanisms inc) in
       let vo = offsets mechanisms (checksOf checks inc) in
       let vc = joined mechanisms (checksOf checks inc) in
-      let vg = joined mechanisms (places cm) in
+      let vm = joined mechanisms (places cv) in
       let keys = graph-keys checks mechanisms inc in
-      let long : length vg ≡ length cm = length-bucket mechanisms cm keys in
+      let long : length vm ≡ length cv = length-bucket mechanisms cv keys in
       let cut = graph-var-cut checks mechanisms inc in
-      let nc = row-length mechanisms (length cm) vo vc cut (sym (graph-length checks mechanisms inc)) v h in
-      let ng = row-length mechanisms (length cm) vo vg cut long v h in
+      let nc = row-length mechanisms (length cv) vo vc cut (sym (graph-length checks mechanisms inc)) v h in
+      let ng = row-length mechanisms (length cv) vo vm cut long v h in
       let x : ℕ = getD vo v 0 + i in
-      let room : x < length cm = omega (arith, nc, cut .ends, offsets-rise mechanisms (length cm) vo cut (suc v) mechanisms h (omega arith)) in
-      let a : getD (row vo v vc) i 0 ≡ getD vc x 0 = row-at mechanisms (length cm) vo vc cut (sym (graph-length checks mechanisms inc)) v i h l in
-      let b : getD (row vo v vg) i 0 ≡ getD vg x 0 = row-at mechanisms (length cm) vo vg cut long v i h (omega arith) in
-      let e : getD vc x 0 ≡ rowOf co checks (getD vg x 0) = ap (λ (y : List ℕ). getD y x 0) (sym (graph-vars checks mechanisms inc)) ∙ map-at (rowOf co checks) vg x (omega arith) in
-      let s : getD vo v 0 ≡ start (places cm) v = ap (λ (y : List ℕ). getD y v 0) (sym (graph-var-offsets checks mechanisms inc)) ∙ offsets-at mechanisms v (places cm) (omega arith) in
-      let s′ : getD vo (suc v) 0 ≡ start (places cm) (suc v) = ap (λ (y : List ℕ). getD y (suc v) 0) (sym (graph-var-offsets checks mechanisms inc)) ∙ offsets-at mechanisms (suc v) (places cm) h in
-      let k : i < length (places cm v) = omega (arith, nc, s, s′, start-suc (places cm) v) in
-      let w = passed (stands cm v) (length cm) i k in
-      let m : getD vg x 0 ≡ getD (places cm v) i 0 = ap (λ (y : ℕ). getD vg (y + i) 0) s ∙ joined-at (places cm) v mechanisms i h k in
-      let r = row-is checks (length cm) co (graph-offsets checks mechanisms inc) (getD (places cm v) i 0) (w .below) in
-      let p : getD (row vo v vg) i 0 ≡ getD (places cm v) i 0 = b ∙ m in
-      let q : getD (row vo v vc) i 0 ≡ rowOf co checks (getD (places cm v) i 0) = a ∙ e ∙ ap (rowOf co checks) m in
-      rw (p, q) (record { from = r .from; to = r .to; is = stands-true cm v _ (w .passes) })
+      let room : x < length cv = omega (arith, nc, row-end mechanisms (length cv) vo cut v h) in
+      let a : getD (row vo v vc) i 0 ≡ getD vc x 0 = row-at mechanisms (length cv) vo vc cut (sym (graph-length checks mechanisms inc)) v i h l in
+      let b : getD (row vo v vm) i 0 ≡ getD vm x 0 = row-at mechanisms (length cv) vo vm cut long v i h (omega arith) in
+      let e : getD vc x 0 ≡ rowOf co checks (getD vm x 0) = ap (λ (y : List ℕ). getD y x 0) (sym (graph-vars checks mechanisms inc)) ∙ map-at (rowOf co checks) vm x (omega arith) in
+      let s : getD vo v 0 ≡ start (places cv) v = ap (λ (y : List ℕ). getD y v 0) (sym (graph-var-offsets checks mechanisms inc)) ∙ offsets-at mechanisms v (places cv) (omega arith) in
+      let s′ : getD vo (suc v) 0 ≡ start (places cv) (suc v) = ap (λ (y : List ℕ). getD y (suc v) 0) (sym (graph-var-offsets checks mechanisms inc)) ∙ offsets-at mechanisms (suc v) (places cv) h in
+      let k : i < length (places cv v) = omega (arith, nc, s, s′, start-suc (places cv) v) in
+      let w = passed (stands cv v) (length cv) i k in
+      let m : getD vm x 0 ≡ getD (places cv v) i 0 = ap (λ (y : ℕ). getD vm (y + i) 0) s ∙ joined-at (places cv) v mechanisms i h k in
+      let r = row-is checks (length cv) co (graph-offsets checks mechanisms inc) (getD (places cv v) i 0) (w .below) in
+      let p : getD (row vo v vm) i 0 ≡ getD (places cv v) i 0 = b ∙ m in
+      let q : getD (row vo v vc) i 0 ≡ rowOf co checks (getD (places cv v) i 0) = a ∙ e ∙ ap (rowOf co checks) m in
+      rw (p, q) (record { from = r .from; to = r .to; is = stands-true cv v _ (w .passes) })
 
   -- so every graph passes
   pub graph-passes : Passes (length (entries checks mechanisms inc)) (graphOf checks mechanisms inc)
-  unfolding graphOf same
+  unfolding graphOf
   graph-passes =
       record {
         check-cut = graph-offsets checks mechanisms inc;
         check-rises = parts-rise checks mechanisms inc;
-        numbers = λ i l. getD-table _ same i 0 l;
+        numbers = λ i l. getD-table _ (λ (k : ℕ). k) i 0 l;
         var-cut = graph-var-cut checks mechanisms inc;
         var-rises = var-parts-rise;
         var-meets = var-parts-meet;

@@ -39,16 +39,16 @@ module _ (p : ℕ → Bool) where
   pub length-grows : (n : ℕ) → length (passing n p) ≤ length (passing (suc n) p)
   length-grows n = ⊎-elim (λ e. omega (arith, length-yes n e)) (λ e. omega (arith, length-no n e)) (either (p n))
 
-  -- at most n of those below n
-  pub length-below : (n : ℕ) → length (passing n p) ≤ n
-  length-below zero = rw (passing-none) (omega arith)
-  length-below (suc n) = let h = length-below n in ⊎-elim (λ e. omega (arith, length-yes n e)) (λ e. omega (arith, length-no n e)) (either (p n))
-
   -- nor over any distance
   pub length-rises : (i n : ℕ) → i ≤ n → length (passing i p) ≤ length (passing n p)
   length-rises i zero h = let e : i ≡ 0 = omega arith in rw e (omega arith)
   length-rises i (suc n) h =
       ⊎-elim (λ e. rw e (omega arith)) (λ l. let r = length-rises i n (omega arith) in omega (arith, length-grows n)) (equal-or-not i (suc n))
+
+  -- at most n of those below n
+  pub length-below : (n : ℕ) → length (passing n p) ≤ n
+  length-below zero = rw (passing-none) (omega arith)
+  length-below (suc n) = let h = length-below n in ⊎-elim (λ e. omega (arith, length-yes n e)) (λ e. omega (arith, length-no n e)) (either (p n))
 
   -- what passes stands at the place that counts those before it
   pub passing-at : (i n : ℕ) → i < n → p i ≡ true → getD (passing n p) (length (passing i p)) 0 ≡ i

@@ -13,9 +13,10 @@ use Rattle.numbers.specs.Loops.{row}
 use Rattle.graph.specs.Graph.{Graph, entries, graphOf, told}
 use Rattle.graph.specs.Model.{rising, offsetsGood, isGraph}
 use Rattle.graph.specs.QuickTest.{low, stepGood, risesBelow, ownNumber, metGood, entryGood, entriesGood, checkGood, varGood, graphTest}
-use Rattle.graph.specs.Sound.{Offsets, Long, Rising, Met}
+use Rattle.graph.specs.Sound.{Offsets, Long, Rising}
+use Rattle.graph.proofs.Cuts.{Met}
 use Rattle.graph.proofs.ModelTests.{offsets-told}
-use Rattle.graph.proofs.Passes.{Passes, sound, graph-long, graph-passes}
+use Rattle.graph.proofs.Passes.{Passes, passes-graph, graph-long, graph-passes}
 use Rattle.graph.proofs.Sameness.{is-graph-told, is-graph-some}
 
 -- ---- the quick test
@@ -53,17 +54,17 @@ unfolding offsetsGood rising
 offsets-test rows n off o = rw (eq-eqb _ _ (o .starts), every-true rows (rising off) (λ r l. le-leb _ _ (o .rises r l)), eq-eqb _ _ (o .ends))
 
 -- a message that passes lies in its check and names its mechanism
-met-told : (co cm : List ℕ) (v c m : ℕ) → metGood co cm v c m ≡ true → Met co cm v c m
+met-told : (co cv : List ℕ) (v c m : ℕ) → metGood co cv v c m ≡ true → Met co cv v c m
 unfolding metGood
-met-told co cm v c m h =
+met-told co cv v c m h =
     let a = and-both _ _ h in
     let b = and-both _ _ (a .1) in
     record { from = leb-true _ _ (a .0); to = ltb-true _ _ (b .0); is = eqb-true _ _ (b .1) }
 
 -- and the other way
-met-test : (co cm : List ℕ) (v c m : ℕ) → Met co cm v c m → metGood co cm v c m ≡ true
+met-test : (co cv : List ℕ) (v c m : ℕ) → Met co cv v c m → metGood co cv v c m ≡ true
 unfolding metGood
-met-test co cm v c m w = rw (le-leb _ _ (w .from), lt-ltb _ _ (w .to), eq-eqb _ _ (w .is))
+met-test co cv v c m w = rw (le-leb _ _ (w .from), lt-ltb _ _ (w .to), eq-eqb _ _ (w .is))
 
 -- what a variable's entries are like, where they pass
 var-told : (g : Graph) (v : ℕ) → varGood g v ≡ true
@@ -104,9 +105,9 @@ unfolding ownNumber
 number-good xs i e = eq-eqb _ _ e
 
 -- an entry in its check passes
-entry-good : (co cm : List ℕ) (v : ℕ) (cs ms : List ℕ) (i : ℕ) → Met co cm v (getD cs i 0) (getD ms i 0) → entryGood co cm v cs ms i ≡ true
+entry-good : (co cv : List ℕ) (v : ℕ) (cs ms : List ℕ) (i : ℕ) → Met co cv v (getD cs i 0) (getD ms i 0) → entryGood co cv v cs ms i ≡ true
 unfolding entryGood
-entry-good co cm v cs ms i w = met-test co cm v _ _ w
+entry-good co cv v cs ms i w = met-test co cv v _ _ w
 
 -- a variable's entries pass
 var-good : (g : Graph) (v : ℕ) → Rising (g .checks) (row (g .varOffset) v (g .varCheck))
@@ -157,7 +158,7 @@ test-true edges g t =
 pub test-is : (edges : ℕ) (g : Graph) → Long edges g → graphTest edges g ≡ isGraph g
 test-is edges g f =
     ⊎-elim
-    (λ e. e ∙ sym (is-graph-some (g .checks) (g .mechanisms) g _ (sound edges g f (test-told edges g f e))))
+    (λ e. e ∙ sym (is-graph-some (g .checks) (g .mechanisms) g _ (passes-graph edges g f (test-told edges g f e))))
     (λ e.
     ⊎-elim
     (λ k. absurd (true≢false (sym (test-true edges g (passes (is-graph-told g k))) ∙ e)))

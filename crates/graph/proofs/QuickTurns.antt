@@ -1,5 +1,5 @@
 -- The steps of the quick test, as the code has them. Assumes nothing.
-use mathlib.Core.Bool.{Bool, true, false, _&&_}
+use mathlib.Core.Bool.{Bool, true, false, and-false}
 use mathlib.Core.List.{List}
 use mathlib.Core.Path.{_≡_, refl, sym, _∙_}
 use Prim.Native.Nat.{ℕ, suc, _+_, _-_, _<_, _≤_}
@@ -14,7 +14,7 @@ use Rattle.graph.specs.Graph.{Graph}
 use Rattle.graph.specs.Model.{offsetsGood, isGraph}
 use Rattle.graph.specs.QuickTest.{low, stepGood, risesBelow, ownNumber, metGood, entryGood, entriesGood, checkGood, varGood, graphTest}
 use Rattle.graph.specs.Sound.{Offsets, Long}
-use Rattle.graph.proofs.Cuts.{offsets-rise}
+use Rattle.graph.proofs.Cuts.{row-end}
 use Rattle.graph.proofs.QuickTests.{test-is}
 
 -- ---- single steps, as the code has them
@@ -32,11 +32,7 @@ step-low n xs i x a p q h = rw (← p, ← q, lt-leb a x h)
 -- one that is not below n
 pub step-high : (n : ℕ) (xs : List ℕ) (i x : ℕ) → x ≡ getD xs i 0 → n ≤ x → stepGood n xs i ≡ false
 unfolding stepGood
-step-high n xs i x q h = rw (← q, le-ltb x n h) (no (leb (low xs i) x))
-  where
-    no : (b : Bool) → (b && false) ≡ false
-    no true = refl
-    no false = refl
+step-high n xs i x q h = rw (← q, le-ltb x n h) (and-false (leb (low xs i) x))
 
 -- the least that may stand next
 pub low-next : (xs : List ℕ) (i x : ℕ) → x ≡ getD xs i 0 → x + 1 ≡ low xs (i + 1)
@@ -48,45 +44,45 @@ pub low-first : (xs : List ℕ) → 0 ≡ low xs 0
 unfolding low
 low-first xs = refl
 
--- a message of a check that its offsets cut
-pub met-low : (co cm : List ℕ) (v c m a : ℕ) → a ≡ getD co c 0 → m < a → false ≡ metGood co cm v c m
+-- a check's part that begins after the message
+pub met-low : (co cv : List ℕ) (v c m a : ℕ) → a ≡ getD co c 0 → m < a → false ≡ metGood co cv v c m
 unfolding metGood
-met-low co cm v c m a p h = rw (← p, lt-leb a m h)
+met-low co cv v c m a p h = rw (← p, lt-leb a m h)
 
--- or ends before the message
-pub met-high : (co cm : List ℕ) (v c m a b : ℕ) → a ≡ getD co c 0 → b ≡ getD co (c + 1) 0 → a ≤ m → b ≤ m → false ≡ metGood co cm v c m
+-- or ends at or before it
+pub met-high : (co cv : List ℕ) (v c m a b : ℕ) → a ≡ getD co c 0 → b ≡ getD co (c + 1) 0 → a ≤ m → b ≤ m → false ≡ metGood co cv v c m
 unfolding metGood
-met-high co cm v c m a b p q h k = let w : b ≡ getD co (suc c) 0 = rw add-one at q in rw (← p, ← w, le-leb a m h, le-ltb m b k)
+met-high co cv v c m a b p q h k = let w : b ≡ getD co (suc c) 0 = rw add-one at q in rw (← p, ← w, le-leb a m h, le-ltb m b k)
 
 -- between them the mechanism decides
-pub met-last : (co cm : List ℕ) (v c m a b : ℕ) (r : Bool) → a ≡ getD co c 0 → b ≡ getD co (c + 1) 0 → a ≤ m → m < b → r ≡ eqb (getD cm m 0) v → r ≡ metGood co cm v c m
+pub met-last : (co cv : List ℕ) (v c m a b : ℕ) (r : Bool) → a ≡ getD co c 0 → b ≡ getD co (c + 1) 0 → a ≤ m → m < b → r ≡ eqb (getD cv m 0) v → r ≡ metGood co cv v c m
 unfolding metGood
-met-last co cm v c m a b r p q h k e = let w : b ≡ getD co (suc c) 0 = rw add-one at q in rw (← p, ← w, le-leb a m h, lt-ltb m b k) e
+met-last co cv v c m a b r p q h k e = let w : b ≡ getD co (suc c) 0 = rw add-one at q in rw (← p, ← w, le-leb a m h, lt-ltb m b k) e
 
 -- a message between them is one of the list
 pub met-room : (checks n : ℕ) (co : List ℕ) (c m b : ℕ) → Offsets checks n co → c < checks → b ≡ getD co (c + 1) 0 → m < b → m < n
-met-room checks n co c m b o h q k = let w : b ≡ getD co (suc c) 0 = rw add-one at q in omega (arith, o .ends, offsets-rise checks n co o (suc c) checks h (omega arith))
+met-room checks n co c m b o h q k = let w : b ≡ getD co (suc c) 0 = rw add-one at q in omega (arith, row-end checks n co o c h)
 
 -- an entry is tested by its check and its message
-pub entry-is : (co cm : List ℕ) (v : ℕ) (cs ms : List ℕ) (i c m : ℕ) (r : Bool) → c ≡ getD cs i 0 → m ≡ getD ms i 0 → r ≡ metGood co cm v c m → r ≡ entryGood co cm v cs ms i
+pub entry-is : (co cv : List ℕ) (v : ℕ) (cs ms : List ℕ) (i c m : ℕ) (r : Bool) → c ≡ getD cs i 0 → m ≡ getD ms i 0 → r ≡ metGood co cv v c m → r ≡ entryGood co cv v cs ms i
 unfolding entryGood
-entry-is co cm v cs ms i c m r p q e = rw (← p, ← q) e
+entry-is co cv v cs ms i c m r p q e = rw (← p, ← q) e
 
 -- a variable's checks do not rise
-pub entries-no : (checks : ℕ) (co cm : List ℕ) (v : ℕ) (cs ms : List ℕ) → risesBelow checks cs ≡ false → false ≡ entriesGood checks co cm v cs ms
+pub entries-no : (checks : ℕ) (co cv : List ℕ) (v : ℕ) (cs ms : List ℕ) → risesBelow checks cs ≡ false → false ≡ entriesGood checks co cv v cs ms
 unfolding entriesGood
-entries-no checks co cm v cs ms h = rw h
+entries-no checks co cv v cs ms h = rw h
 
 -- they rise: its entries decide
-pub entries-rest : (checks : ℕ) (co cm : List ℕ) (v : ℕ) (cs ms : List ℕ) (r : Bool) → risesBelow checks cs ≡ true → r ≡ every (length cs) (entryGood co cm v cs ms)
-    → r ≡ entriesGood checks co cm v cs ms
+pub entries-rest : (checks : ℕ) (co cv : List ℕ) (v : ℕ) (cs ms : List ℕ) (r : Bool) → risesBelow checks cs ≡ true → r ≡ every (length cs) (entryGood co cv v cs ms)
+    → r ≡ entriesGood checks co cv v cs ms
 unfolding entriesGood
-entries-rest checks co cm v cs ms r h e = rw h e
+entries-rest checks co cv v cs ms r h e = rw h e
 
 -- a check's part, cut out by the code
-pub check-is : (mechanisms : ℕ) (co cm : List ℕ) (c a e : ℕ) (r : Bool) → a ≡ getD co c 0 → e ≡ getD co (c + 1) 0 → r ≡ risesBelow mechanisms (take (e - a) (drop a cm)) → r ≡ checkGood mechanisms co cm c
+pub check-is : (mechanisms : ℕ) (co cv : List ℕ) (c a e : ℕ) (r : Bool) → a ≡ getD co c 0 → e ≡ getD co (c + 1) 0 → r ≡ risesBelow mechanisms (take (e - a) (drop a cv)) → r ≡ checkGood mechanisms co cv c
 unfolding checkGood
-check-is mechanisms co cm c a e r p q h = let w : e ≡ getD co (suc c) 0 = rw add-one at q in rw (← p, ← w) h
+check-is mechanisms co cv c a e r p q h = let w : e ≡ getD co (suc c) 0 = rw add-one at q in rw (← p, ← w) h
 
 -- a variable's parts, cut out by the code
 pub var-is : (g : Graph) (v a e : ℕ) (r : Bool) → a ≡ getD (g .varOffset) v 0 → e ≡ getD (g .varOffset) (v + 1) 0
@@ -128,12 +124,6 @@ module _ (edges : ℕ) (g : Graph) (f : Long edges g) where
       → offsetsGood (g .mechanisms) edges (g .varOffset) ≡ true → r ≡ every (g .mechanisms) (varGood g) → r ≡ isGraph g
   unfolding graphTest
   whole-5 r a b c d e = e ∙ rw (a, b, c, d) at (test-is edges g f)
-
--- the part that the code cuts out
-pub cut-bounds : (rows n : ℕ) (off : List ℕ) (r a e : ℕ) → Offsets rows n off → r < rows → a ≡ getD off r 0 → e ≡ getD off (r + 1) 0 → (a ≤ e) × (e ≤ n)
-cut-bounds rows n off r a e o h p q =
-    let w : e ≡ getD off (suc r) 0 = rw add-one at q in
-    (omega (arith, o .rises r h), omega (arith, o .ends, offsets-rise rows n off o (suc r) rows h (omega arith)))
 
 -- parts of lists of one length are of one length
 pub parts-long : (a e : ℕ) (xs ys : List ℕ) → e ≤ length xs → length ys ≡ length xs → length (take (e - a) (drop a ys)) ≡ length (take (e - a) (drop a xs))

@@ -8,10 +8,10 @@ use native.Mathlib.Omega.{arith}
 use lib.ListN.{length, getD, take}
 use lib.Seq.{length-take-le, ext-getD, take-add, take-all}
 use Rattle.numbers.proofs.Cases.{either, less-or-not, equal-or-not, last-or-before}
+use Rattle.numbers.proofs.Loops.{is-table}
 use Rattle.numbers.specs.Loops.{row}
 use Rattle.graph.specs.Lists.{passing, joined, start, offsets}
 use Rattle.graph.specs.Sound.{Offsets, Rising}
-use Rattle.graph.proofs.BucketPass.{is-table}
 use Rattle.graph.proofs.Cuts.{offsets-rise}
 use Rattle.graph.proofs.Passing.{passing-none, length-yes, length-no, passing-at, passing-counts}
 
@@ -51,6 +51,7 @@ module _ (p : ℕ → Bool) (n : ℕ) (us : List ℕ) (r : Rising n us) (passes 
     high : (x : ℕ) → q ≤ x → x < length us → i ≤ getD us x 0
 
   module _ (all : (i : ℕ) → i < n → p i ≡ true → (j : ℕ) × (j < length us) × (getD us j 0 ≡ i)) where
+    -- they end where the count of those that pass below i says
     split : (i : ℕ) → i ≤ n → Split i (length (passing i p))
     split zero h = rw (passing-none p) (record { within = omega arith; low = λ x l. absurd (omega arith); high = λ x l m. omega arith })
     split (suc i) h =
@@ -86,6 +87,7 @@ module _ (p : ℕ → Bool) (n : ℕ) (us : List ℕ) (r : Rising n us) (passes 
         }))
         (either (p i))
 
+    -- so a rising list that has all that pass is all of them
     pub all-full : us ≡ passing n p
     all-full =
         let s = split n (omega arith) in

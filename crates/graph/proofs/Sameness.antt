@@ -7,9 +7,9 @@ use Prim.Native.Nat.{ℕ, _<_}
 use lib.ListN.{length}
 use borrow.Author.Tests.{eq-eqb, eqb-true}
 use Rattle.numbers.proofs.Cases.{and-both}
-use Rattle.numbers.specs.Loops.{table}
+use Rattle.numbers.specs.Loops.{upto}
 use Rattle.graph.specs.Graph.{Graph, graph, mechanismsOf, flipped, checksOf, entries, graphOf, among, told}
-use Rattle.graph.specs.Lists.{joined, offsets, same, places, sameList}
+use Rattle.graph.specs.Lists.{joined, offsets, places, sameList}
 use Rattle.graph.specs.Model.{sameGraph, isGraph}
 use Rattle.graph.proofs.Built.{offsets-same, graph-among}
 use Rattle.graph.proofs.Passing.{passing-same}
@@ -39,7 +39,7 @@ entries-same checks mechanisms i j e = joined-same checks _ _ e
 -- the same graph
 pub graph-agrees : (checks mechanisms : ℕ) (i j : ℕ → ℕ → Bool) → ((c m : ℕ) → c < checks → m < mechanisms → i c m ≡ j c m) → graphOf checks mechanisms i ≡ graphOf checks mechanisms j
 unfolding graphOf
-graph-agrees checks mechanisms i j e = graph-same _ _ _ _ _ _ _ _ _ _ _ _ _ _ cm (ap (λ (x : List ℕ). table (length x) same) cm) co vc (ap (λ (x : List ℕ). joined mechanisms (places x)) cm) vo
+graph-agrees checks mechanisms i j e = graph-same _ _ _ _ _ _ _ _ _ _ _ _ _ _ cv (ap (λ (x : List ℕ). upto (length x)) cv) co vc (ap (λ (x : List ℕ). joined mechanisms (places x)) cv) vo
   where
     cs : (c : ℕ) → c < checks → mechanismsOf mechanisms i c ≡ mechanismsOf mechanisms j c
     cs c h = mechanisms-same checks mechanisms i j e c h
@@ -47,8 +47,8 @@ graph-agrees checks mechanisms i j e = graph-same _ _ _ _ _ _ _ _ _ _ _ _ _ _ cm
     vs : (m : ℕ) → m < mechanisms → checksOf checks i m ≡ checksOf checks j m
     vs m h = checks-same checks mechanisms i j e m h
 
-    cm : entries checks mechanisms i ≡ entries checks mechanisms j
-    cm = entries-same checks mechanisms i j cs
+    cv : entries checks mechanisms i ≡ entries checks mechanisms j
+    cv = entries-same checks mechanisms i j cs
 
     co : offsets checks (mechanismsOf mechanisms i) ≡ offsets checks (mechanismsOf mechanisms j)
     co = offsets-same checks _ _ (λ c h. ap length (cs c h))

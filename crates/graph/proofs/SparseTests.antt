@@ -1,7 +1,7 @@
 -- The tests of `build_sparse` one after the other: which refuses, what they tell where none does, and the two ways out of the call. Assumes nothing.
 use mathlib.Core.Bool.{Bool, true, false, _&&_}
 use mathlib.Core.List.{List}
-use mathlib.Core.Path.{_≡_, refl, ap, _∙_}
+use mathlib.Core.Path.{_≡_, ap, _∙_}
 use Prim.Native.Nat.{ℕ, suc, _≤_}
 use lib.Ieee.{Float}
 use lib.ListN.{length}
@@ -13,33 +13,33 @@ use Rattle.refusals.specs.declared.Answer.{Answer}
 use Rattle.refusals.specs.declared.Answer.the-variants.{Done, Refused}
 use Rattle.refusals.specs.declared.Refusal.the-variants.{SizeAboveLimit, ModelListLength, BadDetectorOffsets}
 use Rattle.graph.specs.Graph.{Graph, graphOf, among}
-use Rattle.graph.specs.Model.{countsGood, edgesGood, sizesGood, graphFits, sparseFits, offsetsGood, mechanismFault, outcome, built, sparseFault, buildSparse}
+use Rattle.graph.specs.Model.{graphFits, offsetsGood, mechanismFault, outcome, built, buildSparse, sizesGood, sparseFits, sparseFault}
 use Rattle.graph.specs.Sound.{Long}
-use Rattle.graph.specs.Steps.{Valid, fewSizes, sparseLengths, sparseTests}
+use Rattle.graph.specs.Steps.{Valid}
 use Rattle.graph.proofs.ModelTests.{offsets-told, valid-told}
 
 module _ (checks mechanisms edges : ℕ) (priors : List Float) (off dets : List ℕ) (fit : Bool) where
   -- 1
-  pub sparse-1 : fewSizes checks mechanisms edges ≡ false → Refused SizeAboveLimit ≡ sparseTests checks mechanisms edges priors off dets fit
-  unfolding sparseTests orElse unless
+  pub sparse-1 : sizesGood checks mechanisms edges ≡ false → Refused SizeAboveLimit ≡ sparseFault checks mechanisms edges priors off dets fit
+  unfolding sparseFault orElse unless
   sparse-1 h = rw h
 
   -- 2
-  pub sparse-2 : fewSizes checks mechanisms edges ≡ true → (sparseLengths mechanisms edges (length priors) (length off) (length dets) && fit) ≡ false
-      → Refused ModelListLength ≡ sparseTests checks mechanisms edges priors off dets fit
-  unfolding sparseTests orElse unless
+  pub sparse-2 : sizesGood checks mechanisms edges ≡ true → (sparseFits mechanisms edges (length priors) (length off) (length dets) && fit) ≡ false
+      → Refused ModelListLength ≡ sparseFault checks mechanisms edges priors off dets fit
+  unfolding sparseFault orElse unless
   sparse-2 h k = rw (h, k)
 
   -- 3
-  pub sparse-3 : fewSizes checks mechanisms edges ≡ true → (sparseLengths mechanisms edges (length priors) (length off) (length dets) && fit) ≡ true
-      → offsetsGood mechanisms (length dets) off ≡ false → Refused BadDetectorOffsets ≡ sparseTests checks mechanisms edges priors off dets fit
-  unfolding sparseTests orElse unless
+  pub sparse-3 : sizesGood checks mechanisms edges ≡ true → (sparseFits mechanisms edges (length priors) (length off) (length dets) && fit) ≡ true
+      → offsetsGood mechanisms (length dets) off ≡ false → Refused BadDetectorOffsets ≡ sparseFault checks mechanisms edges priors off dets fit
+  unfolding sparseFault orElse unless
   sparse-3 h k l = rw (h, k, l)
 
   -- 4, 5 or 6, or none
-  pub sparse-4 : (a : Answer) → fewSizes checks mechanisms edges ≡ true → (sparseLengths mechanisms edges (length priors) (length off) (length dets) && fit) ≡ true
-      → offsetsGood mechanisms (length dets) off ≡ true → a ≡ firstOf mechanisms (mechanismFault checks priors off dets) → a ≡ sparseTests checks mechanisms edges priors off dets fit
-  unfolding sparseTests orElse unless
+  pub sparse-4 : (a : Answer) → sizesGood checks mechanisms edges ≡ true → (sparseFits mechanisms edges (length priors) (length off) (length dets) && fit) ≡ true
+      → offsetsGood mechanisms (length dets) off ≡ true → a ≡ firstOf mechanisms (mechanismFault checks priors off dets) → a ≡ sparseFault checks mechanisms edges priors off dets fit
+  unfolding sparseFault orElse unless
   sparse-4 a h k l e = rw (h, k, l) e
 
   -- what the lengths are where they fit
@@ -50,7 +50,7 @@ module _ (checks mechanisms edges : ℕ) (priors : List Float) (off dets : List 
     pub fits : fit ≡ true
 
   -- and that the test tells it
-  pub lengths-told : (sparseLengths mechanisms edges (length priors) (length off) (length dets) && fit) ≡ true → Lengths
+  pub lengths-told : (sparseFits mechanisms edges (length priors) (length off) (length dets) && fit) ≡ true → Lengths
   lengths-told h =
       let a = and-both _ _ h in
       let b = and-both _ _ (a .0) in
@@ -66,8 +66,8 @@ module _ (checks mechanisms edges : ℕ) (priors : List Float) (off dets : List 
     pub valid : Valid checks mechanisms off dets
 
   -- and that they do
-  pub sparse-told : sparseTests checks mechanisms edges priors off dets fit ≡ Done → Told
-  unfolding sparseTests
+  pub sparse-told : sparseFault checks mechanisms edges priors off dets fit ≡ Done → Told
+  unfolding sparseFault
   sparse-told h =
       let a = or-done _ _ h in
       let b = or-done _ _ (a .1) in
@@ -82,11 +82,6 @@ module _ (checks mechanisms edges : ℕ) (priors : List Float) (off dets : List 
         lengths = l;
         valid = valid-told checks mechanisms priors off dets (offsets-told mechanisms (length dets) off (l .off-many) (unless-done _ BadDetectorOffsets (c .0))) (c .1);
       }
-
--- the tests are those of the definition, the graph lists' lengths tested before
-pub sparse-is : (edges : ℕ) (priors : List Float) (off dets : List ℕ) (g : Graph) → sparseTests (g .checks) (g .mechanisms) edges priors off dets (graphFits edges g) ≡ sparseFault edges priors off dets g
-unfolding sparseTests sparseFault sizesGood countsGood edgesGood sparseFits
-sparse-is edges priors off dets g = refl
 
 -- the six lengths, where they fit
 pub long-told : (edges : ℕ) (g : Graph) → graphFits edges g ≡ true → Long edges g
@@ -131,10 +126,10 @@ built-refused a b inc old p d = rw (← p, d)
 
 -- the two ways out of `build_sparse`
 module _ (edges : ℕ) (priors : List Float) (off dets : List ℕ) (a : Answer) (fit : Bool) (old : Graph) (f : fit ≡ graphFits edges old)
-    (p : a ≡ sparseTests (old .checks) (old .mechanisms) edges priors off dets fit) where
+    (p : a ≡ sparseFault (old .checks) (old .mechanisms) edges priors off dets fit) where
   -- the answer is that of the definition
-  answer : a ≡ sparseFault edges priors off dets old
-  answer = p ∙ ap (λ (b : Bool). sparseTests (old .checks) (old .mechanisms) edges priors off dets b) f ∙ sparse-is edges priors off dets old
+  answer : a ≡ sparseFault (old .checks) (old .mechanisms) edges priors off dets (graphFits edges old)
+  answer = p ∙ ap (λ (b : Bool). sparseFault (old .checks) (old .mechanisms) edges priors off dets b) f
 
   -- built
   pub sparse-done : (new : Graph) → isDone a ≡ true → new ≡ graphOf (old .checks) (old .mechanisms) (among off dets) → outcome a new ≡ buildSparse edges priors off dets old

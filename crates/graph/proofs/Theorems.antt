@@ -1,10 +1,9 @@
 -- What holds of the calls of this crate as a whole. Assumes nothing.
-use mathlib.Core.Bool.{Bool, true, _&&_}
+use mathlib.Core.Bool.{Bool, true}
 use mathlib.Core.List.{List}
 use mathlib.Core.Path.{_≡_, refl, sym, ap, _∙_}
 use Prim.Native.Nat.{ℕ, _*_, _<_, _≤_}
 use native.Mathlib.Omega.{arith}
-use lib.Dec.{eqb, leb}
 use lib.Ieee.{Float, nan, le, neg}
 use lib.ListN.{length, replicate, length-replicate, getD-replicate}
 use borrow.Author.Tests.{eq-eqb, le-leb}
@@ -16,15 +15,15 @@ use Rattle.refusals.specs.declared.Answer.{Answer}
 use Rattle.refusals.specs.declared.Answer.the-variants.{Done}
 use Rattle.graph.specs.Graph.{Graph, graphOf, among, marked, told}
 use Rattle.graph.specs.Lists.{has}
-use Rattle.graph.specs.Model.{graphFits, priorGood, priorFault, isGraph, Outcome, outcome, built, sparseFault, buildSparse, countEdges, denseFault, buildDense, graphFault}
-use Rattle.graph.specs.Steps.{Valid, fewCounts}
+use Rattle.graph.specs.Model.{edgesGood, graphFits, denseFits, priorGood, priorFault, isGraph, Outcome, outcome, built, sparseFault, buildSparse, countEdges, denseFault, buildDense, graphFault, countsGood}
+use Rattle.graph.specs.Steps.{Valid}
 use Rattle.graph.proofs.Built.{sparse-length}
-use Rattle.graph.proofs.DenseTests.{dense-5, DenseTold, dense-told, dense-is, dense-done}
+use Rattle.graph.proofs.DenseTests.{dense-5, DenseTold, dense-told, dense-done}
 use Rattle.graph.proofs.GraphTests.{graph-told}
 use Rattle.graph.proofs.Matrix.{matrix-edges}
 use Rattle.graph.proofs.Models.{GoodPriors, good-none, none-good, mechanisms-good, built-from, graph-checked}
 use Rattle.graph.proofs.Sameness.{graph-agrees, is-graph-told, is-graph-some}
-use Rattle.graph.proofs.SparseTests.{Told, sparse-told, sparse-is}
+use Rattle.graph.proofs.SparseTests.{Told, sparse-told}
 
 -- ---- the lists that a builder wrote
 
@@ -37,7 +36,7 @@ built-lists a inc g h = rw h
 sparse-lists : (edges : ℕ) (priors : List Float) (off dets : List ℕ) (g : Graph) → buildSparse edges priors off dets g .answer ≡ Done
     → buildSparse edges priors off dets g .lists ≡ graphOf (g .checks) (g .mechanisms) (among off dets)
 unfolding buildSparse
-sparse-lists edges priors off dets g h = built-lists (sparseFault edges priors off dets g) (among off dets) g h
+sparse-lists edges priors off dets g h = built-lists _ (among off dets) g h
 
 -- answer and all
 sparse-whole : (edges : ℕ) (priors : List Float) (off dets : List ℕ) (g : Graph) → buildSparse edges priors off dets g .answer ≡ Done
@@ -49,13 +48,13 @@ sparse-whole edges priors off dets g h = rw h
 dense-lists : (priors : List Float) (matrix : List ℕ) (g : Graph) → buildDense priors matrix g .answer ≡ Done
     → buildDense priors matrix g .lists ≡ graphOf (g .checks) (g .mechanisms) (marked (g .mechanisms) matrix)
 unfolding buildDense
-dense-lists priors matrix g h = built-lists (denseFault priors matrix g) (marked (g .mechanisms) matrix) g h
+dense-lists priors matrix g h = built-lists _ (marked (g .mechanisms) matrix) g h
 
 -- what the tests tell of an accepted sparse model
 sparse-accepted : (edges : ℕ) (priors : List Float) (off dets : List ℕ) (g : Graph) → buildSparse edges priors off dets g .answer ≡ Done
     → Told (g .checks) (g .mechanisms) edges priors off dets (graphFits edges g)
 unfolding buildSparse built
-sparse-accepted edges priors off dets g h = sparse-told (g .checks) (g .mechanisms) edges priors off dets (graphFits edges g) (sparse-is edges priors off dets g ∙ h)
+sparse-accepted edges priors off dets g h = sparse-told (g .checks) (g .mechanisms) edges priors off dets (graphFits edges g) h
 
 -- and that its priors are good
 sparse-good : (edges : ℕ) (priors : List Float) (off dets : List ℕ) (g : Graph) → buildSparse edges priors off dets g .answer ≡ Done → GoodPriors (g .mechanisms) priors
@@ -67,7 +66,7 @@ sparse-good edges priors off dets g h =
 dense-accepted : (priors : List Float) (matrix : List ℕ) (g : Graph) → buildDense priors matrix g .answer ≡ Done
     → DenseTold (g .checks) (g .mechanisms) (countEdges matrix) priors (length matrix) (graphFits (countEdges matrix) g)
 unfolding buildDense built
-dense-accepted priors matrix g h = dense-told (g .checks) (g .mechanisms) (countEdges matrix) priors (length matrix) (graphFits (countEdges matrix) g) (dense-is priors matrix g ∙ h)
+dense-accepted priors matrix g h = dense-told (g .checks) (g .mechanisms) (countEdges matrix) priors (length matrix) (graphFits (countEdges matrix) g) h
 
 -- and that its priors are good
 dense-good : (priors : List Float) (matrix : List ℕ) (g : Graph) → buildDense priors matrix g .answer ≡ Done → GoodPriors (g .mechanisms) priors
@@ -75,7 +74,7 @@ unfolding buildDense built denseFault
 dense-good priors matrix g h =
     none-good (g .mechanisms) priors (dense-accepted priors matrix g h .priors-many) (or-done _ _ (or-done _ _ (or-done _ _ (or-done _ _ h .1) .1) .1) .1)
 
--- ---- 1: sparse and dense
+-- ---- sparse and dense
 
 -- Sparse and dense building give the same lists on the same incidences: where a sparse and a dense model are both accepted, and for each check and
 -- mechanism within the counts the one names the pair exactly where the other marks it, the six lists are the same, whatever the priors.
@@ -104,17 +103,17 @@ dense-is-sparse edges priors off dets matrix g h l e =
     let p = sparse-good edges priors off dets g h in
     let n : countEdges matrix ≡ edges = same-edges (g .checks) (g .mechanisms) off dets matrix (t .valid) l e ∙ t .lengths .dets-many in
     let fits : graphFits (countEdges matrix) g ≡ true = rw n (t .lengths .fits) in
-    let lengths : (eqb (length matrix) (g .checks * g .mechanisms) && eqb (length priors) (g .mechanisms)) ≡ true =
+    let lengths : denseFits (g .checks) (g .mechanisms) (length priors) (length matrix) ≡ true =
     rw (eq-eqb (length matrix) (g .checks * g .mechanisms) l, eq-eqb (length priors) (g .mechanisms) (p .many)) in
-    let counts : fewCounts (g .checks) (g .mechanisms) ≡ true = rw (le-leb (g .checks) 65536 (t .checks-few), le-leb (g .mechanisms) 65536 (t .mechanisms-few)) in
-    let small : leb (countEdges matrix) 1048576 ≡ true = le-leb (countEdges matrix) 1048576 (omega (arith, n, t .edges-few)) in
+    let counts : countsGood (g .checks) (g .mechanisms) ≡ true = rw (le-leb (g .checks) 65536 (t .checks-few), le-leb (g .mechanisms) 65536 (t .mechanisms-few)) in
+    let small : edgesGood (countEdges matrix) ≡ true = le-leb (countEdges matrix) 1048576 (omega (arith, n, t .edges-few)) in
     let none : Done ≡ firstOf (length priors) (priorFault priors) = sym (ap (λ (k : ℕ). firstOf k (priorFault priors)) (p .many) ∙ good-none (g .mechanisms) priors p) in
     let tests = dense-5 (g .checks) (g .mechanisms) (countEdges matrix) priors (length matrix) (graphFits (countEdges matrix) g) Done counts lengths small fits none in
     sym (dense-done priors matrix Done (countEdges matrix) (graphFits (countEdges matrix) g) g refl refl tests _ refl refl)
     ∙ ap (outcome Done) (sym (graph-agrees (g .checks) (g .mechanisms) (among off dets) (marked (g .mechanisms) matrix) e))
     ∙ sym (sparse-whole edges priors off dets g h)
 
--- ---- 2: the detectors' order
+-- ---- the detectors' order
 
 -- The detectors' order within a mechanism changes nothing: two accepted models of the same counts, each of whose mechanisms has the same set of detectors
 -- in both, build the same lists.
@@ -125,7 +124,7 @@ unfolding among
 order-free edges edges′ priors priors′ off off′ dets dets′ g h k e =
     sparse-lists edges priors off dets g h ∙ graph-agrees (g .checks) (g .mechanisms) (among off dets) (among off′ dets′) (λ c m x y. e m c y) ∙ sym (sparse-lists edges′ priors′ off′ dets′ g k)
 
--- ---- 3: what is built passes
+-- ---- what is built passes
 
 -- Lists that `build_sparse` wrote pass 7.
 pub sparse-passes : (edges : ℕ) (priors : List Float) (off dets : List ℕ) (g : Graph) → buildSparse edges priors off dets g .answer ≡ Done → isGraph (buildSparse edges priors off dets g .lists) ≡ true
@@ -152,7 +151,7 @@ dense-checked priors matrix g h =
     (graph-checked (g .checks) (g .mechanisms) (countEdges matrix) (marked (g .mechanisms) matrix) priors (t .checks-few) (t .mechanisms-few) (t .edges-few)
     (matrix-edges (g .checks) (g .mechanisms) matrix (t .bytes-many)) (dense-good priors matrix g h))
 
--- ---- 4: what passes is built
+-- ---- what passes is built
 
 -- as many priors of positive zero
 abbrev pub zeroes : ℕ → List Float
@@ -181,7 +180,7 @@ checked-built edges priors g h =
     ∙ built-from g g (told g) priors (is-graph-told g (t .is-graph)) (t .checks-few) (t .mechanisms-few) (omega (arith, n, t .edges-few)) (record { many = t .priors-many; good = t .priors-good })
     (rw n (t .fits))
 
--- ---- 5: one result
+-- ---- one result
 
 -- Two results that one equation allows coincide.
 pub coincide {ℓ} : {A : Type ℓ} (x y z : A) → x ≡ z → y ≡ z → x ≡ y

@@ -4,8 +4,8 @@ use mathlib.Core.Bool.{Bool, not}
 use mathlib.Core.List.{List}
 use lib.Dec.{eqb}
 use lib.ListN.{length, getD}
-use Rattle.numbers.specs.Loops.{table, row}
-use Rattle.graph.specs.Lists.{has, passing, joined, offsets, same, places}
+use Rattle.numbers.specs.Loops.{upto, row}
+use Rattle.graph.specs.Lists.{has, passing, joined, offsets, places}
 
 -- `num_checks` and `num_vars`; `check_data`, pairs of a variable and a message, with its offsets; `var_data`, pairs of a check and a message, with its
 -- offsets. A variable is a mechanism.
@@ -58,7 +58,7 @@ graphOf checks mechanisms inc =
       checks = checks;
       mechanisms = mechanisms;
       checkVar = entries checks mechanisms inc;
-      checkMessage = table (length (entries checks mechanisms inc)) same;
+      checkMessage = upto (length (entries checks mechanisms inc));
       checkOffset = offsets checks (mechanismsOf mechanisms inc);
       varCheck = joined mechanisms (checksOf checks inc);
       varMessage = joined mechanisms (places (entries checks mechanisms inc));

@@ -29,10 +29,6 @@ start f i = length (joined i f)
 unfoldable pub offsets : ℕ → (ℕ → List ℕ) → List ℕ
 offsets n f = table (suc n) (start f)
 
--- the number itself: `table n same` is 0 .. n - 1
-unfoldable pub same : ℕ → ℕ
-same i = i
-
 -- whether k stands at the place i
 unfoldable pub stands : List ℕ → ℕ → ℕ → Bool
 stands xs k i = eqb (getD xs i 0) k

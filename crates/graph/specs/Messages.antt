@@ -4,9 +4,9 @@
 use Prim.Native.Nat.{ℕ}
 use mathlib.Core.Bool.{Bool, false, cond}
 use mathlib.Core.List.{List, map, foldl}
-use lib.Ieee.{Float, nan, inf}
+use lib.Ieee.{Float, nan, inf, lt}
 use lib.ListN.{length, getD, replicate}
-use Rattle.numbers.specs.Floats.{_+ᶠ_, zero⁺, zero⁻, one⁺, one⁻, isFinite}
+use Rattle.numbers.specs.Floats.{_+ᶠ_, zero⁺, zero⁻, one⁺, one⁻, abs, isFinite}
 use Rattle.refusals.specs.declared.Refusal.the-variants.{NonFinite}
 use Rattle.refusals.specs.declared.Answer.{Answer}
 use Rattle.refusals.specs.Tests.{unless, firstOf}
@@ -27,12 +27,20 @@ pub record Scan : Type 0 where
   pub min2 : Float
   pub least : ℕ
 
+-- a scan of its parts
 abbrev pub scanOf : Float → Float → Float → ℕ → Scan
 scanOf sign min1 min2 least = record { totalSign = sign; min1 = min1; min2 = min2; least = least }
 
 -- before the first message: the sign of the syndrome, infinite minima, and a least that is nobody's
 abbrev pub startScan : Bool → ℕ → Scan
-startScan odd nobody = record { totalSign = cond odd one⁻ one⁺; min1 = inf false; min2 = inf false; least = nobody }
+startScan odd nobody = scanOf (cond odd one⁻ one⁺) (inf false) (inf false) nobody
+
+-- the scan, one message further, with its new total sign: strict comparison keeps the first minimum
+unfoldable pub lowered : Scan → Float → ℕ → Float → Scan
+lowered s sign own message =
+    let magnitude = abs message in
+    let lower = lt magnitude (s .min1) in
+    scanOf sign (cond lower magnitude (s .min1)) (cond lower (s .min1) (cond (lt magnitude (s .min2)) magnitude (s .min2))) (cond lower own (s .least))
 
 -- the sum of the messages that the entries name, in their order, from -0.0
 unfoldable pub total : List Float → List ℕ → Float

@@ -17,34 +17,36 @@ use Rattle.graph.specs.Graph.{Graph, graphOf, among, marked, told}
 -- ---- 1: sizes
 
 -- checks and mechanisms at most 65,536 each
-unfoldable pub countsGood : Graph → Bool
-countsGood g = leb (g .checks) 65536 && leb (g .mechanisms) 65536
+abbrev pub countsGood : ℕ → ℕ → Bool
+countsGood checks mechanisms = leb checks 65536 && leb mechanisms 65536
 
 -- edges at most 1,048,576
-unfoldable pub edgesGood : ℕ → Bool
+abbrev pub edgesGood : ℕ → Bool
 edgesGood edges = leb edges 1048576
 
 -- all three
-unfoldable pub sizesGood : ℕ → Graph → Bool
-sizesGood edges g = countsGood g && edgesGood edges
+abbrev pub sizesGood : ℕ → ℕ → ℕ → Bool
+sizesGood checks mechanisms edges = countsGood checks mechanisms && edgesGood edges
 
 -- ---- 2: lengths
 
--- the six graph lists of a graph with this many edges
+-- the six graph lists have these lengths
+abbrev pub graphLengths : ℕ → ℕ → ℕ → ℕ → ℕ → ℕ → ℕ → ℕ → ℕ → Bool
+graphLengths checks mechanisms edges cv cm co vc vm vo =
+    eqb cv edges && (eqb cm edges && (eqb co (suc checks) && (eqb vc edges && (eqb vm edges && eqb vo (suc mechanisms)))))
+
+-- those of g have the lengths of a graph with this many edges
 unfoldable pub graphFits : ℕ → Graph → Bool
 graphFits edges g =
-    eqb (length (g .checkVar)) edges
-    && (eqb (length (g .checkMessage)) edges
-    && (eqb (length (g .checkOffset)) (suc (g .checks))
-    && (eqb (length (g .varCheck)) edges && (eqb (length (g .varMessage)) edges && eqb (length (g .varOffset)) (suc (g .mechanisms))))))
+    graphLengths (g .checks) (g .mechanisms) edges (length (g .checkVar)) (length (g .checkMessage)) (length (g .checkOffset)) (length (g .varCheck)) (length (g .varMessage)) (length (g .varOffset))
 
--- a sparse model's three lists
-unfoldable pub sparseFits : ℕ → List Float → List ℕ → List ℕ → Graph → Bool
-sparseFits edges priors off dets g = eqb (length priors) (g .mechanisms) && (eqb (length off) (suc (g .mechanisms)) && eqb (length dets) edges)
+-- a sparse model's three lists have these lengths
+abbrev pub sparseFits : ℕ → ℕ → ℕ → ℕ → ℕ → Bool
+sparseFits mechanisms edges priors off dets = eqb priors mechanisms && (eqb off (suc mechanisms) && eqb dets edges)
 
--- a dense model's two lists
-unfoldable pub denseFits : List Float → List ℕ → Graph → Bool
-denseFits priors matrix g = eqb (length matrix) (g .checks * g .mechanisms) && eqb (length priors) (g .mechanisms)
+-- a dense model's two
+abbrev pub denseFits : ℕ → ℕ → ℕ → ℕ → Bool
+denseFits checks mechanisms priors bytes = eqb bytes (checks * mechanisms) && eqb priors mechanisms
 
 -- ---- 3: detector offsets
 
@@ -71,13 +73,17 @@ unfoldable pub detectorFault : ℕ → ℕ → List ℕ → ℕ → Answer
 detectorFault checks m ds i =
     orElse (unless (ltb (getD ds i 0) checks) (DetectorOutOfRange m)) (unless (not (has (take i ds) (getD ds i 0))) (DetectorRepeated m))
 
--- 4, then each detector in list order, for the mechanism m
+-- 4, then each detector in list order, for the mechanism m with its prior and its detectors
+unfoldable pub mechanismTest : ℕ → ℕ → Float → List ℕ → Answer
+mechanismTest checks m prior ds = orElse (unless (priorGood prior) (BadPrior m)) (firstOf (length ds) (detectorFault checks m ds))
+
+-- that, of a model's mechanism m
 unfoldable pub mechanismFault : ℕ → List Float → List ℕ → List ℕ → ℕ → Answer
-mechanismFault checks priors off dets m =
-    orElse (priorFault priors m) (firstOf (length (row off m dets)) (detectorFault checks m (row off m dets)))
+mechanismFault checks priors off dets m = mechanismTest checks m (getD priors m nan) (row off m dets)
 
 -- ---- 7: graph lists that no model builds
 
+-- the six lists are the same
 unfoldable pub sameGraph : Graph → Graph → Bool
 sameGraph g h =
     sameList (g .checkVar) (h .checkVar)
@@ -96,6 +102,7 @@ pub record Outcome : Type 0 where
   pub answer : Answer
   pub lists : Graph
 
+-- an outcome of its parts
 abbrev pub outcome : Answer → Graph → Outcome
 outcome a g = record { answer = a; lists = g }
 
@@ -103,37 +110,39 @@ outcome a g = record { answer = a; lists = g }
 unfoldable pub built : Answer → (ℕ → ℕ → Bool) → Graph → Outcome
 built a inc g = outcome a (unlessRefused a (graphOf (g .checks) (g .mechanisms) inc) g)
 
--- the tests of `build_sparse`: 1, 2, 3, then mechanism by mechanism 4, 5 and 6
-unfoldable pub sparseFault : ℕ → List Float → List ℕ → List ℕ → Graph → Answer
-sparseFault edges priors off dets g =
-    orElse (unless (sizesGood edges g) SizeAboveLimit)
-    (orElse (unless (sparseFits edges priors off dets g && graphFits edges g) ModelListLength)
-    (orElse (unless (offsetsGood (g .mechanisms) (length dets) off) BadDetectorOffsets) (firstOf (g .mechanisms) (mechanismFault (g .checks) priors off dets))))
+-- the tests of `build_sparse`: 1, 2, 3, then mechanism by mechanism 4, 5 and 6. `fit` says whether the graph lists have their lengths
+unfoldable pub sparseFault : ℕ → ℕ → ℕ → List Float → List ℕ → List ℕ → Bool → Answer
+sparseFault checks mechanisms edges priors off dets fit =
+    orElse (unless (sizesGood checks mechanisms edges) SizeAboveLimit)
+    (orElse (unless (sparseFits mechanisms edges (length priors) (length off) (length dets) && fit) ModelListLength)
+    (orElse (unless (offsetsGood mechanisms (length dets) off) BadDetectorOffsets) (firstOf mechanisms (mechanismFault checks priors off dets))))
 
 -- `build_sparse`: mechanism m's detectors stand in `dets` from offset m to offset m + 1
 unfoldable pub buildSparse : ℕ → List Float → List ℕ → List ℕ → Graph → Outcome
-buildSparse edges priors off dets g = built (sparseFault edges priors off dets g) (among off dets) g
+buildSparse edges priors off dets g = built (sparseFault (g .checks) (g .mechanisms) edges priors off dets (graphFits edges g)) (among off dets) g
 
 -- how many bytes of a matrix are not zero: `count_edges`
 unfoldable pub countEdges : List ℕ → ℕ
 countEdges [] = 0
 countEdges (x ∷ xs) = cond (eqb x 0) (countEdges xs) (suc (countEdges xs))
 
--- the tests of `build_dense`: counts, matrix and prior lengths, edges, graph lists, priors
-unfoldable pub denseFault : List Float → List ℕ → Graph → Answer
-denseFault priors matrix g =
-    orElse (unless (countsGood g) SizeAboveLimit)
-    (orElse (unless (denseFits priors matrix g) ModelListLength)
-    (orElse (unless (edgesGood (countEdges matrix)) SizeAboveLimit)
-    (orElse (unless (graphFits (countEdges matrix) g) ModelListLength) (firstOf (g .mechanisms) (priorFault priors)))))
+-- the tests of `build_dense`: counts, matrix and prior lengths, edges, graph lists, priors. `bytes` is the matrix's length, `edges` how many of its bytes are
+-- not zero, and `fit` says whether the graph lists have their lengths
+unfoldable pub denseFault : ℕ → ℕ → ℕ → List Float → ℕ → Bool → Answer
+denseFault checks mechanisms edges priors bytes fit =
+    orElse (unless (countsGood checks mechanisms) SizeAboveLimit)
+    (orElse (unless (denseFits checks mechanisms (length priors) bytes) ModelListLength)
+    (orElse (unless (edgesGood edges) SizeAboveLimit) (orElse (unless fit ModelListLength) (firstOf mechanisms (priorFault priors)))))
 
 -- `build_dense`: the matrix lies check by check, and a byte that is not zero is an incidence
 unfoldable pub buildDense : List Float → List ℕ → Graph → Outcome
-buildDense priors matrix g = built (denseFault priors matrix g) (marked (g .mechanisms) matrix) g
+buildDense priors matrix g =
+    let edges = countEdges matrix in
+    built (denseFault (g .checks) (g .mechanisms) edges priors (length matrix) (graphFits edges g)) (marked (g .mechanisms) matrix) g
 
 -- `check_graph`, the tests of lent graph lists and their priors: 1, 2, 4 and 7. Every call over a graph begins with them.
 unfoldable pub graphFault : ℕ → List Float → Graph → Answer
 graphFault edges priors g =
-    orElse (unless (sizesGood edges g) SizeAboveLimit)
+    orElse (unless (sizesGood (g .checks) (g .mechanisms) edges) SizeAboveLimit)
     (orElse (unless (eqb (length priors) (g .mechanisms) && graphFits edges g) ModelListLength)
     (orElse (firstOf (g .mechanisms) (priorFault priors)) (unless (isGraph g) NoSuchGraph)))

@@ -6,14 +6,14 @@ ghost use lib.ListN.{length, take};
 ghost use Rattle.graph.specs.Lists.{offsets};
 ghost use Rattle.graph.specs.Graph.{graph, graphOf, entries, mechanismsOf, marked};
 ghost use Rattle.graph.specs.Model.{countEdges};
-ghost use Rattle.graph.specs.Steps.{ones, marks};
+ghost use Rattle.graph.specs.Steps.{ofByte, marks};
 use crate::buckets::put;
 use crate::build::from_checks;
 
 // The mechanism m written at `place`, unless its byte is zero. The next place.
 fn mark(byte: u8, m: usize, place: usize, out: &mut [u32]) -> usize
-    requires { ⌜ (place + length (ones byte m) ≤ length (now out)) × (m < 4294967296) ⌝ }
-    ensures { λ r. ⌜ (r ≡ place + length (ones byte m)) × (take r (now (out .exit)) ≡ take place (now (out .entry)) ++ ones byte m) ⌝ }
+    requires { ⌜ (place + length (ofByte byte m) ≤ length (now out)) × (m < 4294967296) ⌝ }
+    ensures { λ r. ⌜ (r ≡ place + length (ofByte byte m)) × (take r (now (out .exit)) ≡ take place (now (out .entry)) ++ ofByte byte m) ⌝ }
 {
     if byte == 0 {
         return place;

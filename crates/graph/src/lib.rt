@@ -55,21 +55,21 @@ pub fn build_sparse(
         var_offset.len(),
     );
     let a = sparse_fault(size, priors, detector_offsets, detectors, fit);
-    if is_done(a) {
-        from_detectors(
-            size.checks,
-            size.mechanisms,
-            detector_offsets,
-            detectors,
-            check_var,
-            check_message,
-            check_offset,
-            var_check,
-            var_message,
-            var_offset,
-        );
+    if !is_done(a) {
         return a;
     }
+    from_detectors(
+        size.checks,
+        size.mechanisms,
+        detector_offsets,
+        detectors,
+        check_var,
+        check_message,
+        check_offset,
+        var_check,
+        var_message,
+        var_offset,
+    );
     a
 }
 
@@ -118,20 +118,20 @@ pub fn build_dense(
         var_offset.len(),
     );
     let a = dense_fault(size, priors, matrix.len(), fit);
-    if is_done(a) {
-        from_matrix(
-            checks,
-            mechanisms,
-            matrix,
-            check_var,
-            check_message,
-            check_offset,
-            var_check,
-            var_message,
-            var_offset,
-        );
+    if !is_done(a) {
         return a;
     }
+    from_matrix(
+        checks,
+        mechanisms,
+        matrix,
+        check_var,
+        check_message,
+        check_offset,
+        var_check,
+        var_message,
+        var_offset,
+    );
     a
 }
 

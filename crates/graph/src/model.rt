@@ -2,14 +2,12 @@
 ghost use mathlib.Core.Path.{_≡_};
 ghost use mathlib.Core.Bool.{_&&_};
 ghost use Prim.Native.Nat.{suc, _<_, _≤_};
-ghost use lib.Dec.{leb};
 ghost use lib.ListN.{length, take};
 ghost use Rattle.numbers.specs.Loops.{every};
 ghost use Rattle.refusals.specs.Tests.{firstOf};
 ghost use Rattle.graph.specs.Lists.{has};
-ghost use Rattle.graph.specs.Model.{rising, offsetsGood, priorGood, priorFault, detectorFault, mechanismFault};
+ghost use Rattle.graph.specs.Model.{edgesGood, rising, offsetsGood, priorGood, priorFault, detectorFault, mechanismFault, countsGood, sizesGood, sparseFits, sparseFault, denseFault, graphLengths, mechanismTest};
 ghost use Rattle.graph.specs.Sound.{Offsets};
-ghost use Rattle.graph.specs.Steps.{fewCounts, fewSizes, sparseLengths, graphLengths, mechanismTest, sparseTests, denseTests};
 use crate::Size;
 use crate::buckets::at;
 use refusals::Answer;
@@ -24,28 +22,28 @@ use tests_core::same_number;
 
 // Checks and mechanisms within their limits.
 pub(crate) fn counts_good(checks: usize, mechanisms: usize) -> bool
-    ensures { λ r. ⌜ r ≡ fewCounts checks mechanisms ⌝ }
+    ensures { λ r. ⌜ r ≡ countsGood checks mechanisms ⌝ }
 {
     both(at_most(checks, 65536), at_most(mechanisms, 65536))
 }
 
 // Edges within theirs.
 pub(crate) fn edges_good(edges: usize) -> bool
-    ensures { λ r. ⌜ r ≡ leb edges 1048576 ⌝ }
+    ensures { λ r. ⌜ r ≡ edgesGood edges ⌝ }
 {
     at_most(edges, 1048576)
 }
 
 // All three.
 pub(crate) fn sizes_good(s: Size) -> bool
-    ensures { λ r. ⌜ r ≡ fewSizes (s .checks) (s .mechanisms) (s .edges) ⌝ }
+    ensures { λ r. ⌜ r ≡ sizesGood (s .checks) (s .mechanisms) (s .edges) ⌝ }
 {
     both(counts_good(s.checks, s.mechanisms), edges_good(s.edges))
 }
 
 // The lengths of a sparse model's three lists.
 fn model_fits(s: Size, priors: usize, off: usize, dets: usize) -> bool
-    ensures { λ r. ⌜ r ≡ sparseLengths (s .mechanisms) (s .edges) priors off dets ⌝ }
+    ensures { λ r. ⌜ r ≡ sparseFits (s .mechanisms) (s .edges) priors off dets ⌝ }
 {
     both(
         same_number(priors, s.mechanisms),
@@ -218,7 +216,7 @@ pub(crate) fn priors_fault(priors: &[f64]) -> Answer
 
 // 1 to 6. `fit`: the lent graph lists have their lengths.
 pub(crate) fn sparse_fault(s: Size, priors: &[f64], off: &[u32], dets: &[u32], fit: bool) -> Answer
-    ensures { λ r. ⌜ r ≡ sparseTests (s .checks) (s .mechanisms) (s .edges) (now (priors .entry)) (now (off .entry)) (now (dets .entry)) fit ⌝ }
+    ensures { λ r. ⌜ r ≡ sparseFault (s .checks) (s .mechanisms) (s .edges) (now (priors .entry)) (now (off .entry)) (now (dets .entry)) fit ⌝ }
 {
     if !sizes_good(s) {
         return Answer::Refused(Refusal::SizeAboveLimit);
@@ -237,7 +235,7 @@ pub(crate) fn sparse_fault(s: Size, priors: &[f64], off: &[u32], dets: &[u32], f
 // Counts, the lengths of matrix and priors, edges, the lent graph lists, priors. `bytes`: the matrix's length; the size's edges: how many of
 // its bytes are not zero; `fit`: the lent graph lists have their lengths.
 pub(crate) fn dense_fault(s: Size, priors: &[f64], bytes: usize, fit: bool) -> Answer
-    ensures { λ r. ⌜ r ≡ denseTests (s .checks) (s .mechanisms) (s .edges) (now (priors .entry)) bytes fit ⌝ }
+    ensures { λ r. ⌜ r ≡ denseFault (s .checks) (s .mechanisms) (s .edges) (now (priors .entry)) bytes fit ⌝ }
 {
     if !counts_good(s.checks, s.mechanisms) {
         return Answer::Refused(Refusal::SizeAboveLimit);

@@ -14,7 +14,8 @@ use Rattle.refusals.specs.declared.Answer.the-variants.{Done, Refused}
 use Rattle.refusals.specs.declared.Refusal.the-variants.{LentListLength}
 use Rattle.refusals.specs.Tests.{unless, orElse}
 use Rattle.graph.specs.Model.{graphFault}
-use Rattle.messages_core.specs.Needs.{Entries, Walks, walked}
+use Rattle.graph.specs.Sound.{Keys}
+use Rattle.messages_core.specs.Needs.{Walks, walked}
 use Rattle.settings.specs.declared.Settings.{Settings}
 use Rattle.settings.specs.declared.GammaSource.the-variants.{Explicit}
 use Rattle.calls_core.specs.declared.Decoded.{Decoded}
@@ -41,7 +42,7 @@ shotOf t flat seed syndrome prior cv co vm vo order =
 pub record Reads (t : Settings) (flat : List Float) (syndrome : List ℕ) (prior : List Float) (cv co vm vo order : List ℕ) : Type 0 where
   pub check-walks : Walks (length syndrome) (length prior) cv co
   pub var-walks : Walks (length prior) (length cv) vm vo
-  pub named : Entries (length syndrome) order
+  pub named : Keys (length syndrome) order
   pub mechanisms-few : length prior ≤ 65536
   pub legs-few : t .«num_legs» ≤ 65535
   pub pre-some : 0 < t .«pre_iterations»

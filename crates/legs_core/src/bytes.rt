@@ -2,7 +2,7 @@
 ghost use mathlib.Core.Path.{_≡_};
 ghost use Prim.Native.Nat.{_≤_};
 ghost use lib.ListN.{length, replicate};
-ghost use Rattle.orders_core.specs.Order.{upto};
+ghost use Rattle.numbers.specs.Loops.{upto};
 
 // `xs.fill(0)`, of bytes.
 pub fn clear_bytes(xs: &mut [u8])

@@ -8,7 +8,8 @@ ghost use lib.ListN.{length, set, replicate};
 ghost use Rattle.numbers.specs.Floats.{zero⁺};
 ghost use Rattle.refusals.specs.declared.Answer.the-variants.{Done};
 ghost use Rattle.refusals.specs.Tests.{isDone};
-ghost use Rattle.messages_core.specs.Needs.{Entries, walked};
+ghost use Rattle.graph.specs.Sound.{Keys};
+ghost use Rattle.messages_core.specs.Needs.{walked};
 ghost use Rattle.relay_core.specs.Step.{state};
 ghost use Rattle.relay_core.specs.Leg.{leg as legOf, hardDecision, startLeg, correctionWeight};
 ghost use Rattle.calls_core.specs.Decode.{isNoneOr, iterationLimit, executedLeg};
@@ -38,7 +39,7 @@ fn iteration_limit(t: Settings, leg: usize) -> usize
 
 // `start_leg`: check messages cleared, variable messages at the priors.
 fn start_leg(check_var: &[u32], priors: &[f64], c_to_v: &mut [f64], v_to_c: &mut [f64])
-    requires { ⌜ Entries (length (now priors)) (now «check_var») ⌝ }
+    requires { ⌜ Keys (length (now priors)) (now «check_var») ⌝ }
     requires { ⌜ (length (now «c_to_v») ≡ length (now «check_var»)) × (length (now «v_to_c») ≡ length (now «check_var»)) ⌝ }
     ensures { λ _. ⌜ state (now («c_to_v» .exit)) (now («v_to_c» .exit)) [] ≡ startLeg (walked 0 0 (now («check_var» .entry)) [] [] []) (now (priors .entry)) [] ⌝ }
 {

@@ -2,8 +2,9 @@
 use mathlib.Core.Path.{_≡_, refl, sym, ap, _∙_}
 use mathlib.Core.Bool.{Bool, true, false, cond, true≢false}
 use Prim.Native.Nat.{ℕ}
-use lib.Ieee.{Float, nan, inf, fin, lt, isNan}
+use lib.Ieee.{Float, nan, inf, fin, lt}
 use Rattle.numbers.specs.Floats.{abs}
+use Rattle.numbers.proofs.Bits.{abs-number}
 use Rattle.numbers.proofs.Order.{lt-one-way, lt-number, number-lt, below-what-is-not}
 use Rattle.graph.specs.Messages.{Scan, scanOf, startScan}
 use Rattle.messages_core.specs.Needs.{Ordered}
@@ -14,13 +15,6 @@ unfolding abs
 abs-abs nan = refl
 abs-abs (inf s) = refl
 abs-abs (fin s m e) = refl
-
--- a magnitude that is a number is one of a number
-abs-number : (x : Float) → isNan (abs x) ≡ false → isNan x ≡ false
-unfolding abs isNan
-abs-number nan h = h
-abs-number (inf s) h = refl
-abs-number (fin s m e) h = refl
 
 -- before any
 no-magnitude : Ordered (inf false) (inf false)
@@ -43,6 +37,7 @@ module _ (x min1 min2 : Float) (o : Ordered min1 min2) where
   next-cases false true p q = rw p
   next-cases false false p q = rw (o .not-above)
 
+  -- whatever the cases
   pub next-is : cond (lt (cond (lt (abs x) min2) (abs x) min2) min1) min1 (cond (lt (abs x) min2) (abs x) min2)
       ≡ cond (lt (abs x) min1) min1 (cond (lt (abs x) min2) (abs x) min2)
   next-is = next-cases (lt (abs x) min1) (lt (abs x) min2) refl refl
@@ -59,9 +54,10 @@ module _ (x min1 min2 : Float) (o : Ordered min1 min2) where
       record {
         magnitude = o .magnitude;
         not-above = p;
-        follows = λ y h. below-what-is-not y x min1 h p (abs-number x (lt-number (abs x) min2 q));
+        follows = λ y h. below-what-is-not y x min1 h p (sym (abs-number x) ∙ lt-number (abs x) min2 q);
       }
   ordered-cases false false p q = o
 
+  -- whatever the cases
   pub ordered-next : Ordered (cond (lt (abs x) min1) (abs x) min1) (cond (lt (abs x) min1) min1 (cond (lt (abs x) min2) (abs x) min2))
   ordered-next = ordered-cases (lt (abs x) min1) (lt (abs x) min2) refl refl

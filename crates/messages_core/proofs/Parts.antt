@@ -1,4 +1,4 @@
--- The part that offsets give to a row: it lies within the list, and its entries name what the list's do. Assumes nothing.
+-- The part that offsets give to a row: its entries name what the list's do, and rise. Assumes nothing.
 use mathlib.Core.Path.{_≡_}
 use mathlib.Core.List.{List}
 use Prim.Native.Nat.{ℕ, _+_, _-_, _<_, _≤_}
@@ -7,20 +7,17 @@ use native.Mathlib.Omega.{arith}
 use lib.ListN.{length, getD}
 use Rattle.numbers.specs.Loops.{part}
 use Rattle.numbers.proofs.Loops.{length-part, getD-part}
-use Rattle.messages_core.specs.Needs.{Offsets, Entries, Rises, RowsRise, Walks}
-
--- where a row's part begins and ends, as the code reads it
-pub bounds : (rows n : ℕ) (off : List ℕ) (r a e : ℕ) → Offsets rows n off → r < rows → a ≡ getD off r 0 → e ≡ getD off (r + 1) 0 → (a ≤ e) × (e ≤ n)
-bounds rows n off r a e o h p q = let w = rw add-one at q in (omega (arith, o .rises r h), omega (arith, o .ends r h))
+use Rattle.graph.specs.Sound.{Keys}
+use Rattle.messages_core.specs.Needs.{Rises, RowsRise, Walks}
 
 -- each entry of a part names something
-pub part-names : (n a e : ℕ) (xs : List ℕ) → Entries n xs → e ≤ length xs → Entries n (part a e xs)
-part-names n a e xs h q = record { names = λ k l. go k l }
+pub part-names : (n a e : ℕ) (xs : List ℕ) → Keys n xs → e ≤ length xs → Keys n (part a e xs)
+part-names n a e xs h q = record { small = λ k l. go k l }
   where
     go : (k : ℕ) → k < length (part a e xs) → getD (part a e xs) k 0 < n
     go k l =
         let w : k < e - a = rw (length-part a e xs q) at l in
-        rw (getD-part a e xs k 0 (omega arith)) (h .names (a + k) (omega arith))
+        rw (getD-part a e xs k 0 (omega arith)) (h .small (a + k) (omega arith))
 
 -- as many names, however they are counted
 pub walks-along : (rows n m : ℕ) (entries off : List ℕ) → n ≡ m → Walks rows n entries off → Walks rows m entries off
@@ -31,7 +28,7 @@ pub walks-both : (rows rows′ n m : ℕ) (entries off : List ℕ) → rows ≡ 
 walks-both rows rows′ n m entries off r e w = rw (r, e) at w
 
 -- the same of entries
-pub entries-along : (n m : ℕ) (xs : List ℕ) → n ≡ m → Entries n xs → Entries m xs
+pub entries-along : (n m : ℕ) (xs : List ℕ) → n ≡ m → Keys n xs → Keys m xs
 entries-along n m xs e h = rw e at h
 
 -- the part of a row rises, as the code reads it

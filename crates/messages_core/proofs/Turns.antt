@@ -10,8 +10,7 @@ use lib.ListN.{length, getD, take, set, replicate}
 use lib.Seq.{take-suc, take-suc-set, take-all}
 use Rattle.numbers.specs.Floats.{_+ᶠ_}
 use Rattle.numbers.proofs.Loops.{foldl-take}
-use Rattle.graph.specs.Graph.{Graph}
-use Rattle.graph.specs.Messages.{total, fromVariables}
+use Rattle.graph.specs.Messages.{total}
 
 -- the sum, one entry further
 pub total-turn : (cToV : List Float) (xs : List ℕ) (i : ℕ) (sum : Float) (m : ℕ) → i < length xs → sum ≡ total cToV (take i xs) → m ≡ getD xs i 0
@@ -37,11 +36,6 @@ pub from-turn : (values out : List Float) (vars : List ℕ) (i v : ℕ) → i < 
     → take i out ≡ map (λ w. getD values w nan) (take i vars) → take (i + 1) (set out i (getD values v nan)) ≡ map (λ w. getD values w nan) (take (i + 1) vars)
 from-turn values out vars i v h k e s =
     rw (add-one, take-suc-set, k, take-suc vars i 0, h, s, e) (sym (map-append _ (take i vars) (getD vars i 0 ∷ [])))
-
--- what `from_variables` writes, of a graph whose entries these are
-pub from-variables : (g : Graph) (values : List Float) → map (λ v. getD values v nan) (g .checkVar) ≡ fromVariables g values
-unfolding fromVariables
-from-variables g values = refl
 
 -- a copy, one further
 pub copy-turn : (from to : List Float) (i : ℕ) → i < length from → i < length to → take i to ≡ take i from

@@ -1,6 +1,6 @@
--- What inner functions ask of the lists that they walk: parts that lie within a list, and entries that name something; and of two least magnitudes. Records for private contracts, and no
+-- What inner functions ask of the lists that they walk, beside `Offsets` and `Keys` of `graph`: entries that rise; and of two least magnitudes. Records for private contracts, and no
 -- part of what a reader must believe: no public contract cites them. Definitions only. Assumes nothing.
-use Prim.Native.Nat.{ℕ, suc, _<_, _≤_}
+use Prim.Native.Nat.{ℕ, _<_}
 use mathlib.Core.Path.{_≡_}
 use mathlib.Core.Bool.{true, false}
 use mathlib.Core.List.{List, []}
@@ -9,16 +9,7 @@ use lib.ListN.{length, getD}
 use Rattle.numbers.specs.Floats.{abs}
 use Rattle.numbers.specs.Loops.{row}
 use Rattle.graph.specs.Graph.{Graph, graph}
-
--- `off` gives each of `rows` rows a part that lies within n places
-pub record Offsets (rows n : ℕ) (off : List ℕ) : Type 0 where
-  pub many : length off ≡ suc rows
-  pub rises : (r : ℕ) → r < rows → getD off r 0 ≤ getD off (suc r) 0
-  pub ends : (r : ℕ) → r < rows → getD off (suc r) 0 ≤ n
-
--- each entry names one of n
-pub record Entries (n : ℕ) (xs : List ℕ) : Type 0 where
-  pub names : (k : ℕ) → k < length xs → getD xs k 0 < n
+use Rattle.graph.specs.Sound.{Offsets, Keys}
 
 -- entries that rise, so that no two are the same
 pub record Rises (xs : List ℕ) : Type 0 where
@@ -31,7 +22,7 @@ pub record RowsRise (rows : ℕ) (entries off : List ℕ) : Type 0 where
 -- one side of a graph: each row has a part of the entries, each entry names one of n, and the entries of a row rise
 pub record Walks (rows n : ℕ) (entries off : List ℕ) : Type 0 where
   pub parts : Offsets rows (length entries) off
-  pub named : Entries n entries
+  pub named : Keys n entries
   pub rising : RowsRise rows entries off
 
 -- a graph by the lists that messages walk: the variables of the checks, the messages of the variables, and the offsets of both

@@ -1,8 +1,5 @@
 // What min-sum and Relay do alike with messages, one to an edge. Inner functions for these two crates: they ask that entries name something and that
 // lists fit, which a graph that has passed its tests grants.
-use refusals::Answer;
-use refusals::Refusal;
-use tests_core::is_done;
 ghost use mathlib.Core.Path.{_≡_};
 ghost use mathlib.Core.Bool.{cond};
 ghost use mathlib.Core.List.{map};
@@ -12,10 +9,14 @@ ghost use lib.ListN.{length, getD, replicate};
 ghost use Rattle.numbers.specs.Floats.{zero⁺, abs, isFinite};
 ghost use Rattle.refusals.specs.declared.Refusal.the-variants.{NonFinite};
 ghost use Rattle.refusals.specs.Tests.{unless, firstOf};
-ghost use Rattle.graph.specs.Messages.{total as totalOf, scanOf, startScan, valueFault};
-ghost use Rattle.messages_core.specs.Needs.{Entries, Ordered};
+ghost use Rattle.graph.specs.Messages.{total as totalOf, scanOf, startScan, lowered as loweredOf, valueFault};
+ghost use Rattle.graph.specs.Sound.{Keys};
+ghost use Rattle.messages_core.specs.Needs.{Ordered};
+use refusals::Answer;
+use refusals::Refusal;
+use tests_core::is_done;
 
-// An entry of a list of indices.
+// An entry of a list of indices. `graph` has the same for itself: a public crate can't pass on a function that asks something.
 pub fn at(xs: &[u32], i: usize) -> usize
     requires { ⌜ i < length (now xs) ⌝ }
     ensures { λ r. ⌜ r ≡ getD (now (xs .entry)) i 0 ⌝ }
@@ -95,7 +96,7 @@ fn next_least(message: f64, magnitude: f64, min1: f64, min2: f64) -> f64
 // The scan, one message further, with its total sign: strict comparison keeps the first minimum.
 pub fn lowered(s: Scan, sign: f64, own: usize, message: f64) -> Scan
     requires { ⌜ Ordered (s .min1) (s .min2) ⌝ }
-    ensures scan { λ r. ⌜ scanOf (r .«total_sign») (r .min1) (r .min2) (r .least) ≡ scanOf sign (cond (lt (abs message) (s .min1)) (abs message) (s .min1)) (cond (lt (abs message) (s .min1)) (s .min1) (cond (lt (abs message) (s .min2)) (abs message) (s .min2))) (cond (lt (abs message) (s .min1)) own (s .least)) ⌝ }
+    ensures scan { λ r. ⌜ scanOf (r .«total_sign») (r .min1) (r .min2) (r .least) ≡ loweredOf (scanOf (s .«total_sign») (s .min1) (s .min2) (s .least)) sign own message ⌝ }
     ensures ordered { λ r. ⌜ Ordered (r .min1) (r .min2) ⌝ }
 {
     let magnitude = numbers::magnitude(message);
@@ -112,7 +113,7 @@ pub fn lowered(s: Scan, sign: f64, own: usize, message: f64) -> Scan
 
 // The sum of the messages that the entries name, in their order, from -0.0.
 pub fn total(entries: &[u32], c_to_v: &[f64]) -> f64
-    requires { ⌜ Entries (length (now «c_to_v»)) (now entries) ⌝ }
+    requires { ⌜ Keys (length (now «c_to_v»)) (now entries) ⌝ }
     ensures { λ r. ⌜ r ≡ totalOf (now («c_to_v» .entry)) (now (entries .entry)) ⌝ }
 {
     let mut sum: f64 = -0.0;
@@ -138,7 +139,7 @@ pub fn clear(xs: &mut [f64])
 
 // Each message of a variable set to that variable's value.
 pub fn from_variables(check_var: &[u32], values: &[f64], v_to_c: &mut [f64])
-    requires { ⌜ Entries (length (now values)) (now «check_var») ⌝ }
+    requires { ⌜ Keys (length (now values)) (now «check_var») ⌝ }
     requires { ⌜ length (now «v_to_c») ≡ length (now «check_var») ⌝ }
     ensures { λ _. ⌜ now («v_to_c» .exit) ≡ map (λ v. getD (now (values .entry)) v nan) (now («check_var» .entry)) ⌝ }
 {

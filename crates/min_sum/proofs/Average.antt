@@ -12,10 +12,10 @@ use Rattle.graph.specs.Graph.{Graph}
 use Rattle.min_sum.specs.MinSum.{Messages, rawPosterior, updateVariable, variablesTo, mixed, averagedTo, averaged}
 
 -- one variable further
-pub variables-further : (g : Graph) (prior : List Float) (s t u : Messages) (v : ℕ) → t ≡ variablesTo g prior s v → u ≡ updateVariable g prior t v
-    → u ≡ variablesTo g prior s (v + 1)
+pub variables-further : (g : Graph) (priors : List Float) (s t u : Messages) (v : ℕ) → t ≡ variablesTo g priors s v → u ≡ updateVariable g priors t v
+    → u ≡ variablesTo g priors s (v + 1)
 unfolding variablesTo
-variables-further g prior s t u v p q = rw (q, p, add-one)
+variables-further g priors s t u v p q = rw (q, p, add-one)
 
 -- two lists that are the same from v on are so at v
 same-at : (old new : List Float) (v : ℕ) → drop v new ≡ drop v old → getD new v nan ≡ getD old v nan
@@ -28,14 +28,14 @@ pub same-after : (old new : List Float) (v : ℕ) (x : Float) → drop v new ≡
 same-after old new v x d = drop-set-lt (v + 1) new v x (omega arith) ∙ sym (drop-drop 1 v new) ∙ ap (drop 1) d ∙ drop-drop 1 v old
 
 -- the running posterior, one element further
-pub average-turn : (g : Graph) (prior : List Float) (weight : Float) (s : Messages) (old new : List Float) (v : ℕ) (sum x : Float) → v < length new
-    → take v new ≡ averagedTo g prior weight s old v → drop v new ≡ drop v old → sum ≡ rawPosterior g prior s v → x ≡ mixed weight (getD new v nan) sum
-    → take (v + 1) (set new v x) ≡ averagedTo g prior weight s old (v + 1)
+pub average-turn : (g : Graph) (priors : List Float) (weight : Float) (s : Messages) (old new : List Float) (v : ℕ) (sum x : Float) → v < length new
+    → take v new ≡ averagedTo g priors weight s old v → drop v new ≡ drop v old → sum ≡ rawPosterior g priors s v → x ≡ mixed weight (getD new v nan) sum
+    → take (v + 1) (set new v x) ≡ averagedTo g priors weight s old (v + 1)
 unfolding averagedTo
-average-turn g prior weight s old new v sum x h p d q r = rw (add-one, take-suc-set, h, p, r, same-at old new v d, q)
+average-turn g priors weight s old new v sum x h p d q r = rw (add-one, take-suc-set, h, p, r, same-at old new v d, q)
 
 -- and once all are new
-pub average-done : (g : Graph) (prior : List Float) (weight : Float) (s : Messages) (old new : List Float) (v : ℕ) → length new ≤ v → v ≡ g .mechanisms
-    → take v new ≡ averagedTo g prior weight s old v → new ≡ averaged g prior weight s old
+pub average-done : (g : Graph) (priors : List Float) (weight : Float) (s : Messages) (old new : List Float) (v : ℕ) → length new ≤ v → v ≡ g .mechanisms
+    → take v new ≡ averagedTo g priors weight s old v → new ≡ averaged g priors weight s old
 unfolding averaged
-average-done g prior weight s old new v l e p = sym (take-all v new l) ∙ p ∙ ap (averagedTo g prior weight s old) e
+average-done g priors weight s old new v l e p = sym (take-all v new l) ∙ p ∙ ap (averagedTo g priors weight s old) e

@@ -16,6 +16,7 @@ use Rattle.graph.specs.Graph.{Graph, graph}
 use Rattle.graph.specs.Messages.{cleared, fromVariables, valueFault, posteriorFault}
 use Rattle.graph.proofs.GraphTests.{graph-told}
 use Rattle.messages_core.specs.Needs.{Walks, walked}
+use Rattle.messages_core.proofs.Parts.{walks-both}
 use Rattle.messages_core.proofs.Walks.{graph-walks}
 use Rattle.min_sum.specs.MinSum.{skipped, updateCheck, rawPosterior, updateVariable, parallelCheck, checksTo, variablesTo, parallelIteration, serialCheck, serialTo, serialIteration, averagedTo, averaged, startRound, turned, turn, roundTo, round, rounds, chosenTo, minSumBp}
 use Rattle.min_sum.specs.Beliefs.{Lists, lists, Outcome, outcome, listsFit, beliefsFault, ran, afterTests, beliefs}
@@ -44,18 +45,18 @@ module _ (edges : ℕ) (g : Graph) (m out w c v : List Float) (a : Answer) (b : 
 
 -- ---- a run reads four of the six lists
 
-module _ (checks mechanisms : ℕ) (cv cm co vc vm vo : List ℕ) (scale : Float) (syndrome : List ℕ) (prior : List Float) (n : ℕ) where
+module _ (checks mechanisms : ℕ) (cv cm co vc vm vo : List ℕ) (scale : Float) (syndrome : List ℕ) (priors : List Float) (n : ℕ) where
   -- the beliefs of the whole graph are those of the four
   same-run : (serial : Bool)
-      → minSumBp (walked checks mechanisms cv co vm vo) serial scale syndrome prior n ≡ minSumBp (graph checks mechanisms cv cm co vc vm vo) serial scale syndrome prior n
+      → minSumBp (walked checks mechanisms cv co vm vo) serial scale syndrome priors n ≡ minSumBp (graph checks mechanisms cv cm co vc vm vo) serial scale syndrome priors n
   unfolding minSumBp chosenTo rounds round roundTo startRound cleared fromVariables turn turned averaged averagedTo rawPosterior updateVariable updateCheck skipped parallelCheck checksTo variablesTo parallelIteration serialCheck serialTo serialIteration
   same-run true = refl
   same-run false = refl
 
   -- and so is all that a run leaves
   same-ran : (edges : ℕ) (serial : Bool)
-      → ran edges (walked checks mechanisms cv co vm vo) (minSumBp (walked checks mechanisms cv co vm vo) serial scale syndrome prior n)
-      ≡ ran edges (graph checks mechanisms cv cm co vc vm vo) (minSumBp (graph checks mechanisms cv cm co vc vm vo) serial scale syndrome prior n)
+      → ran edges (walked checks mechanisms cv co vm vo) (minSumBp (walked checks mechanisms cv co vm vo) serial scale syndrome priors n)
+      ≡ ran edges (graph checks mechanisms cv cm co vc vm vo) (minSumBp (graph checks mechanisms cv cm co vc vm vo) serial scale syndrome priors n)
   unfolding ran posteriorFault
   same-ran edges serial = rw (same-run serial)
 
@@ -66,39 +67,35 @@ leaves : (a : Answer) (o : Outcome) (l : Lists) → isDone a ≡ false → outco
 leaves Done o l h = absurd (true≢false h)
 leaves (Refused r) o l h = refl
 
--- as many rows and names, however they are counted
-walks-counted : (rows rows′ n n′ : ℕ) (xs off : List ℕ) → rows ≡ rows′ → n ≡ n′ → Walks rows′ n′ xs off → Walks rows n xs off
-walks-counted rows rows′ n n′ xs off p q w = rw (p, q) w
-
--- the same of what a run leaves
-ran-counted : (edges edges′ checks checks′ mechanisms mechanisms′ : ℕ) (cv co vm vo : List ℕ) (scale : Float) (syndrome : List ℕ) (prior : List Float) (n : ℕ) (serial : Bool)
+-- what a run leaves, however checks, mechanisms and edges are counted
+ran-counted : (edges edges′ checks checks′ mechanisms mechanisms′ : ℕ) (cv co vm vo : List ℕ) (scale : Float) (syndrome : List ℕ) (priors : List Float) (n : ℕ) (serial : Bool)
     → edges ≡ edges′ → checks ≡ checks′ → mechanisms ≡ mechanisms′
-    → ran edges (walked checks mechanisms cv co vm vo) (minSumBp (walked checks mechanisms cv co vm vo) serial scale syndrome prior n)
-    ≡ ran edges′ (walked checks′ mechanisms′ cv co vm vo) (minSumBp (walked checks′ mechanisms′ cv co vm vo) serial scale syndrome prior n)
-ran-counted edges edges′ checks checks′ mechanisms mechanisms′ cv co vm vo scale syndrome prior n serial p q r = rw (p, q, r)
+    → ran edges (walked checks mechanisms cv co vm vo) (minSumBp (walked checks mechanisms cv co vm vo) serial scale syndrome priors n)
+    ≡ ran edges′ (walked checks′ mechanisms′ cv co vm vo) (minSumBp (walked checks′ mechanisms′ cv co vm vo) serial scale syndrome priors n)
+ran-counted edges edges′ checks checks′ mechanisms mechanisms′ cv co vm vo scale syndrome priors n serial p q r = rw (p, q, r)
 
 -- what the tests tell where none refuses
-pub record Told (edges checks mechanisms : ℕ) (cv co vm vo : List ℕ) (prior : List Float) (syndrome : List ℕ) (l : Lists) : Type 0 where
+pub record Told (edges checks mechanisms : ℕ) (cv co vm vo : List ℕ) (priors : List Float) (syndrome : List ℕ) (l : Lists) : Type 0 where
   pub edges-many : length cv ≡ edges
   pub checks-many : length syndrome ≡ checks
-  pub mechanisms-many : length prior ≡ mechanisms
-  pub check-walks : Walks (length syndrome) (length prior) cv co
-  pub var-walks : Walks (length prior) (length cv) vm vo
-  pub posterior-many : length (l .posterior) ≡ length prior
-  pub ewa-many : length (l .ewaPosterior) ≡ length prior
+  pub mechanisms-many : length priors ≡ mechanisms
+  pub check-walks : Walks (length syndrome) (length priors) cv co
+  pub var-walks : Walks (length priors) (length cv) vm vo
+  pub posterior-many : length (l .posterior) ≡ length priors
+  pub ewa-many : length (l .ewaPosterior) ≡ length priors
   pub c-many : length (l .cToV) ≡ length cv
   pub v-many : length (l .vToC) ≡ length cv
 
-module _ (edges checks mechanisms : ℕ) (cv cm co vc vm vo : List ℕ) (prior : List Float) (syndrome : List ℕ) (iterations : ℕ) (l : Lists) where
+module _ (edges checks mechanisms : ℕ) (cv cm co vc vm vo : List ℕ) (priors : List Float) (syndrome : List ℕ) (iterations : ℕ) (l : Lists) where
   -- where none refuses, they tell all that the run asks
-  pub told : (a : Answer) (b : Bool) → a ≡ beliefsFault edges prior (graph checks mechanisms cv cm co vc vm vo) syndrome iterations l → b ≡ isDone a
-      → not b ≡ false → Told edges checks mechanisms cv co vm vo prior syndrome l
+  pub told : (a : Answer) (b : Bool) → a ≡ beliefsFault edges priors (graph checks mechanisms cv cm co vc vm vo) syndrome iterations l → b ≡ isDone a
+      → not b ≡ false → Told edges checks mechanisms cv co vm vo priors syndrome l
   unfolding beliefsFault listsFit
   told a b e d h =
       let t1 = or-done _ _ (sym e ∙ done-is a (sym d ∙ not-false b h)) in
       let t2 = or-done _ _ (t1 .1) in
       let t3 = or-done _ _ (t2 .1) in
-      let g = graph-told edges prior (graph checks mechanisms cv cm co vc vm vo) (t1 .0) in
+      let g = graph-told edges priors (graph checks mechanisms cv cm co vc vm vo) (t1 .0) in
       let many = eqb-true (length syndrome) checks (unless-done _ _ (t3 .0)) in
       let f1 = and-both _ _ (unless-done _ _ (t3 .1)) in
       let f2 = and-both _ _ (f1 .1) in
@@ -108,8 +105,8 @@ module _ (edges checks mechanisms : ℕ) (cv cm co vc vm vo : List ℕ) (prior :
         edges-many = g .long .check-var;
         checks-many = many;
         mechanisms-many = g .priors-many;
-        check-walks = walks-counted _ _ _ _ _ _ many (g .priors-many) (w .0);
-        var-walks = walks-counted _ _ _ _ _ _ (g .priors-many) refl (w .1);
+        check-walks = walks-both _ _ _ _ _ _ (sym many) (sym (g .priors-many)) (w .0);
+        var-walks = walks-both _ _ _ _ _ _ (sym (g .priors-many)) refl (w .1);
         posterior-many = eqb-true _ _ (f1 .0) ∙ sym (g .priors-many);
         ewa-many = eqb-true _ _ (f2 .0) ∙ sym (g .priors-many);
         c-many = eqb-true _ _ (f3 .0) ∙ sym (g .long .check-var);
@@ -118,21 +115,21 @@ module _ (edges checks mechanisms : ℕ) (cv cm co vc vm vo : List ℕ) (prior :
 
   module _ (scale : Float) (serial : Bool) where
     -- a call that is refused
-    pub beliefs-refused : (a : Answer) (b : Bool) → a ≡ beliefsFault edges prior (graph checks mechanisms cv cm co vc vm vo) syndrome iterations l → b ≡ isDone a
-        → not b ≡ true → outcome a l ≡ beliefs edges prior (graph checks mechanisms cv cm co vc vm vo) syndrome iterations scale serial l
+    pub beliefs-refused : (a : Answer) (b : Bool) → a ≡ beliefsFault edges priors (graph checks mechanisms cv cm co vc vm vo) syndrome iterations l → b ≡ isDone a
+        → not b ≡ true → outcome a l ≡ beliefs edges priors (graph checks mechanisms cv cm co vc vm vo) syndrome iterations scale serial l
     unfolding beliefs
     beliefs-refused a b e d h = rw (← e) (leaves a _ l (sym d ∙ not-true b h))
 
     -- one that is not
-    pub beliefs-ran : (a : Answer) (b : Bool) (o : Outcome) → a ≡ beliefsFault edges prior (graph checks mechanisms cv cm co vc vm vo) syndrome iterations l
+    pub beliefs-ran : (a : Answer) (b : Bool) (o : Outcome) → a ≡ beliefsFault edges priors (graph checks mechanisms cv cm co vc vm vo) syndrome iterations l
         → b ≡ isDone a → not b ≡ false
-        → o ≡ ran (length cv) (walked (length syndrome) (length prior) cv co vm vo) (minSumBp (walked (length syndrome) (length prior) cv co vm vo) serial scale syndrome prior iterations)
-        → o ≡ beliefs edges prior (graph checks mechanisms cv cm co vc vm vo) syndrome iterations scale serial l
+        → o ≡ ran (length cv) (walked (length syndrome) (length priors) cv co vm vo) (minSumBp (walked (length syndrome) (length priors) cv co vm vo) serial scale syndrome priors iterations)
+        → o ≡ beliefs edges priors (graph checks mechanisms cv cm co vc vm vo) syndrome iterations scale serial l
     unfolding beliefs
     beliefs-ran a b o e d h q =
         let t = told a b e d h in
-        let done : beliefsFault edges prior (graph checks mechanisms cv cm co vc vm vo) syndrome iterations l ≡ Done = sym e ∙ done-is a (sym d ∙ not-false b h) in
+        let done : beliefsFault edges priors (graph checks mechanisms cv cm co vc vm vo) syndrome iterations l ≡ Done = sym e ∙ done-is a (sym d ∙ not-false b h) in
         rw done
         (q
-        ∙ ran-counted _ _ _ _ _ _ cv co vm vo scale syndrome prior iterations serial (t .edges-many) (t .checks-many) (t .mechanisms-many)
-        ∙ same-ran checks mechanisms cv cm co vc vm vo scale syndrome prior iterations edges serial)
+        ∙ ran-counted _ _ _ _ _ _ cv co vm vo scale syndrome priors iterations serial (t .edges-many) (t .checks-many) (t .mechanisms-many)
+        ∙ same-ran checks mechanisms cv cm co vc vm vo scale syndrome priors iterations edges serial)

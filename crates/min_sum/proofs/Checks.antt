@@ -39,18 +39,18 @@ module _ (checks mechanisms : ℕ) (cv co vm vo : List ℕ) (scale : Float) (syn
   parallel-sends out h w = rw (skips, h, sends out w)
 
   -- a serial check that is skipped
-  pub serial-skips : (prior : List Float) → few ≡ true
-      → messages cToV vToC ≡ serialCheck (walked checks mechanisms cv co vm vo) scale syndrome prior (messages cToV vToC) c
+  pub serial-skips : (priors : List Float) → few ≡ true
+      → messages cToV vToC ≡ serialCheck (walked checks mechanisms cv co vm vo) scale syndrome priors (messages cToV vToC) c
   unfolding serialCheck
-  serial-skips prior h = rw (skips, h)
+  serial-skips priors h = rw (skips, h)
 
   -- and that is not
-  pub serial-sends : (prior out : List Float) (u : Messages) → few ≡ false
+  pub serial-sends : (priors out : List Float) (u : Messages) → few ≡ false
       → out ≡ spliced cToV a e (checkMessages scale (not (eqb (getD syndrome c 0) 0)) (part a e vToC))
-      → u ≡ foldl (updateVariable (ofVariables mechanisms vm vo) prior) (messages out vToC) (part a e cv)
-      → u ≡ serialCheck (walked checks mechanisms cv co vm vo) scale syndrome prior (messages cToV vToC) c
+      → u ≡ foldl (updateVariable (ofVariables mechanisms vm vo) priors) (messages out vToC) (part a e cv)
+      → u ≡ serialCheck (walked checks mechanisms cv co vm vo) scale syndrome priors (messages cToV vToC) c
   unfolding serialCheck updateVariable rawPosterior
-  serial-sends prior out u h w t = rw (skips, h, sends out w) (t ∙ rw (from, to, add-one))
+  serial-sends priors out u h w t = rw (skips, h, sends out w) (t ∙ rw (from, to, add-one))
 
 -- one check further
 pub checks-turn : (g : Graph) (scale : Float) (syndrome : List ℕ) (s t u : Messages) (c : ℕ) → t ≡ checksTo g scale syndrome s c
@@ -59,7 +59,7 @@ unfolding checksTo
 checks-turn g scale syndrome s t u c p q = rw (q, p, add-one)
 
 -- one serial check further
-pub serial-turn : (g : Graph) (scale : Float) (syndrome : List ℕ) (prior : List Float) (s t u : Messages) (c : ℕ) → t ≡ serialTo g scale syndrome prior s c
-    → u ≡ serialCheck g scale syndrome prior t c → u ≡ serialTo g scale syndrome prior s (c + 1)
+pub serial-turn : (g : Graph) (scale : Float) (syndrome : List ℕ) (priors : List Float) (s t u : Messages) (c : ℕ) → t ≡ serialTo g scale syndrome priors s c
+    → u ≡ serialCheck g scale syndrome priors t c → u ≡ serialTo g scale syndrome priors s (c + 1)
 unfolding serialTo
-serial-turn g scale syndrome prior s t u c p q = rw (q, p, add-one)
+serial-turn g scale syndrome priors s t u c p q = rw (q, p, add-one)

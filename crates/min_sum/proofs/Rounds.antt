@@ -24,81 +24,81 @@ module _ (checks mechanisms : ℕ) (cv co vm vo : List ℕ) where
   checks-alone scale syndrome s n = refl
 
   -- the variables read nothing of the checks' side
-  variables-alone : (prior : List Float) (s : Messages) (n : ℕ)
-      → variablesTo (walked checks mechanisms cv co vm vo) prior s n ≡ variablesTo (ofVariables mechanisms vm vo) prior s n
+  variables-alone : (priors : List Float) (s : Messages) (n : ℕ)
+      → variablesTo (walked checks mechanisms cv co vm vo) priors s n ≡ variablesTo (ofVariables mechanisms vm vo) priors s n
   unfolding variablesTo updateVariable rawPosterior
-  variables-alone prior s n = refl
+  variables-alone priors s n = refl
 
   -- nor does the running posterior, and of the messages it reads those to variables
-  average-alone : (prior : List Float) (weight : Float) (cToV vToC ewa : List Float)
-      → averaged (walked checks mechanisms cv co vm vo) prior weight (messages cToV vToC) ewa
-      ≡ averaged (ofVariables mechanisms vm vo) prior weight (messages cToV []) ewa
+  average-alone : (priors : List Float) (weight : Float) (cToV vToC ewa : List Float)
+      → averaged (walked checks mechanisms cv co vm vo) priors weight (messages cToV vToC) ewa
+      ≡ averaged (ofVariables mechanisms vm vo) priors weight (messages cToV []) ewa
   unfolding averaged averagedTo rawPosterior
-  average-alone prior weight cToV vToC ewa = refl
+  average-alone priors weight cToV vToC ewa = refl
 
   -- nor does the end rule
-  chosen-alone : (prior cToV vToC ewa : List Float) (n : ℕ)
-      → chosenTo (walked checks mechanisms cv co vm vo) prior (belief (messages cToV vToC) ewa) n
-      ≡ chosenTo (ofVariables mechanisms vm vo) prior (belief (messages cToV []) ewa) n
+  chosen-alone : (priors cToV vToC ewa : List Float) (n : ℕ)
+      → chosenTo (walked checks mechanisms cv co vm vo) priors (belief (messages cToV vToC) ewa) n
+      ≡ chosenTo (ofVariables mechanisms vm vo) priors (belief (messages cToV []) ewa) n
   unfolding chosenTo rawPosterior
-  chosen-alone prior cToV vToC ewa n = refl
+  chosen-alone priors cToV vToC ewa n = refl
 
   -- an iteration that is not serial, from what its two passes leave
-  pub parallel-turned : (scale : Float) (syndrome : List ℕ) (prior : List Float) (weight : Float) (c c′ v v′ ewa ewa′ : List Float)
+  pub parallel-turned : (scale : Float) (syndrome : List ℕ) (priors : List Float) (weight : Float) (c c′ v v′ ewa ewa′ : List Float)
       → messages c′ v ≡ checksTo (ofChecks checks cv co) scale syndrome (messages c v) checks
-      → messages c′ v′ ≡ variablesTo (ofVariables mechanisms vm vo) prior (messages c′ v) mechanisms
-      → ewa′ ≡ averaged (ofVariables mechanisms vm vo) prior weight (messages c′ []) ewa
-      → belief (messages c′ v′) ewa′ ≡ turned (walked checks mechanisms cv co vm vo) false scale syndrome prior weight (belief (messages c v) ewa)
+      → messages c′ v′ ≡ variablesTo (ofVariables mechanisms vm vo) priors (messages c′ v) mechanisms
+      → ewa′ ≡ averaged (ofVariables mechanisms vm vo) priors weight (messages c′ []) ewa
+      → belief (messages c′ v′) ewa′ ≡ turned (walked checks mechanisms cv co vm vo) false scale syndrome priors weight (belief (messages c v) ewa)
   unfolding turned parallelIteration
-  parallel-turned scale syndrome prior weight c c′ v v′ ewa ewa′ p q r =
+  parallel-turned scale syndrome priors weight c c′ v v′ ewa ewa′ p q r =
       rw (checks-alone, ← p, variables-alone, ← q, average-alone, r)
 
   -- a serial iteration
-  pub serial-turned : (scale : Float) (syndrome : List ℕ) (prior : List Float) (weight : Float) (c c′ v v′ ewa ewa′ : List Float)
-      → messages c′ v′ ≡ serialTo (walked checks mechanisms cv co vm vo) scale syndrome prior (messages c v) checks
-      → ewa′ ≡ averaged (ofVariables mechanisms vm vo) prior weight (messages c′ []) ewa
-      → belief (messages c′ v′) ewa′ ≡ turned (walked checks mechanisms cv co vm vo) true scale syndrome prior weight (belief (messages c v) ewa)
+  pub serial-turned : (scale : Float) (syndrome : List ℕ) (priors : List Float) (weight : Float) (c c′ v v′ ewa ewa′ : List Float)
+      → messages c′ v′ ≡ serialTo (walked checks mechanisms cv co vm vo) scale syndrome priors (messages c v) checks
+      → ewa′ ≡ averaged (ofVariables mechanisms vm vo) priors weight (messages c′ []) ewa
+      → belief (messages c′ v′) ewa′ ≡ turned (walked checks mechanisms cv co vm vo) true scale syndrome priors weight (belief (messages c v) ewa)
   unfolding turned serialIteration
-  serial-turned scale syndrome prior weight c c′ v v′ ewa ewa′ p r = rw (← p, average-alone, r)
+  serial-turned scale syndrome priors weight c c′ v v′ ewa ewa′ p r = rw (← p, average-alone, r)
 
   -- the run, from what its rounds and the end rule leave
-  pub run-is : (serial : Bool) (scale : Float) (syndrome : List ℕ) (prior : List Float) (n : ℕ) (c v ewa out : List Float)
-      → belief (messages c v) ewa ≡ rounds (walked checks mechanisms cv co vm vo) serial scale syndrome prior n
-      → out ≡ chosenTo (ofVariables mechanisms vm vo) prior (belief (messages c []) ewa) mechanisms
-      → out ≡ minSumBp (walked checks mechanisms cv co vm vo) serial scale syndrome prior n
+  pub run-is : (serial : Bool) (scale : Float) (syndrome : List ℕ) (priors : List Float) (n : ℕ) (c v ewa out : List Float)
+      → belief (messages c v) ewa ≡ rounds (walked checks mechanisms cv co vm vo) serial scale syndrome priors n
+      → out ≡ chosenTo (ofVariables mechanisms vm vo) priors (belief (messages c []) ewa) mechanisms
+      → out ≡ minSumBp (walked checks mechanisms cv co vm vo) serial scale syndrome priors n
   unfolding minSumBp
-  run-is serial scale syndrome prior n c v ewa out b p = rw (← b, chosen-alone) p
+  run-is serial scale syndrome priors n c v ewa out b p = rw (← b, chosen-alone) p
 
-module _ (g : Graph) (serial : Bool) (scale : Float) (syndrome : List ℕ) (prior : List Float) where
+module _ (g : Graph) (serial : Bool) (scale : Float) (syndrome : List ℕ) (priors : List Float) where
   -- where a round starts. It reads nothing of the messages before it
   pub round-starts : (outer : ℕ) (c v ewa : List Float) (s : Messages) → c ≡ replicate (length (g .checkVar)) zero⁺
-      → v ≡ map (λ w. getD ewa w nan) (g .checkVar) → belief (messages c v) ewa ≡ roundTo g serial scale syndrome prior outer (belief s ewa) 0
+      → v ≡ map (λ w. getD ewa w nan) (g .checkVar) → belief (messages c v) ewa ≡ roundTo g serial scale syndrome priors outer (belief s ewa) 0
   unfolding roundTo startRound cleared fromVariables
   round-starts outer c v ewa s p q = rw (p, q)
 
   -- one iteration further
-  pub round-turn : (outer i : ℕ) (w : Float) (b t u : Belief) → w ≡ weightOf outer i → t ≡ roundTo g serial scale syndrome prior outer b i
-      → u ≡ turned g serial scale syndrome prior w t → u ≡ roundTo g serial scale syndrome prior outer b (i + 1)
+  pub round-turn : (outer i : ℕ) (w : Float) (b t u : Belief) → w ≡ weightOf outer i → t ≡ roundTo g serial scale syndrome priors outer b i
+      → u ≡ turned g serial scale syndrome priors w t → u ≡ roundTo g serial scale syndrome priors outer b (i + 1)
   unfolding roundTo turn
   round-turn outer i w b t u e p q = rw (q, p, e, add-one)
 
   -- and once all are done
   pub round-done : (inner outer i : ℕ) (s s′ : Messages) (ewa : List Float) (t : Belief) → i ≡ inner
-      → t ≡ roundTo g serial scale syndrome prior outer (belief s ewa) i → t ≡ round g serial scale syndrome prior inner outer (belief s′ ewa)
+      → t ≡ roundTo g serial scale syndrome priors outer (belief s ewa) i → t ≡ round g serial scale syndrome priors inner outer (belief s′ ewa)
   unfolding round roundTo
   round-done inner outer i s s′ ewa t e p = rw (← e) p
 
   -- one round, from whatever messages
-  pub one-round : (n : ℕ) (s : Messages) (ewa : List Float) (t : Belief) → n < 6 → ewa ≡ prior
-      → t ≡ round g serial scale syndrome prior n 0 (belief s ewa) → t ≡ rounds g serial scale syndrome prior n
+  pub one-round : (n : ℕ) (s : Messages) (ewa : List Float) (t : Belief) → n < 6 → ewa ≡ priors
+      → t ≡ round g serial scale syndrome priors n 0 (belief s ewa) → t ≡ rounds g serial scale syndrome priors n
   unfolding rounds round roundTo startRound
   one-round n s ewa t h e p = rw (lt-leb 6 n h, div-one) (p ∙ rw e)
 
   -- two rounds
-  pub two-rounds : (n a b : ℕ) (s : Messages) (ewa : List Float) (u : Belief) → 6 ≤ n → ewa ≡ prior → a ≡ n / 2 → b ≡ n / 2
-      → u ≡ round g serial scale syndrome prior b 1 (round g serial scale syndrome prior a 0 (belief s ewa)) → u ≡ rounds g serial scale syndrome prior n
+  pub two-rounds : (n : ℕ) (s : Messages) (ewa : List Float) (u : Belief) → 6 ≤ n → ewa ≡ priors
+      → u ≡ round g serial scale syndrome priors (n / 2) 1 (round g serial scale syndrome priors (n / 2) 0 (belief s ewa)) → u ≡ rounds g serial scale syndrome priors n
   unfolding rounds round roundTo startRound
-  two-rounds n a b s ewa u h e p q t = rw (le-leb 6 n h) (t ∙ rw (p, q, e))
+  two-rounds n s ewa u h e t = rw (le-leb 6 n h) (t ∙ rw e)
 
 -- both above zero, or both not, fails: the belief stays
 pub chosen-apart : (b raw : Float) → not (Bool·beq (lt zero⁺ b) (lt zero⁺ raw)) ≡ true → b ≡ chosen b raw
@@ -116,8 +116,8 @@ unfolding chosen
 chosen-old b raw x y h p q l = rw (not-false (Bool·beq (lt zero⁺ b) (lt zero⁺ raw)) h, ← p, ← q, l)
 
 -- the end rule, one variable further
-pub chosen-turn : (g : Graph) (prior : List Float) (s : Messages) (ewa out : List Float) (v : ℕ) (raw x : Float) → v < length out
-    → take v out ≡ chosenTo g prior (belief s ewa) v → raw ≡ rawPosterior g prior s v → x ≡ chosen (getD ewa v nan) raw
-    → take (v + 1) (set out v x) ≡ chosenTo g prior (belief s ewa) (v + 1)
+pub chosen-turn : (g : Graph) (priors : List Float) (s : Messages) (ewa out : List Float) (v : ℕ) (raw x : Float) → v < length out
+    → take v out ≡ chosenTo g priors (belief s ewa) v → raw ≡ rawPosterior g priors s v → x ≡ chosen (getD ewa v nan) raw
+    → take (v + 1) (set out v x) ≡ chosenTo g priors (belief s ewa) (v + 1)
 unfolding chosenTo
-chosen-turn g prior s ewa out v raw x h p q r = rw (add-one, take-suc-set, h, p, r, q)
+chosen-turn g priors s ewa out v raw x h p q r = rw (add-one, take-suc-set, h, p, r, q)

@@ -1,6 +1,6 @@
 -- What a check sends, as the code sends it: the least at all positions, and then the next at the position of the least. Assumes nothing.
 use mathlib.Core.Path.{_≡_, refl, sym, _∙_}
-use mathlib.Core.Bool.{Bool, true, false, cond}
+use mathlib.Core.Bool.{Bool}
 use mathlib.Core.List.{List}
 use Prim.Native.Nat.{ℕ, _<_, _≤_}
 use native.Mathlib.Omega.{arith}
@@ -9,14 +9,10 @@ use lib.Ieee.{Float, nan}
 use lib.ListN.{length, getD, set}
 use borrow.Author.Tests.{eq-eqb, ne-eqb}
 use Rattle.numbers.specs.Floats.{_*ᶠ_}
+use Rattle.numbers.proofs.Cases.{either-way}
 use Rattle.numbers.proofs.Loops.{tables-agree, but-one}
 use Rattle.graph.specs.Messages.{scanOf}
 use Rattle.min_sum.specs.MinSum.{signWithout, sent, scan, sentTo, checkMessages}
-
--- one choice
-either-way : (b : Bool) (x : Float) → cond b x x ≡ x
-either-way true x = refl
-either-way false x = refl
 
 -- one minimum for both, in one message
 pub one-minimum : (scale sign minimum message : Float) (i : ℕ) → signWithout sign message *ᶠ minimum *ᶠ scale ≡ sent scale (scanOf sign minimum minimum 0) i message
@@ -51,11 +47,13 @@ module _ (scale sign min1 min2 : Float) (least : ℕ) (messages : List Float) (n
 module _ (scale : Float) (odd : Bool) (messages out : List Float) (sign min1 min2 : Float) (least : ℕ)
     (s : scanOf sign min1 min2 least ≡ scan odd messages (length messages))
     (o : out ≡ sentTo scale (scanOf sign min1 min1 0) messages (length messages)) where
+  -- the least is one of them: the next is put there
   pub sends-next : (x : Float) → least < length messages → x ≡ signWithout sign (getD messages least nan) *ᶠ min2 *ᶠ scale
       → set out least x ≡ checkMessages scale odd messages
   unfolding checkMessages
   sends-next x h e = rw (o, sym s) (least-put scale sign min1 min2 least messages (length messages) x h e)
 
+  -- it is nobody's: nothing is put
   pub sends-least : length messages ≤ least → out ≡ checkMessages scale odd messages
   unfolding checkMessages
   sends-least h = rw (o, sym s) (least-nowhere scale sign min1 min2 least messages (length messages) h)

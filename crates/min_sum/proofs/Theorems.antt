@@ -9,9 +9,9 @@ use Rattle.graph.specs.Graph.{Graph}
 use Rattle.min_sum.specs.Beliefs.{Lists, Outcome, outcome, beliefs}
 
 -- two results that the contract of `beliefs` allows for one input coincide: the answer, and each lent list
-pub one-outcome : (edges : ℕ) (prior : List Float) (g : Graph) (syndrome : List ℕ) (iterations : ℕ) (scale : Float) (serial : Bool) (l : Lists) (a b : Answer)
-    (p q : Lists) → outcome a p ≡ beliefs edges prior g syndrome iterations scale serial l → outcome b q ≡ beliefs edges prior g syndrome iterations scale serial l
+pub one-outcome : (edges : ℕ) (priors : List Float) (g : Graph) (syndrome : List ℕ) (iterations : ℕ) (scale : Float) (serial : Bool) (l : Lists) (a b : Answer)
+    (p q : Lists) → outcome a p ≡ beliefs edges priors g syndrome iterations scale serial l → outcome b q ≡ beliefs edges priors g syndrome iterations scale serial l
     → (a ≡ b) × (p .posterior ≡ q .posterior) × (p .ewaPosterior ≡ q .ewaPosterior) × (p .cToV ≡ q .cToV) × (p .vToC ≡ q .vToC)
-one-outcome edges prior g syndrome iterations scale serial l a b p q h k =
+one-outcome edges priors g syndrome iterations scale serial l a b p q h k =
     let e = h ∙ sym k in
     (ap (λ (o : Outcome). o .answer) e, ap (λ (o : Outcome). o .left .posterior) e, ap (λ (o : Outcome). o .left .ewaPosterior) e, ap (λ (o : Outcome). o .left .cToV) e, ap (λ (o : Outcome). o .left .vToC) e)

@@ -20,25 +20,19 @@ unfolding written
 written-turn sum cToV vToC out xs i m x h e s d = rw (d, e, s, add-one) (sym (foldl-take _ _ xs i 0 h))
 
 -- the raw posterior, from the part of the entries as the code reads it
-pub raw-is : (n : ℕ) (msgs off : List ℕ) (prior cToV vToC : List Float) (v a e : ℕ) (t : Float) → a ≡ getD off v 0 → e ≡ getD off (v + 1) 0
-    → t ≡ total cToV (part a e msgs) → getD prior v nan +ᶠ t ≡ rawPosterior (ofVariables n msgs off) prior (messages cToV vToC) v
+pub sum-is : (n : ℕ) (msgs off : List ℕ) (priors cToV vToC : List Float) (v a e : ℕ) (sum : Float) → a ≡ getD off v 0 → e ≡ getD off (v + 1) 0
+    → sum ≡ getD priors v nan +ᶠ total cToV (part a e msgs) → sum ≡ rawPosterior (ofVariables n msgs off) priors (messages cToV vToC) v
 unfolding rawPosterior
-raw-is n msgs off prior cToV vToC v a e t p q r = rw (r, p, q, add-one)
-
--- the same, of a sum that holds the prior
-pub sum-is : (n : ℕ) (msgs off : List ℕ) (prior cToV vToC : List Float) (v a e : ℕ) (sum : Float) → a ≡ getD off v 0 → e ≡ getD off (v + 1) 0
-    → sum ≡ getD prior v nan +ᶠ total cToV (part a e msgs) → sum ≡ rawPosterior (ofVariables n msgs off) prior (messages cToV vToC) v
-unfolding rawPosterior
-sum-is n msgs off prior cToV vToC v a e sum p q r = rw (r, p, q, add-one)
+sum-is n msgs off priors cToV vToC v a e sum p q r = rw (r, p, q, add-one)
 
 -- the update of a variable, from the part of the entries as the code reads it
-pub update-is : (n : ℕ) (msgs off : List ℕ) (prior cToV vToC out : List Float) (v a e : ℕ) (sum : Float) → a ≡ getD off v 0 → e ≡ getD off (v + 1) 0
-    → sum ≡ getD prior v nan +ᶠ total cToV (part a e msgs) → out ≡ written sum cToV vToC (part a e msgs)
-    → messages cToV out ≡ updateVariable (ofVariables n msgs off) prior (messages cToV vToC) v
+pub update-is : (n : ℕ) (msgs off : List ℕ) (priors cToV vToC out : List Float) (v a e : ℕ) (sum : Float) → a ≡ getD off v 0 → e ≡ getD off (v + 1) 0
+    → sum ≡ getD priors v nan +ᶠ total cToV (part a e msgs) → out ≡ written sum cToV vToC (part a e msgs)
+    → messages cToV out ≡ updateVariable (ofVariables n msgs off) priors (messages cToV vToC) v
 unfolding updateVariable rawPosterior
-update-is n msgs off prior cToV vToC out v a e sum p q r w = rw (w, r, p, q, add-one)
+update-is n msgs off priors cToV vToC out v a e sum p q r w = rw (w, r, p, q, add-one)
 
 -- the variables of a check, one further
-pub variables-turn : (g : Graph) (prior : List Float) (s t u : Messages) (xs : List ℕ) (i v : ℕ) → i < length xs → v ≡ getD xs i 0
-    → t ≡ foldl (updateVariable g prior) s (take i xs) → u ≡ updateVariable g prior t v → u ≡ foldl (updateVariable g prior) s (take (i + 1) xs)
-variables-turn g prior s t u xs i v h e p q = rw (q, e, p, add-one) (sym (foldl-take _ _ xs i 0 h))
+pub variables-turn : (g : Graph) (priors : List Float) (s t u : Messages) (xs : List ℕ) (i v : ℕ) → i < length xs → v ≡ getD xs i 0
+    → t ≡ foldl (updateVariable g priors) s (take i xs) → u ≡ updateVariable g priors t v → u ≡ foldl (updateVariable g priors) s (take (i + 1) xs)
+variables-turn g priors s t u xs i v h e p q = rw (q, e, p, add-one) (sym (foldl-take _ _ xs i 0 h))

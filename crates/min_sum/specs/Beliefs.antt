@@ -22,6 +22,7 @@ pub record Lists : Type 0 where
   pub cToV : List Float
   pub vToC : List Float
 
+-- the lists of their parts
 abbrev pub lists : List Float → List Float → List Float → List Float → Lists
 lists p w c v = record { posterior = p; ewaPosterior = w; cToV = c; vToC = v }
 
@@ -30,6 +31,7 @@ pub record Outcome : Type 0 where
   pub answer : Answer
   pub left : Lists
 
+-- an outcome of its parts
 abbrev pub outcome : Answer → Lists → Outcome
 outcome a l = record { answer = a; left = l }
 
@@ -41,8 +43,8 @@ listsFit edges g l =
 
 -- the tests before the run: 1, 2, 4, 7, 12, 20, 22. The scale is untested
 unfoldable pub beliefsFault : ℕ → List Float → Graph → List ℕ → ℕ → Lists → Answer
-beliefsFault edges prior g syndrome iterations l =
-    orElse (graphFault edges prior g)
+beliefsFault edges priors g syndrome iterations l =
+    orElse (graphFault edges priors g)
     (orElse (unless (leb iterations 65535) BadIterations)
     (orElse (unless (eqb (length syndrome) (g .checks)) SyndromeLength) (unless (listsFit edges g l) LentListLength)))
 
@@ -60,6 +62,6 @@ afterTests (Refused r) o l = outcome (Refused r) l
 
 -- `beliefs`: serial or not
 unfoldable pub beliefs : ℕ → List Float → Graph → List ℕ → ℕ → Float → Bool → Lists → Outcome
-beliefs edges prior g syndrome iterations scale serial l =
-    let o = ran edges g (minSumBp g serial scale syndrome prior iterations) in
-    afterTests (beliefsFault edges prior g syndrome iterations l) o l
+beliefs edges priors g syndrome iterations scale serial l =
+    let o = ran edges g (minSumBp g serial scale syndrome priors iterations) in
+    afterTests (beliefsFault edges priors g syndrome iterations l) o l

@@ -9,7 +9,7 @@ use lib.ListN.{length, getD, set}
 use Rattle.numbers.specs.Floats.{_+ᶠ_, _-ᶠ_, _*ᶠ_, zero⁺, one⁺, one⁻, abs, isNegative}
 use Rattle.numbers.specs.Loops.{turns, table, row, spliced}
 use Rattle.graph.specs.Graph.{Graph, checkEntries, varEntries}
-use Rattle.graph.specs.Messages.{Scan, startScan, total, fromVariables, cleared}
+use Rattle.graph.specs.Messages.{Scan, startScan, lowered, total, fromVariables, cleared}
 
 -- `damp`: 0.25
 abbrev pub damp : Float
@@ -29,17 +29,9 @@ noPosition = 0xFFFF_FFFF_FFFF_FFFF
 unfoldable pub flippedBy : Float → Float → Float
 flippedBy sign message = cond (lt message zero⁺) (neg sign) sign
 
--- the message at a position in the first pass: strict comparison keeps the first minimum
+-- the message at a position in the first pass
 unfoldable pub scanned : Scan → ℕ → Float → Scan
-scanned s position message =
-    let magnitude = abs message in
-    let lower = lt magnitude (s .min1) in
-    record {
-      totalSign = flippedBy (s .totalSign) message;
-      min1 = cond lower magnitude (s .min1);
-      min2 = cond lower (s .min1) (cond (lt magnitude (s .min2)) magnitude (s .min2));
-      least = cond lower position (s .least);
-    }
+scanned s position message = lowered s (flippedBy (s .totalSign) message) position message
 
 -- the first n of a check's messages; `odd` says whether its syndrome byte is not zero
 unfoldable pub scan : Bool → List Float → ℕ → Scan
@@ -63,10 +55,12 @@ checkMessages scale odd messages = sentTo scale (scan odd messages (length messa
 
 -- ---- one iteration, over all messages
 
+-- the messages, to variables and to checks
 pub record Messages : Type 0 where
   pub cToV : List Float
   pub vToC : List Float
 
+-- messages of both lists
 abbrev pub messages : List Float → List Float → Messages
 messages c v = record { cToV = c; vToC = v }
 
@@ -91,11 +85,11 @@ written sum cToV vToC entries = foldl (λ (l : List Float) (m : ℕ). set l m (d
 
 -- the prior and all that the checks say
 unfoldable pub rawPosterior : Graph → List Float → Messages → ℕ → Float
-rawPosterior g prior s v = getD prior v nan +ᶠ total (s .cToV) (varEntries g v)
+rawPosterior g priors s v = getD priors v nan +ᶠ total (s .cToV) (varEntries g v)
 
 -- a variable's messages: the sum is prior + total
 unfoldable pub updateVariable : Graph → List Float → Messages → ℕ → Messages
-updateVariable g prior s v = messages (s .cToV) (written (rawPosterior g prior s v) (s .cToV) (s .vToC) (varEntries g v))
+updateVariable g priors s v = messages (s .cToV) (written (rawPosterior g priors s v) (s .cToV) (s .vToC) (varEntries g v))
 
 -- one check of an iteration that is not serial
 unfoldable pub parallelCheck : Graph → Float → List ℕ → Messages → ℕ → Messages
@@ -107,24 +101,24 @@ checksTo g scale syndrome s n = turns n (λ c t. parallelCheck g scale syndrome 
 
 -- the first n variables, in index order
 unfoldable pub variablesTo : Graph → List Float → Messages → ℕ → Messages
-variablesTo g prior s n = turns n (λ v t. updateVariable g prior t v) s
+variablesTo g priors s n = turns n (λ v t. updateVariable g priors t v) s
 
 -- all checks, then all variables
 unfoldable pub parallelIteration : Graph → Float → List ℕ → List Float → Messages → Messages
-parallelIteration g scale syndrome prior s = variablesTo g prior (checksTo g scale syndrome s (g .checks)) (g .mechanisms)
+parallelIteration g scale syndrome priors s = variablesTo g priors (checksTo g scale syndrome s (g .checks)) (g .mechanisms)
 
 -- one check of a serial iteration, and then each variable of its entries
 unfoldable pub serialCheck : Graph → Float → List ℕ → List Float → Messages → ℕ → Messages
-serialCheck g scale syndrome prior s c =
-    cond (skipped g c) s (foldl (updateVariable g prior) (updateCheck g scale syndrome s c) (checkEntries g c))
+serialCheck g scale syndrome priors s c =
+    cond (skipped g c) s (foldl (updateVariable g priors) (updateCheck g scale syndrome s c) (checkEntries g c))
 
 -- the first n checks so, in index order
 unfoldable pub serialTo : Graph → Float → List ℕ → List Float → Messages → ℕ → Messages
-serialTo g scale syndrome prior s n = turns n (λ c t. serialCheck g scale syndrome prior t c) s
+serialTo g scale syndrome priors s n = turns n (λ c t. serialCheck g scale syndrome priors t c) s
 
 -- all checks
 unfoldable pub serialIteration : Graph → Float → List ℕ → List Float → Messages → Messages
-serialIteration g scale syndrome prior s = serialTo g scale syndrome prior s (g .checks)
+serialIteration g scale syndrome priors s = serialTo g scale syndrome priors s (g .checks)
 
 -- one iteration, serial or not
 abbrev pub iteration : Bool → Graph → Float → List ℕ → List Float → Messages → Messages
@@ -139,13 +133,13 @@ mixed weight old current = (one⁺ -ᶠ weight) *ᶠ old +ᶠ weight *ᶠ curren
 
 -- the first n elements of the running posterior after an iteration
 unfoldable pub averagedTo : Graph → List Float → Float → Messages → List Float → ℕ → List Float
-averagedTo g prior weight s ewa n = table n (λ v. mixed weight (getD ewa v nan) (rawPosterior g prior s v))
+averagedTo g priors weight s ewa n = table n (λ v. mixed weight (getD ewa v nan) (rawPosterior g priors s v))
 
 -- the running posterior
 unfoldable pub averaged : Graph → List Float → Float → Messages → List Float → List Float
-averaged g prior weight s ewa = averagedTo g prior weight s ewa (g .mechanisms)
+averaged g priors weight s ewa = averagedTo g priors weight s ewa (g .mechanisms)
 
--- the weight of an iteration with its number within the outer round: 1 in the very first, else 0.3
+-- the weight of iteration i of the outer round `outer`: 1 in the very first of all, else 0.3
 unfoldable pub weightOf : ℕ → ℕ → Float
 weightOf outer i = cond (eqb i 0 && eqb outer 0) one⁺ ewaWeight
 
@@ -154,6 +148,7 @@ pub record Belief : Type 0 where
   pub now : Messages
   pub ewaPosterior : List Float
 
+-- a belief of its parts
 abbrev pub belief : Messages → List Float → Belief
 belief s ewa = record { now = s; ewaPosterior = ewa }
 
@@ -163,20 +158,20 @@ chosen belief raw = cond (Bool·beq (lt zero⁺ belief) (lt zero⁺ raw) && lt (
 
 -- the first n beliefs at the end
 unfoldable pub chosenTo : Graph → List Float → Belief → ℕ → List Float
-chosenTo g prior b n = table n (λ v. chosen (getD (b .ewaPosterior) v nan) (rawPosterior g prior (b .now) v))
+chosenTo g priors b n = table n (λ v. chosen (getD (b .ewaPosterior) v nan) (rawPosterior g priors (b .now) v))
 
--- where an outer round starts: messages from the running posterior, which before the first round is the priors, and check messages from 0.0
+-- where an outer round starts: messages from the running posterior, which before the first round is the priors, and check messages 0.0
 unfoldable pub startRound : Graph → List Float → Belief
 startRound g ewa = belief (messages (cleared g) (fromVariables g ewa)) ewa
 
-module _ (g : Graph) (serial : Bool) (scale : Float) (syndrome : List ℕ) (prior : List Float) where
+module _ (g : Graph) (serial : Bool) (scale : Float) (syndrome : List ℕ) (priors : List Float) where
   -- an iteration of this weight
   unfoldable pub turned : Float → Belief → Belief
   turned weight b =
-      let s = iteration serial g scale syndrome prior (b .now) in
-      belief s (averaged g prior weight s (b .ewaPosterior))
+      let s = iteration serial g scale syndrome priors (b .now) in
+      belief s (averaged g priors weight s (b .ewaPosterior))
 
-  -- an iteration with its number within the outer round
+  -- iteration i of the outer round `outer`
   unfoldable pub turn : ℕ → ℕ → Belief → Belief
   turn outer i b = turned (weightOf outer i) b
 
@@ -191,9 +186,9 @@ module _ (g : Graph) (serial : Bool) (scale : Float) (syndrome : List ℕ) (prio
   -- two outer rounds of n / 2 from 6 on, else one of n. Where there is no iteration the round still sets the messages
   unfoldable pub rounds : ℕ → Belief
   rounds n =
-      let outer : ℕ = cond (leb 6 n) 2 1 in
-      turns outer (round (n / outer)) (startRound g prior)
+      let outerIterations : ℕ = cond (leb 6 n) 2 1 in
+      turns outerIterations (round (n / outerIterations)) (startRound g priors)
 
   -- the beliefs after n iterations
   unfoldable pub minSumBp : ℕ → List Float
-  minSumBp n = chosenTo g prior (rounds n) (g .mechanisms)
+  minSumBp n = chosenTo g priors (rounds n) (g .mechanisms)

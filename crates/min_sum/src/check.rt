@@ -1,7 +1,4 @@
 // One check, over its own messages: a pass that finds the total sign and the two least magnitudes, and a pass that sends.
-use messages_core::Scan;
-use messages_core::lowered;
-use messages_core::start_scan;
 ghost use mathlib.Core.Path.{_≡_};
 ghost use Prim.Native.Nat.{_≤_};
 ghost use lib.ListN.{length};
@@ -10,6 +7,9 @@ ghost use Rattle.numbers.specs.Loops.{part, spliced};
 ghost use Rattle.graph.specs.Messages.{scanOf};
 ghost use Rattle.messages_core.specs.Needs.{Ordered};
 ghost use Rattle.min_sum.specs.MinSum.{flippedBy, scanned as scannedOf, scan as scanTo, signWithout, sentTo, checkMessages};
+use messages_core::Scan;
+use messages_core::lowered;
+use messages_core::start_scan;
 
 // -sign below zero, else sign.
 fn flipped(sign: f64, message: f64) -> f64
@@ -34,7 +34,7 @@ fn scanned(s: Scan, position: usize, message: f64) -> Scan
 fn scan_check(odd: bool, messages: &[f64]) -> Scan
     ensures { λ r. ⌜ scanOf (r .«total_sign») (r .min1) (r .min2) (r .least) ≡ scanTo odd (now (messages .entry)) (length (now (messages .entry))) ⌝ }
 {
-    let mut s = start_scan(odd, 18446744073709551615);
+    let mut s = start_scan(odd, 0xFFFFFFFFFFFFFFFF);
     let mut i = 0;
     while i < messages.len() {
         s = scanned(s, i, messages[i]);

@@ -4,7 +4,8 @@ ghost use mathlib.Core.List.{[]};
 ghost use Prim.Native.Nat.{_<_};
 ghost use lib.Dec.{ltb};
 ghost use lib.ListN.{length};
-ghost use Rattle.messages_core.specs.Needs.{Offsets, Walks, walked, ofChecks, ofVariables};
+ghost use Rattle.graph.specs.Sound.{Offsets};
+ghost use Rattle.messages_core.specs.Needs.{Walks, walked, ofChecks, ofVariables};
 ghost use Rattle.min_sum.specs.MinSum.{messages, parallelCheck, serialCheck, checksTo, serialTo, variablesTo, mixed as mixedOf, averaged};
 
 // A check with so few entries is skipped.

@@ -1,16 +1,15 @@
 // The run: an iteration with its weight, outer rounds, and the end rule.
-use refusals::Answer;
-use tests_core::both;
-use tests_core::is_done;
-use tests_core::same_number;
 ghost use mathlib.Core.Path.{_≡_};
 ghost use mathlib.Core.Bool.{true, false};
 ghost use mathlib.Core.List.{[]};
-ghost use Prim.Native.Nat.{_/_};
 ghost use lib.ListN.{length};
 ghost use Rattle.messages_core.specs.Needs.{Walks, walked, ofVariables};
 ghost use Rattle.min_sum.specs.MinSum.{messages, belief, weightOf, turned, round as roundOf, rounds as roundsOf, chosen as chosenOf, chosenTo, minSumBp};
 ghost use Rattle.min_sum.specs.Beliefs.{lists, outcome, ran as ranOf};
+use refusals::Answer;
+use tests_core::both;
+use tests_core::is_done;
+use tests_core::same_number;
 
 // The weight of an iteration: 1 in the very first, else 0.3.
 fn weight(outer: usize, i: usize) -> f64
@@ -187,26 +186,9 @@ fn round(
     }
 }
 
-// How many iterations each of two outer rounds has.
-struct Inner {
-    first: usize,
-    second: usize,
-}
-
-// The whole part of n / 2 in both: 7 are 3 and 3.
-fn halves(n: usize) -> Inner
-    ensures { λ r. ⌜ (r .first ≡ n / 2) × (r .second ≡ n / 2) ⌝ }
-{
-    Inner {
-        first: n / 2,
-        second: n / 2,
-    }
-}
-
-// Two outer rounds.
+// Two outer rounds of as many iterations each.
 fn two_rounds(
-    first: usize,
-    second: usize,
+    inner: usize,
     serial: bool,
     scale: f64,
     syndrome: &[u8],
@@ -222,10 +204,10 @@ fn two_rounds(
     requires { ⌜ Walks (length (now syndrome)) (length (now priors)) (now «check_var») (now «check_offset») ⌝ }
     requires { ⌜ Walks (length (now priors)) (length (now «check_var»)) (now «var_message») (now «var_offset») ⌝ }
     requires { ⌜ (length (now «c_to_v») ≡ length (now «check_var»)) × (length (now «v_to_c») ≡ length (now «check_var»)) × (length (now «ewa_posterior») ≡ length (now priors)) ⌝ }
-    ensures { λ _. ⌜ belief (messages (now («c_to_v» .exit)) (now («v_to_c» .exit))) (now («ewa_posterior» .exit)) ≡ roundOf (walked (length (now (syndrome .entry))) (length (now (priors .entry))) (now («check_var» .entry)) (now («check_offset» .entry)) (now («var_message» .entry)) (now («var_offset» .entry))) serial scale (now (syndrome .entry)) (now (priors .entry)) second 1 (roundOf (walked (length (now (syndrome .entry))) (length (now (priors .entry))) (now («check_var» .entry)) (now («check_offset» .entry)) (now («var_message» .entry)) (now («var_offset» .entry))) serial scale (now (syndrome .entry)) (now (priors .entry)) first 0 (belief (messages (now («c_to_v» .entry)) (now («v_to_c» .entry))) (now («ewa_posterior» .entry)))) ⌝ }
+    ensures { λ _. ⌜ belief (messages (now («c_to_v» .exit)) (now («v_to_c» .exit))) (now («ewa_posterior» .exit)) ≡ roundOf (walked (length (now (syndrome .entry))) (length (now (priors .entry))) (now («check_var» .entry)) (now («check_offset» .entry)) (now («var_message» .entry)) (now («var_offset» .entry))) serial scale (now (syndrome .entry)) (now (priors .entry)) inner 1 (roundOf (walked (length (now (syndrome .entry))) (length (now (priors .entry))) (now («check_var» .entry)) (now («check_offset» .entry)) (now («var_message» .entry)) (now («var_offset» .entry))) serial scale (now (syndrome .entry)) (now (priors .entry)) inner 0 (belief (messages (now («c_to_v» .entry)) (now («v_to_c» .entry))) (now («ewa_posterior» .entry)))) ⌝ }
 {
     round(
-        first,
+        inner,
         0,
         serial,
         scale,
@@ -240,7 +222,7 @@ fn two_rounds(
         ewa_posterior,
     );
     round(
-        second,
+        inner,
         1,
         serial,
         scale,
@@ -256,7 +238,7 @@ fn two_rounds(
     );
 }
 
-// Two outer rounds of n / 2 from 6 on, else one of n.
+// Two outer rounds of n / 2 from 6 on, so that 7 are 3 and 3; else one of n.
 fn rounds(
     n: usize,
     serial: bool,
@@ -295,10 +277,8 @@ fn rounds(
         );
         return;
     }
-    let h = halves(n);
     two_rounds(
-        h.first,
-        h.second,
+        n / 2,
         serial,
         scale,
         syndrome,

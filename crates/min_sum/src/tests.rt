@@ -1,10 +1,4 @@
 // The tests before a run, in document 01's order.
-use refusals::Answer;
-use refusals::Refusal;
-use tests_core::at_most;
-use tests_core::both;
-use tests_core::is_done;
-use tests_core::same_number;
 ghost use mathlib.Core.Path.{_≡_};
 ghost use mathlib.Core.Bool.{_&&_};
 ghost use lib.Dec.{eqb, leb};
@@ -12,6 +6,12 @@ ghost use Rattle.refusals.specs.declared.Refusal.the-variants.{BadIterations, S
 ghost use Rattle.refusals.specs.Tests.{unless, orElse};
 ghost use Rattle.graph.specs.Graph.{graph};
 ghost use Rattle.graph.specs.Model.{graphFault};
+use refusals::Answer;
+use refusals::Refusal;
+use tests_core::at_most;
+use tests_core::both;
+use tests_core::is_done;
+use tests_core::same_number;
 
 // How long the syndrome and the lent lists are.
 pub(crate) struct Lengths {

@@ -5,7 +5,8 @@ ghost use Prim.Native.Nat.{_<_};
 ghost use lib.ListN.{length};
 ghost use Rattle.numbers.specs.Floats.{_+ᶠ_};
 ghost use Rattle.graph.specs.Messages.{total};
-ghost use Rattle.messages_core.specs.Needs.{Entries, Walks, ofVariables};
+ghost use Rattle.graph.specs.Sound.{Keys};
+ghost use Rattle.messages_core.specs.Needs.{Walks, ofVariables};
 ghost use Rattle.min_sum.specs.MinSum.{damped as dampedOf, written, messages, rawPosterior, updateVariable};
 
 // What is written over an old message, where the sum at the variable holds the own message.
@@ -17,7 +18,7 @@ fn damped(sum: f64, own: f64, old: f64) -> f64
 
 // That, for each message that the entries name.
 fn write_messages(entries: &[u32], sum: f64, c_to_v: &[f64], v_to_c: &mut [f64])
-    requires { ⌜ Entries (length (now «c_to_v»)) (now entries) ⌝ }
+    requires { ⌜ Keys (length (now «c_to_v»)) (now entries) ⌝ }
     requires { ⌜ length (now «v_to_c») ≡ length (now «c_to_v») ⌝ }
     ensures { λ _. ⌜ now («v_to_c» .exit) ≡ written sum (now («c_to_v» .entry)) (now («v_to_c» .entry)) (now (entries .entry)) ⌝ }
 {
@@ -31,7 +32,7 @@ fn write_messages(entries: &[u32], sum: f64, c_to_v: &[f64], v_to_c: &mut [f64])
 
 // The sum at the variable with these entries, and its messages.
 fn update_entries(prior: f64, entries: &[u32], c_to_v: &[f64], v_to_c: &mut [f64]) -> f64
-    requires { ⌜ Entries (length (now «c_to_v»)) (now entries) ⌝ }
+    requires { ⌜ Keys (length (now «c_to_v»)) (now entries) ⌝ }
     requires { ⌜ length (now «v_to_c») ≡ length (now «c_to_v») ⌝ }
     ensures sum { λ r. ⌜ r ≡ prior +ᶠ total (now («c_to_v» .entry)) (now (entries .entry)) ⌝ }
     ensures messages { λ r. ⌜ now («v_to_c» .exit) ≡ written r (now («c_to_v» .entry)) (now («v_to_c» .entry)) (now (entries .entry)) ⌝ }
@@ -87,7 +88,7 @@ pub(crate) fn update_variables(
     c_to_v: &[f64],
     v_to_c: &mut [f64],
 )
-    requires { ⌜ Entries (length (now priors)) (now variables) ⌝ }
+    requires { ⌜ Keys (length (now priors)) (now variables) ⌝ }
     requires { ⌜ Walks (length (now priors)) (length (now «c_to_v»)) (now «var_message») (now «var_offset») ⌝ }
     requires { ⌜ length (now «v_to_c») ≡ length (now «c_to_v») ⌝ }
     ensures { λ _. ⌜ messages (now («c_to_v» .entry)) (now («v_to_c» .exit)) ≡ foldl (updateVariable (ofVariables (length (now (priors .entry))) (now («var_message» .entry)) (now («var_offset» .entry))) (now (priors .entry))) (messages (now («c_to_v» .entry)) (now («v_to_c» .entry))) (now (variables .entry)) ⌝ }

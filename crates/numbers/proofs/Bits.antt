@@ -95,7 +95,7 @@ pub abs-bits : (x : Float) → fits binary64 x ≡ true → ofBits binary64 (toB
 abs-bits x h = sym (abs-bit (toBits binary64 x)) ∙ ap abs (ofBits-toBits binary64 x (subst T (sym h) tt))
 
 -- a NaN's magnitude is a NaN, and no other's is
-abs-number : (x : Float) → isNan (abs x) ≡ isNan x
+pub abs-number : (x : Float) → isNan (abs x) ≡ isNan x
 unfolding isNan abs
 abs-number nan = refl
 abs-number (inf s) = refl

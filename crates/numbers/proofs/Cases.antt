@@ -1,7 +1,7 @@
 -- Numbers and tests by cases, and the turns of a loop of tests. Assumes nothing.
 use mathlib.Core.Path.{_≡_, refl, sym, _∙_}
 use mathlib.Core.Logic.{_⊎_, inl, inr, ⊎-elim}
-use mathlib.Core.Bool.{Bool, true, false, not, _&&_, false≢true}
+use mathlib.Core.Bool.{Bool, true, false, not, cond, _&&_, and-false, false≢true}
 use Prim.Native.Nat.{ℕ, zero, suc, _+_, _<_, _≤_}
 use native.Mathlib.Omega.{arith}
 use native.Mathlib.Numerals.{add-one}
@@ -35,6 +35,11 @@ pub and-both : (a b : Bool) → (a && b) ≡ true → (a ≡ true) × (b ≡ tru
 and-both true b h = (refl, h)
 and-both false b h = absurd (false≢true h)
 
+-- both choices alike
+pub either-way {ℓ} : {A : Type ℓ} (b : Bool) (x : A) → cond b x x ≡ x
+either-way true x = refl
+either-way false x = refl
+
 -- what `if !b` that is not taken tells, where b is v
 pub was-true : (b v : Bool) → b ≡ v → not b ≡ false → v ≡ true
 was-true b v e h = sym e ∙ not-false b h
@@ -53,11 +58,7 @@ every-turn p i h t = rw (add-one, h, t)
 pub every-stop : (p : ℕ → Bool) (i n : ℕ) → i < n → p i ≡ false → every n p ≡ false
 every-stop p i zero h t = absurd (omega arith)
 every-stop p i (suc n) h t =
-    ⊎-elim (λ (e : i ≡ n). rw (← e, t) (false-right (every i p))) (λ l. rw (every-stop p i n l t)) (last-or-before i n h)
-  where
-    false-right : (b : Bool) → (b && false) ≡ false
-    false-right true = refl
-    false-right false = refl
+    ⊎-elim (λ (e : i ≡ n). rw (← e, t) (and-false (every i p))) (λ l. rw (every-stop p i n l t)) (last-or-before i n h)
 
 -- `if !b { return false; }`, taken
 pub every-refuse : (p : ℕ → Bool) (i n : ℕ) (b : Bool) → i < n → b ≡ p i → not b ≡ true → false ≡ every n p

@@ -1,7 +1,5 @@
 -- The laws that stand by themselves, for the proofs of this crate and of those above it.
-pub mod Tests
 pub mod Cases
-pub mod Floats
 pub mod Bits
 pub mod Order
 pub mod Loops

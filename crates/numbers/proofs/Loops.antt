@@ -2,7 +2,7 @@
 -- and of a list with a part replaced. (One step more of `turns`, `table` and `every`, at `suc n`, is how they compute.) Assumes nothing.
 use mathlib.Core.Path.{_≡_, refl, sym, ap, _∙_}
 use mathlib.Core.Bool.{Bool, true}
-use mathlib.Core.List.{List, [], _∷_, _++_, foldl}
+use mathlib.Core.List.{List, [], _∷_, _++_, map, foldl}
 use mathlib.Core.Logic.{_⊎_, inl, inr}
 use Prim.Native.Nat.{ℕ, zero, suc, _+_, _-_, _<_, _≤_}
 use native.Mathlib.Nat.{not-suc-le-zero, le-of-suc-le-suc}
@@ -11,8 +11,7 @@ use native.Mathlib.Omega.{arith}
 use lib.ListN.{length, getD, take, drop, set, length-append, length-drop, length-set, List·getD-append}
 use lib.Seq.{length-take-le, getD-take, getD-drop, getD-append-add, ext-getD, getD-set-same, getD-set-other}
 use borrow.Author.Count.{below-more}
-use Rattle.numbers.proofs.Cases.{equal-or-not}
-use Rattle.numbers.proofs.Tests.{and-left, and-right}
+use Rattle.numbers.proofs.Cases.{equal-or-not, and-both}
 use Rattle.numbers.specs.Loops.{table, every, part, spliced}
 
 -- ---- a fold
@@ -29,7 +28,7 @@ foldl-take f s (x ∷ xs) (suc i) d h = foldl-take f (f s x) xs i d (le-of-suc-l
 -- where every one holds, each does
 pub every-at : (n : ℕ) (p : ℕ → Bool) → every n p ≡ true → (i : ℕ) → i < n → p i ≡ true
 every-at zero p h i l = absurd (not-suc-le-zero l)
-every-at (suc n) p h i l = below-more (λ k. p k ≡ true) n (every-at n p (and-left (every n p) (p n) h)) (and-right (every n p) (p n) h) i (omega arith)
+every-at (suc n) p h i l = let w = and-both (every n p) (p n) h in below-more (λ k. p k ≡ true) n (every-at n p (w .0)) (w .1) i (omega arith)
 
 -- where each holds, every one does
 pub every-true : (n : ℕ) (p : ℕ → Bool) → ((i : ℕ) → i < n → p i ≡ true) → every n p ≡ true
@@ -82,6 +81,18 @@ module _ {ℓ} {A : Type ℓ} where
   pub getD-part : (a e : ℕ) (xs : List A) (j : ℕ) (d : A) → a + j < e → getD (part a e xs) j d ≡ getD xs (a + j) d
   getD-part a e xs j d h = getD-take (e - a) (drop a xs) j d (omega arith) ∙ getD-drop a xs j d
 
+-- ---- lists of numbers
+
+-- a list is a table by its elements
+pub is-table : (n : ℕ) (f : ℕ → ℕ) (xs : List ℕ) → length xs ≡ n → ((i : ℕ) → i < n → getD xs i 0 ≡ f i) → xs ≡ table n f
+is-table n f xs e h = ext-getD 0 xs (table n f) (e ∙ sym (length-table n f)) (λ i l. h i (omega arith) ∙ sym (getD-table n f i 0 (omega arith)))
+
+-- an element of a mapped list
+pub map-at : (f : ℕ → ℕ) (xs : List ℕ) (i : ℕ) → i < length xs → getD (map f xs) i 0 ≡ f (getD xs i 0)
+map-at f [] i h = absurd (not-suc-le-zero h)
+map-at f (x ∷ xs) zero h = refl
+map-at f (x ∷ xs) (suc i) h = map-at f xs i (le-of-suc-le-suc h)
+
 -- ---- spliced
 
 -- i lies outside a .. e
@@ -89,6 +100,7 @@ abbrev pub Outside : ℕ → ℕ → ℕ → Type 0
 Outside a e i = (i < a) ⊎ (e ≤ i)
 
 module _ {ℓ} {A : Type ℓ} (xs : List A) (a e : ℕ) (new : List A) (h : a ≤ e) (k : e ≤ length xs) (l : length new ≡ e - a) where
+  -- as many stand before the part as its start says
   front : length (take a xs) ≡ a
   front = length-take-le a xs (omega arith)
 

@@ -9,14 +9,14 @@ use lib.Ieee.Fits.{down-pos}
 use borrow.Author.Tests.{ltb-true, ltb-false, lt-ltb, le-ltb}
 use Rattle.numbers.specs.Floats.{abs}
 
--- the same of signed numbers
+-- of two signed numbers, not each is below the other
 below-one-way : (s : Bool) (a : ℕ) (t : Bool) (b : ℕ) → below s a t b ≡ true → below t b s a ≡ false
 below-one-way false a false b h = le-ltb b a (omega (arith, ltb-true a b h))
 below-one-way false a true b h = absurd (false≢true h)
 below-one-way true a false b h = refl
 below-one-way true a true b h = le-ltb a b (omega (arith, ltb-true b a h))
 
--- not each of two is below the other
+-- nor of two floats
 pub lt-one-way : (x y : Float) → lt x y ≡ true → lt y x ≡ false
 unfolding lt
 lt-one-way nan y h = absurd (false≢true h)

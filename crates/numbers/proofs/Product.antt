@@ -24,7 +24,7 @@ module _ (b : ℕ) (pos : 0 < b) where
   two-digits h l p q = omega (arith, mul-le-mul-right b p, add-mul h 1 b)
 
   -- the sum of the crossed products and the carry, modulo b, may be taken of remainders
-  pub upper-mod : (p q r s : ℕ) → upper b p q r s % b ≡ (q * s / b + p * s + q * r) % b
+  upper-mod : (p q r s : ℕ) → upper b p q r s % b ≡ (q * s / b + p * s + q * r) % b
   upper-mod p q r s =
       add-mod-mod (q * s / b + p * s % b) (q * r) b
       ∙ ap (_% b) (rearranged (q * s / b) (p * s % b) (q * r))
@@ -32,7 +32,7 @@ module _ (b : ℕ) (pos : 0 < b) where
       ∙ ap (_% b) (rearranged (q * s / b) (q * r) (p * s))
 
   -- the product of two numbers of two digits, modulo b * b
-  pub by-digits : (p q r s : ℕ) → (p * b + q) * (r * b + s) % (b * b) ≡ upper b p q r s % b * b + q * s % b
+  by-digits : (p q r s : ℕ) → (p * b + q) * (r * b + s) % (b * b) ≡ upper b p q r s % b * b + q * s % b
   by-digits p q r s =
       ap (_% (b * b)) whole
       ∙ mul-add-mod-self-right (p * r + S / b) (b * b) (S % b * b + q * s % b)

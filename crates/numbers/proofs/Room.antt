@@ -22,5 +22,6 @@ again-length x new n room kept h = sym (length-take-le n (new ++ drop n (replica
 pub spare : (n k : ℕ) → n ≤ k → n ≤ k + 1
 spare n k h = omega (arith, h)
 
+-- and for one more than each
 pub one-more : (n k : ℕ) → n ≤ k → n + 1 ≤ k + 1
 one-more n k h = omega (arith, h)

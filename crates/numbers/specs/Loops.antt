@@ -15,6 +15,10 @@ abbrev pub table {ℓ} : {A : Type ℓ} → ℕ → (ℕ → A) → List A
 table zero f = []
 table (suc n) f = table n f ++ (f n ∷ [])
 
+-- 0, 1, .. n - 1
+abbrev pub upto : ℕ → List ℕ
+upto n = table n (λ (i : ℕ). i)
+
 -- p 0 .. p (n - 1) all hold
 abbrev pub every : ℕ → (ℕ → Bool) → Bool
 every zero p = true

@@ -12,10 +12,11 @@ pub data All (P : ℕ → Type 0) : List ℕ → Type 0 where
   nil : All P []
   cons : {x : ℕ} {xs : List ℕ} → P x → All P xs → All P (x ∷ xs)
 
--- the first, and the rest
+-- the first
 pub all-head : {P : ℕ → Type 0} {x : ℕ} {xs : List ℕ} → All P (x ∷ xs) → P x
 all-head (cons h t) = h
 
+-- and the rest
 pub all-tail : {P : ℕ → Type 0} {x : ℕ} {xs : List ℕ} → All P (x ∷ xs) → All P xs
 all-tail (cons h t) = t
 
@@ -34,11 +35,12 @@ pub all-always : {P : ℕ → Type 0} (f : (x : ℕ) → P x) (xs : List ℕ) �
 all-always f [] = nil
 all-always f (x ∷ xs) = cons (f x) (all-always f xs)
 
--- of the front and of the back of a list
+-- of the front of a list
 pub all-left : {P : ℕ → Type 0} (xs ys : List ℕ) → All P (xs ++ ys) → All P xs
 all-left [] ys t = nil
 all-left (x ∷ xs) ys (cons h t) = cons h (all-left xs ys t)
 
+-- and of its back
 pub all-right : {P : ℕ → Type 0} (xs ys : List ℕ) → All P (xs ++ ys) → All P ys
 all-right [] ys t = t
 all-right (x ∷ xs) ys (cons h t) = all-right xs ys t
@@ -53,11 +55,12 @@ pub all-without : {P : ℕ → Type 0} (xs : List ℕ) (y : ℕ) (ys : List ℕ)
 all-without [] y ys (cons h t) = t
 all-without (x ∷ xs) y ys (cons h t) = cons h (all-without xs y ys t)
 
--- from every place, and back
+-- from every place
 pub all-places : {P : ℕ → Type 0} (xs : List ℕ) → ((i : ℕ) → i < length xs → P (getD xs i 0)) → All P xs
 all-places [] h = nil
 all-places (x ∷ xs) h = cons (h 0 (zero-lt-suc _)) (all-places xs (λ i l. h (suc i) (suc-le-suc l)))
 
+-- and back
 pub all-at : {P : ℕ → Type 0} {xs : List ℕ} → All P xs → (i : ℕ) → i < length xs → P (getD xs i 0)
 all-at nil i h = absurd (not-suc-le-zero h)
 all-at (cons h t) zero l = h
@@ -65,11 +68,12 @@ all-at (cons h t) (suc i) l = all-at t i (le-of-suc-le-suc l)
 
 -- ---- tests
 
--- neither of two
+-- where neither of two holds, the first does not
 pub or-left : (a b : Bool) → (a || b) ≡ false → a ≡ false
 or-left true b h = h
 or-left false b h = refl
 
+-- nor does the second
 pub or-right : (a b : Bool) → (a || b) ≡ false → b ≡ false
 or-right true b h = absurd (true≢false h)
 or-right false b h = h

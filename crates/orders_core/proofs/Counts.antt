@@ -12,14 +12,15 @@ use borrow.Author.Tests.{eqb-true, eq-eqb, ne-eqb}
 use Rattle.orders_core.specs.Order.{count, once, NamesOnce, namesOnce}
 use Rattle.orders_core.proofs.All.{All, nil, cons}
 use Rattle.numbers.specs.Loops.{every}
-use Rattle.numbers.proofs.Tests.{and-left, and-right}
+use Rattle.numbers.proofs.Cases.{and-both}
 use Rattle.numbers.proofs.Loops.{every-at, every-true}
 
--- of the first name, and of another
+-- of the first name
 pub count-same : (x : ℕ) (xs : List ℕ) → count x (x ∷ xs) ≡ suc (count x xs)
 unfolding count
 count-same x xs = rw (eq-eqb x x refl)
 
+-- and of another
 pub count-other : (k x : ℕ) (xs : List ℕ) → (x ≡ k → ⊥) → count k (x ∷ xs) ≡ count k xs
 unfolding count
 count-other k x xs h = rw (ne-eqb x k h)
@@ -30,10 +31,11 @@ tail-le true n = omega arith
 tail-le false n = omega arith
 
 -- a list counts at least what its tail does
-pub count-tail : (k x : ℕ) (xs : List ℕ) → count k xs ≤ count k (x ∷ xs)
+count-tail : (k x : ℕ) (xs : List ℕ) → count k xs ≤ count k (x ∷ xs)
 unfolding count
 count-tail k x xs = tail-le (eqb x k) (count k xs)
 
+-- two names count alike in either order
 two : (b c : Bool) (x : ℕ) → cond b (suc (cond c (suc x) x)) (cond c (suc x) x) ≡ cond c (suc (cond b (suc x) x)) (cond b (suc x) x)
 two true true x = refl
 two true false x = refl
@@ -52,6 +54,7 @@ pub record Found (k : ℕ) (xs : List ℕ) : Type 0 where
   pub post : List ℕ
   pub is : xs ≡ pre ++ (k ∷ post)
 
+-- it is the first, or stands in the rest
 found-first : (k x : ℕ) (xs : List ℕ) (m : ℕ) (b : Bool) → eqb x k ≡ b → cond b (suc (count k xs)) (count k xs) ≡ suc m → (count k xs ≡ suc m → Found k xs) → Found k (x ∷ xs)
 found-first k x xs m true e h rec = record { pre = []; post = xs; is = ap (λ y. y ∷ xs) (eqb-true x k e) }
 found-first k x xs m false e h rec = let f = rec h in record { pre = x ∷ f .pre; post = f .post; is = ap (λ ys. x ∷ ys) (f .is) }
@@ -85,6 +88,7 @@ sum-in (suc n) x xs h = go (ℕ-discrete x n) (λ l. sum-in n x xs l)
     go (yes e) rec = let c : count n (x ∷ xs) ≡ suc (count n xs) = rw e (count-same n xs) in omega (arith, sum-out n x xs (omega arith))
     go (no e) rec = omega (arith, rec (omega arith), count-other n x xs e)
 
+-- of no names
 sum-nil : (n : ℕ) → sumTo n [] ≡ 0
 unfolding sumTo count
 sum-nil zero = refl
@@ -149,7 +153,7 @@ pub names-below : {n : ℕ} {xs : List ℕ} → NamesOnce n xs → All (λ k. k 
 names-below {n} {xs} h = all-below n xs (h .none-else)
 
 -- as many names as there are checks
-pub names-length : {n : ℕ} {xs : List ℕ} → NamesOnce n xs → length xs ≡ n
+names-length : {n : ℕ} {xs : List ℕ} → NamesOnce n xs → length xs ≡ n
 names-length {n} {xs} h = sym (sum-length n (names-below h)) ∙ sum-ones n xs (h .once-each)
 
 -- the test is passed just where each check is named once, and nothing else is
@@ -159,6 +163,7 @@ names-once-is n xs = (there, λ h. rw (names-length h, eq-eqb n n refl) (every-t
   where
     there : (eqb (length xs) n && every n (once xs)) ≡ true → NamesOnce n xs
     there h =
-        let l = eqb-true (length xs) n (and-left _ (every n (once xs)) h) in
-        let o : (k : ℕ) → k < n → count k xs ≡ 1 = λ k m. eqb-true (count k xs) 1 (every-at n (once xs) (and-right (eqb (length xs) n) _ h) k m) in
+        let w = and-both (eqb (length xs) n) (every n (once xs)) h in
+        let l = eqb-true (length xs) n (w .0) in
+        let o : (k : ℕ) → k < n → count k xs ≡ 1 = λ k m. eqb-true (count k xs) 1 (every-at n (once xs) (w .1) k m) in
         record { once-each = o; none-else = λ k m. omega (arith, sum-beyond n k xs m, sum-ones n xs o) }

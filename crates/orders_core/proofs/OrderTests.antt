@@ -1,7 +1,7 @@
 -- A turn of each loop of tests 23 and 24, and what its ways out say. Assumes nothing.
 use Prim.Native.Nat.{ℕ, zero, suc, _+_, max, _<_, _≤_}
 use mathlib.Core.Path.{_≡_, refl, sym, _∙_, ap, subst}
-use mathlib.Core.Bool.{Bool, true, false, _&&_, _||_, cond, false≢true}
+use mathlib.Core.Bool.{Bool, true, false, _&&_, _||_, and-true, and-false, or-false, or-assoc, cond, false≢true}
 use mathlib.Core.List.{List, [], _∷_, _++_, append-nil, foldl, foldl-append}
 use native.Mathlib.Omega.{arith}
 use native.Mathlib.Nat.{not-suc-le-zero, le-of-suc-le-suc}
@@ -12,11 +12,12 @@ use lib.ListN.{length, getD, set, take, drop, replicate, getD-replicate, length-
 use lib.Seq.{take-suc, drop-cons, split-at, take-all, getD-set-same, getD-set-other}
 use borrow.Author.Tests.{ltb-true, ltb-false, lt-ltb, le-ltb, eqb-true, eqb-false, ne-eqb}
 use Rattle.numbers.specs.Loops.{part, row}
-use Rattle.numbers.proofs.Loops.{foldl-take, length-part, getD-part}
+use Rattle.numbers.proofs.Cases.{either-way}
+use Rattle.numbers.proofs.Loops.{foldl-take}
 use Rattle.refusals.specs.declared.Refusal.the-variants.{OrderExchanged}
 use Rattle.refusals.specs.declared.Answer.the-variants.{Done, Refused}
 use Rattle.graph.specs.Lists.{has}
-use Rattle.messages_core.specs.Needs.{Entries}
+use Rattle.graph.specs.Sound.{Keys}
 use Rattle.orders_core.specs.Order.{count, namesOnce, anyOf, shares, above, late, exchanged}
 use Rattle.orders_core.specs.Marks.{highest, marked, overtaken}
 use Rattle.orders_core.proofs.All.{All, nil, cons, all-map, all-always, all-places, all-at, all-append, not-so, any-none}
@@ -89,14 +90,16 @@ seen-done checks order i seen h l s =
       none-else = λ k m. none-from checks k m b;
     })
 
--- the ways out: another length, a name that is no check, a name twice
+-- the ways out: another length
 pub name-length : (checks : ℕ) (order : List ℕ) → (length order ≡ checks → ⊥) → namesOnce checks order ≡ false
 unfolding namesOnce
 name-length checks order h = rw (ne-eqb (length order) checks h)
 
+-- a name that is no check
 pub name-beyond : (checks : ℕ) (order : List ℕ) (i : ℕ) → i < length order → checks ≤ getD order i 0 → namesOnce checks order ≡ false
 name-beyond checks order i h l = not-so _ (λ e. omega (arith, all-at (names-below (names-once-is checks order .0 e)) i h))
 
+-- a name twice
 pub name-twice : (checks : ℕ) (order : List ℕ) (i : ℕ) (seen : List ℕ) (c : ℕ) → checks ≤ 65536 → i < length order → c ≡ getD order i 0 → c < checks
     → (getD seen c 0 ≡ 0 → ⊥) → Seen checks order i seen → namesOnce checks order ≡ false
 name-twice checks order i seen c h k e b z s = not-so _ (λ t. go (names-once-is checks order .0 t .once-each c b))
@@ -115,50 +118,53 @@ is-same true b f g = sym (f refl)
 is-same false true f g = g refl
 is-same false false f g = refl
 
--- a disjunction
+-- a disjunction whose second holds
 or-true : (a b : Bool) → b ≡ true → (a || b) ≡ true
 or-true true b h = refl
 or-true false b h = h
 
-or-false : (a b : Bool) → a ≡ false → b ≡ false → (a || b) ≡ false
-or-false a b h k = rw (h, k)
-
--- none passes, and two tests that agree
+-- none passes
 pub any-false : (p : ℕ → Bool) {xs : List ℕ} → All (λ x. p x ≡ false) xs → anyOf p xs ≡ false
 any-false p nil = refl
-any-false p (cons {x = x} {xs = xs} h t) = or-false (p x) (anyOf p xs) h (any-false p t)
+any-false p (cons {x = x} {xs = xs} h t) = rw (h, any-false p t)
 
+-- two tests that agree
 pub any-same : (p q : ℕ → Bool) {xs : List ℕ} → All (λ x. p x ≡ q x) xs → anyOf p xs ≡ anyOf q xs
 any-same p q nil = refl
 any-same p q (cons {x = x} {xs = xs} h t) = ap (λ b. b || anyOf p xs) h ∙ ap (λ b. q x || b) (any-same p q t)
 
--- exchanging an inner and an outer search
+-- four tests, the middle two exchanged
 four-or : (a b c d : Bool) → (a || b || (c || d)) ≡ (a || c || (b || d))
 four-or true b c d = refl
 four-or false true true d = refl
 four-or false true false d = refl
 four-or false false c d = refl
 
+-- a search for either of two is a search for each
 any-or : (p q : ℕ → Bool) (xs : List ℕ) → anyOf (λ x. p x || q x) xs ≡ (anyOf p xs || anyOf q xs)
 any-or p q [] = refl
 any-or p q (x ∷ xs) = ap (λ b. p x || q x || b) (any-or p q xs) ∙ four-or (p x) (q x) (anyOf p xs) (anyOf q xs)
 
+-- a test that nothing passes finds nothing
 any-never : (xs : List ℕ) → anyOf (λ x. false) xs ≡ false
 any-never [] = refl
 any-never (x ∷ xs) = any-never xs
 
+-- exchanging an inner and an outer search
 pub any-swap : (p : ℕ → ℕ → Bool) (xs ys : List ℕ) → anyOf (λ x. anyOf (p x) ys) xs ≡ anyOf (λ y. anyOf (λ x. p x y) xs) ys
 any-swap p xs [] = any-never xs
 any-swap p xs (y ∷ ys) = any-or (λ x. p x y) (λ x. anyOf (p x) ys) xs ∙ ap (λ b. anyOf (λ x. p x y) xs || b) (any-swap p xs ys)
 
+-- a condition that does not depend on the element stands outside
 any-and : (b : Bool) (p : ℕ → Bool) (xs : List ℕ) → anyOf (λ x. b && p x) xs ≡ (b && anyOf p xs)
 any-and true p xs = refl
 any-and false p xs = any-never xs
 
--- a turn of a search, and its end
-pub any-take : (p : ℕ → Bool) (xs : List ℕ) (i : ℕ) → i < length xs → anyOf p (take i xs) ≡ false → p (getD xs i 0) ≡ false → anyOf p (take (i + 1) xs) ≡ false
+-- a turn of a search that finds nothing
+any-take : (p : ℕ → Bool) (xs : List ℕ) (i : ℕ) → i < length xs → anyOf p (take i xs) ≡ false → p (getD xs i 0) ≡ false → anyOf p (take (i + 1) xs) ≡ false
 any-take p xs i h e k = rw (add-one, take-suc xs i 0 h) (any-false p (all-append (any-none p (take i xs) e) (cons k nil)))
 
+-- and one that does
 pub any-found : (p : ℕ → Bool) (xs : List ℕ) (i : ℕ) → i < length xs → p (getD xs i 0) ≡ true → anyOf p xs ≡ true
 any-found p [] i h e = absurd (not-suc-le-zero h)
 any-found p (x ∷ xs) zero h e = rw e
@@ -177,10 +183,11 @@ has-all {P} v e (cons {x = x} {xs = xs} h t) = go (eqb x v) refl e (λ q. has-al
     go false q k rec = rec k
 
 -- one mark more
-pub marked-take : (x : ℕ) (l es : List ℕ) (i : ℕ) → i < length es → marked x l (take (suc i) es) ≡ set (marked x l (take i es)) (getD es i 0) x
+marked-take : (x : ℕ) (l es : List ℕ) (i : ℕ) → i < length es → marked x l (take (suc i) es) ≡ set (marked x l (take i es)) (getD es i 0) x
 unfolding marked
 marked-take x l es i h = foldl-take _ _ es i 0 h
 
+-- marks leave the length
 pub length-marked : (x : ℕ) (l es : List ℕ) → length (marked x l es) ≡ length l
 unfolding marked
 length-marked x l [] = refl
@@ -192,12 +199,8 @@ unfolding marked has
 getD-marked x l [] v h = refl
 getD-marked x l (e ∷ es) v h = getD-marked x (set l e x) es v (rw (length-set l e x) h) ∙ go (eqb e v) refl (has es v)
   where
-    twice : (b : Bool) → cond b x x ≡ x
-    twice true = refl
-    twice false = refl
-
     go : (b : Bool) → eqb e v ≡ b → (c : Bool) → cond c x (getD (set l e x) v 0) ≡ cond (b || c) x (getD l v 0)
-    go true q c = let r : getD (set l e x) v 0 ≡ x = rw (← eqb-true e v q) (getD-set-same l e x 0 (rw (eqb-true e v q) h)) in rw r (twice c)
+    go true q c = let r : getD (set l e x) v 0 ≡ x = rw (← eqb-true e v q) (getD-set-same l e x 0 (rw (eqb-true e v q) h)) in rw r (either-way c x)
     go false q c = ap (cond c x) (getD-set-other l e v x 0 (λ r. eqb-false e v q (sym r)))
 
 -- above the greater of two
@@ -212,40 +215,26 @@ above-max c t d = is-same _ _ (λ h. left (ltb c t) refl (ltb-true _ _ h)) (λ h
     right true e h = omega (arith, ltb-true c t e)
     right false e h = omega (arith, ltb-true c d h)
 
--- brackets
-or-assoc : (a b c : Bool) → (a || b || c) ≡ (a || (b || c))
-or-assoc true b c = refl
-or-assoc false b c = refl
-
 -- the highest check that has v is above c just where some check above c has v
 module _ (entries : ℕ → List ℕ) (c v : ℕ) where
+  -- one check more
   abbrev Step : ℕ → ℕ → ℕ
   Step t d = cond (has (entries d) v) (max t d) t
 
+  -- it is above c where the highest was, or where the check has v and is above c
   above-step : (b : Bool) (t d : ℕ) → ltb c (cond b (max t d) t) ≡ (ltb c t || (ltb c d && b))
-  above-step true t d = above-max c t d ∙ ap (λ z. ltb c t || z) (and-one (ltb c d))
-    where
-      and-one : (z : Bool) → z ≡ (z && true)
-      and-one true = refl
-      and-one false = refl
-  above-step false t d = none-or (ltb c t) (ltb c d)
-    where
-      none-or : (y z : Bool) → y ≡ (y || (z && false))
-      none-or true z = refl
-      none-or false true = refl
-      none-or false false = refl
+  above-step true t d = above-max c t d ∙ ap (λ z. ltb c t || z) (sym (and-true (ltb c d)))
+  above-step false t d = sym (rw (and-false (ltb c d)) (or-false (ltb c t)))
 
+  -- so is it after several
   above-fold : (ds : List ℕ) (t : ℕ) → ltb c (foldl Step t ds) ≡ (ltb c t || anyOf (λ d. ltb c d && has (entries d) v) ds)
-  above-fold [] t = or-none (ltb c t)
-    where
-      or-none : (z : Bool) → z ≡ (z || false)
-      or-none true = refl
-      or-none false = refl
+  above-fold [] t = sym (or-false (ltb c t))
   above-fold (d ∷ ds) t =
       above-fold ds (Step t d)
       ∙ ap (λ z. z || anyOf (λ e. ltb c e && has (entries e) v) ds) (above-step (has (entries d) v) t d)
       ∙ or-assoc (ltb c t) (ltb c d && has (entries d) v) (anyOf (λ e. ltb c e && has (entries e) v) ds)
 
+  -- and after all, from none
   above-highest : (before : List ℕ) → ltb c (highest entries before v) ≡ anyOf (λ d. ltb c d && has (entries d) v) before
   unfolding highest
   above-highest before = above-fold before 0 ∙ ap (λ z. z || anyOf (λ d. ltb c d && has (entries d) v) before) (le-ltb c 0 (omega arith))
@@ -260,7 +249,7 @@ unfolding highest
 tells-start entries v h = getD-replicate 65536 v 0 0 h
 
 -- the code's test is the definition's
-pub overtaken-is : (entries : ℕ → List ℕ) (before last : List ℕ) (c : ℕ) → Tells entries before last → All (λ v. v < 65536) (entries c)
+overtaken-is : (entries : ℕ → List ℕ) (before last : List ℕ) (c : ℕ) → Tells entries before last → All (λ v. v < 65536) (entries c)
     → overtaken c last (entries c) ≡ late entries before c
 unfolding overtaken late above shares
 overtaken-is entries before last c t b =
@@ -270,7 +259,7 @@ overtaken-is entries before last c t b =
     ∙ any-same _ _ (all-always (λ d. any-and (ltb c d) (λ v. has (entries d) v) (entries c)) before)
 
 -- and its marks tell of one check more
-pub tells-turn : (entries : ℕ → List ℕ) (before last : List ℕ) (c : ℕ) → length last ≡ 65536 → Tells entries before last → overtaken c last (entries c) ≡ false
+tells-turn : (entries : ℕ → List ℕ) (before last : List ℕ) (c : ℕ) → length last ≡ 65536 → Tells entries before last → overtaken c last (entries c) ≡ false
     → Tells entries (before ++ (c ∷ [])) (marked c last (entries c))
 unfolding overtaken highest
 tells-turn entries before last c l t o v h =
@@ -284,16 +273,18 @@ tells-turn entries before last c l t o v h =
         omega (arith, t v h)
     go false e = t v h
 
--- a turn of the search, and its end
+-- a turn of the search
 pub exchange-turn : (entries : ℕ → List ℕ) (order : List ℕ) (i c : ℕ) → i < length order → c ≡ getD order i 0 → late entries (take i order) c ≡ false
     → exchanged entries (take (i + 1) order) (drop (i + 1) order) ≡ exchanged entries (take i order) (drop i order)
 unfolding exchanged
 exchange-turn entries order i c h e l = rw (add-one, take-suc order i 0 h, drop-cons order i 0 h, ← e, l)
 
+-- its end, where nothing is late
 pub exchange-done : (entries : ℕ → List ℕ) (order : List ℕ) (i : ℕ) → length order ≤ i → Done ≡ exchanged entries (take i order) (drop i order)
 unfolding exchanged
 exchange-done entries order i h = rw (drop-of-length-le order h)
 
+-- or where a check is
 pub exchange-found : (entries : ℕ → List ℕ) (order : List ℕ) (i c : ℕ) → i < length order → c ≡ getD order i 0 → late entries (take i order) c ≡ true
     → Refused (OrderExchanged c) ≡ exchanged entries (take i order) (drop i order)
 unfolding exchanged
@@ -301,12 +292,13 @@ exchange-found entries order i c h e l = rw (drop-cons order i 0 h, ← e, l)
 
 -- ---- turns of the inner loops, as the code has them
 
--- turns of `is_overtaken`, and what it finds
+-- a turn of `is_overtaken`
 pub overtaken-turn : (x : ℕ) (last es : List ℕ) (i v : ℕ) → i < length es → v ≡ getD es i 0 → getD last v 0 ≤ x → overtaken x last (take i es) ≡ false
     → overtaken x last (take (i + 1) es) ≡ false
 unfolding overtaken
 overtaken-turn x last es i v h e l o = any-take (λ w. ltb x (getD last w 0)) es i h o (le-ltb x (getD last (getD es i 0) 0) (rw (← e) l))
 
+-- and what it finds
 pub overtaken-found : (x : ℕ) (last es : List ℕ) (i v : ℕ) → i < length es → v ≡ getD es i 0 → x < getD last v 0 → true ≡ overtaken x last es
 unfolding overtaken
 overtaken-found x last es i v h e l = sym (any-found (λ w. ltb x (getD last w 0)) es i h (lt-ltb x (getD last (getD es i 0) 0) (rw (← e) l)))
@@ -317,34 +309,32 @@ marked-turn x l es m i v h e q = rw (add-one, marked-take x l es i h, ← e, q)
 
 -- ---- a turn of `exchanged_check`, as the code has it
 
--- a part's entries, from all entries
-pub part-below : (n a e : ℕ) (mech : List ℕ) → Entries n mech → a ≤ e → e ≤ length mech → Entries n (part a e mech)
-part-below n a e mech h k l = record { names = λ j m. go j (omega (arith, length-part a e mech l)) }
-  where
-    go : (j : ℕ) → a + j < e → getD (part a e mech) j 0 < n
-    go j m = rw (getD-part a e mech j 0 m) (h .names (a + j) (omega arith))
-
 module _ (off mech order last : List ℕ) (i c a e next : ℕ) (h : i < length order) (q : c ≡ getD order i 0) (s : a ≡ getD off c 0) (f : e ≡ getD off (c + 1) 0) (x : next ≡ c)
     (t : Tells (λ d. row off d mech) (take i order) last) where
   -- the mechanisms of a check
   abbrev entries : ℕ → List ℕ
   entries d = row off d mech
 
+  -- are the part that the code cuts out
   part-is : part a e mech ≡ entries c
   part-is = rw (s, f, add-one)
 
-  found-late : (b : Bool) → b ≡ overtaken next last (part a e mech) → Entries 65536 (part a e mech) → b ≡ late entries (take i order) c
+  -- so what the code finds says whether the check is late
+  found-late : (b : Bool) → b ≡ overtaken next last (part a e mech) → Keys 65536 (part a e mech) → b ≡ late entries (take i order) c
   found-late b o m =
-      let m′ : Entries 65536 (entries c) = subst (Entries 65536) part-is m in
-      o ∙ ap (overtaken next last) part-is ∙ ap (λ y. overtaken y last (entries c)) x ∙ overtaken-is entries (take i order) last c t (all-places _ (m′ .names))
+      let m′ : Keys 65536 (entries c) = subst (Keys 65536) part-is m in
+      o ∙ ap (overtaken next last) part-is ∙ ap (λ y. overtaken y last (entries c)) x ∙ overtaken-is entries (take i order) last c t (all-places _ (m′ .small))
 
-  pub test-found : (b : Bool) → b ≡ overtaken next last (part a e mech) → Entries 65536 (part a e mech) → b ≡ true → Refused (OrderExchanged c) ≡ exchanged entries (take i order) (drop i order)
+  -- a late one is the answer
+  pub test-found : (b : Bool) → b ≡ overtaken next last (part a e mech) → Keys 65536 (part a e mech) → b ≡ true → Refused (OrderExchanged c) ≡ exchanged entries (take i order) (drop i order)
   test-found b o m y = exchange-found entries order i c h q (sym (found-late b o m) ∙ y)
 
-  pub test-goes-on : (b : Bool) → b ≡ overtaken next last (part a e mech) → Entries 65536 (part a e mech) → b ≡ false
+  -- after another the search goes on
+  pub test-goes-on : (b : Bool) → b ≡ overtaken next last (part a e mech) → Keys 65536 (part a e mech) → b ≡ false
       → exchanged entries (take (i + 1) order) (drop (i + 1) order) ≡ exchanged entries (take i order) (drop i order)
   test-goes-on b o m y = exchange-turn entries order i c h q (sym (found-late b o m) ∙ y)
 
+  -- and the marks tell of it too
   pub test-tells : (b : Bool) → b ≡ overtaken next last (part a e mech) → b ≡ false → length last ≡ 65536 → (new : List ℕ) → new ≡ marked next last (part a e mech)
       → Tells entries (take (i + 1) order) new
   test-tells b o y l new w =

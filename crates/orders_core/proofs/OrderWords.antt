@@ -1,16 +1,18 @@
 -- The tests 23 and 24 say what document 01's words say by place, and the index order passes both. Assumes nothing.
-use Prim.Native.Nat.{ℕ, zero, suc, _+_, _<_, _≤_}
+use Prim.Native.Nat.{ℕ, zero, suc, _<_, _≤_}
 use mathlib.Core.Path.{_≡_, refl, sym, _∙_, ap, subst}
 use mathlib.Core.Bool.{Bool, true, false, _&&_, _||_, true≢false}
-use mathlib.Core.List.{List, [], _∷_, _++_, append-nil}
+use mathlib.Core.List.{List, [], _∷_, append-nil}
 use mathlib.Core.Logic.{_↔_}
 use native.Mathlib.Omega.{arith}
 use native.Mathlib.Numerals.{add-one}
 use native.Mathlib.Decide.{ℕ-discrete}
 use lib.Dec.{eqb, ltb}
-use lib.ListN.{length, getD, take, drop, length-append, List·getD-append}
-use lib.Seq.{getD-take, length-take-le, getD-append-seam, ext-getD}
+use lib.ListN.{length, getD, take, drop}
+use lib.Seq.{getD-take, length-take-le}
 use borrow.Author.Tests.{ltb-true, ltb-false, eq-eqb, ne-eqb}
+use Rattle.numbers.specs.Loops.{upto}
+use Rattle.numbers.proofs.Loops.{length-table, getD-table}
 use Rattle.refusals.specs.declared.Refusal.the-variants.{OrderExchanged}
 use Rattle.refusals.specs.declared.Answer.{Answer}
 use Rattle.refusals.specs.declared.Answer.the-variants.{Done, Refused}
@@ -18,8 +20,8 @@ use Rattle.graph.specs.Lists.{has}
 use Rattle.graph.specs.Graph.{Graph, checkEntries}
 use Rattle.settings.specs.declared.Schedule.{Schedule}
 use Rattle.settings.specs.declared.Schedule.the-variants.{Flooding, CheckSerial}
-use Rattle.orders_core.specs.Order.{upto, count, NamesOnce, anyOf, shares, above, late, exchanged, exchangeFault, KeepsOrder, FirstLate}
-use Rattle.orders_core.proofs.All.{All, all-places, all-at, any-none}
+use Rattle.orders_core.specs.Order.{count, NamesOnce, anyOf, shares, above, late, exchanged, exchangeFault, KeepsOrder, FirstLate}
+use Rattle.orders_core.proofs.All.{all-always, all-places, all-at, any-none}
 use Rattle.orders_core.proofs.Counts.{count-same, count-other, count-insert}
 use Rattle.orders_core.proofs.OrderTests.{any-false, any-same, any-swap, exchange-turn, exchange-found, exchange-done}
 
@@ -39,27 +41,26 @@ eqb-sym a b = go (ℕ-discrete a b)
     go (yes e) = eq-eqb a b e ∙ sym (eq-eqb b a (sym e))
     go (no e) = ne-eqb a b e ∙ sym (ne-eqb b a (λ q. e (sym q)))
 
--- what holds of everything
-every : {P : ℕ → Type 0} → ((x : ℕ) → P x) → (xs : List ℕ) → All P xs
-every f xs = all-places xs (λ i _. f (getD xs i 0))
-
 -- sharing
 pub shares-sym : (entries : ℕ → List ℕ) (c d : ℕ) → shares entries c d ≡ shares entries d c
 unfolding shares
 shares-sym entries c d =
-    any-same _ _ (every (λ v. has-any (entries d) v) (entries c))
+    any-same _ _ (all-always (λ v. has-any (entries d) v) (entries c))
     ∙ any-swap (λ v w. eqb w v) (entries c) (entries d)
-    ∙ any-same _ _ (every (λ w. any-same _ _ (every (λ v. eqb-sym w v) (entries c)) ∙ sym (has-any (entries c) w)) (entries d))
+    ∙ any-same _ _ (all-always (λ w. any-same _ _ (all-always (λ v. eqb-sym w v) (entries c)) ∙ sym (has-any (entries c) w)) (entries d))
 
 -- ---- none is late, or a first one is
 
 module _ (g : Graph) (order : List ℕ) where
+  -- the mechanisms of a check
   abbrev entries : ℕ → List ℕ
   entries = checkEntries g
 
+  -- whether the check at the place i is late
   abbrev Late : ℕ → Bool
   Late i = late entries (take i order) (getD order i 0)
 
+  -- what the search answers from the place i on
   abbrev From : ℕ → Answer
   From i = exchanged entries (take i order) (drop i order)
 
@@ -69,9 +70,11 @@ module _ (g : Graph) (order : List ℕ) where
   still (suc i) h f =
       ap From (sym (add-one i)) ∙ exchange-turn entries order i (getD order i 0) h refl (f i (omega arith)) ∙ still i (omega arith) (λ j l. f j (omega arith))
 
+  -- none is late: the search ends without one
   pub none-late : ((j : ℕ) → j < length order → Late j ≡ false) → exchanged entries [] order ≡ Done
   none-late f = sym (still (length order) (omega arith) f) ∙ sym (exchange-done entries order (length order) (omega arith))
 
+  -- a first one is: the search answers it
   pub first-late : (c : ℕ) → FirstLate g order c → exchanged entries [] order ≡ Refused (OrderExchanged c)
   first-late c w =
       sym (still (w .place) (omega (arith, w .inside)) (w .earlier)) ∙ sym (exchange-found entries order (w .place) c (w .inside) (sym (w .named)) (w .isLate))
@@ -81,6 +84,7 @@ module _ (g : Graph) (order : List ℕ) where
     clear : ((j : ℕ) → j < n → Late j ≡ false) → Searched n
     met : (i : ℕ) → i < n → Late i ≡ true → ((j : ℕ) → j < i → Late j ≡ false) → Searched n
 
+  -- one place further
   search-on : (n : ℕ) (b : Bool) → Late n ≡ b → Searched n → Searched (suc n)
   search-on n b e (met i h l f) = met i (omega arith) l f
   search-on n true e (clear f) = met n (omega arith) e f
@@ -90,6 +94,7 @@ module _ (g : Graph) (order : List ℕ) where
       go j h (yes q) = rw q e
       go j h (no q) = f j (omega arith)
 
+  -- all of them
   searched : (n : ℕ) → Searched n
   searched zero = clear (λ j h. absurd (omega arith))
   searched (suc n) = search-on n (Late n) refl (searched n)
@@ -108,6 +113,7 @@ module _ (g : Graph) (order : List ℕ) where
           let n = first-late (getD order i 0) w in
           same (getD order i 0) w (cc)
 
+  -- a check that is above all before it that share a mechanism with it is not late
   late-is : (j : ℕ) → j < length order → ((i : ℕ) → i < j → shares entries (getD order i 0) (getD order j 0) ≡ true → getD order i 0 ≤ getD order j 0) → Late j ≡ false
   unfolding late above
   late-is j h f = any-false _ (all-places (take j order) (λ i l. go i (omega (arith, length-take-le j order (omega arith)))))
@@ -122,6 +128,7 @@ module _ (g : Graph) (order : List ℕ) where
           rw (getD-take j order i 0 l)
           (test (ltb (getD order j 0) (getD order i 0)) (shares entries (getD order j 0) (getD order i 0)) (λ p q. omega (arith, ltb-true (getD order j 0) (getD order i 0) p, f i l (shares-sym entries (getD order i 0) (getD order j 0) ∙ q))))
 
+  -- and the other way
   not-late : (j : ℕ) → j < length order → Late j ≡ false → (i : ℕ) → i < j → shares entries (getD order i 0) (getD order j 0) ≡ true → getD order i 0 ≤ getD order j 0
   unfolding late above
   not-late j h e i l s =
@@ -145,30 +152,17 @@ module _ (g : Graph) (order : List ℕ) where
 
 -- ---- the index order is accepted
 
--- its length, and what stands where
-pub upto-length : (n : ℕ) → length (upto n) ≡ n
-unfolding upto
-upto-length zero = refl
-upto-length (suc n) = length-append (upto n) (n ∷ []) ∙ omega (arith, upto-length n)
-
+-- what stands where
 upto-at : (n i : ℕ) → i < n → getD (upto n) i 0 ≡ i
-unfolding upto
-upto-at zero i h = absurd (omega arith)
-upto-at (suc n) i h = go (ℕ-discrete i n) (λ l. upto-at n i l)
-  where
-    go : Dec (i ≡ n) → (i < n → getD (upto n) i 0 ≡ i) → getD (upto n ++ (n ∷ [])) i 0 ≡ i
-    go (yes e) rec =
-        let s : i ≡ length (upto n) = e ∙ sym (upto-length n) in
-        ap (λ k. getD (upto n ++ (n ∷ [])) k 0) s ∙ getD-append-seam (upto n) n [] 0 ∙ sym e
-    go (no e) rec = List·getD-append (upto n) (n ∷ []) 0 i (omega (arith, upto-length n)) ∙ rec (omega arith)
+upto-at n i h = getD-table n (λ (k : ℕ). k) i 0 h
 
+-- it counts as with its last name first
 upto-more : (k n : ℕ) → count k (upto (suc n)) ≡ count k (n ∷ upto n)
-unfolding upto
 upto-more k n = count-insert k n (upto n) [] ∙ ap (λ xs. count k (n ∷ xs)) (append-nil (upto n))
 
 -- it names each check once
 pub upto-names : (n : ℕ) → NamesOnce n (upto n)
-unfolding upto count
+unfolding count
 upto-names zero = record { once-each = λ k h. absurd (omega arith); none-else = λ k h. refl }
 upto-names (suc n) = record { once-each = λ k h. once k h (ℕ-discrete n k) (upto-names n); none-else = λ k h. beyond k h (upto-names n) }
   where
@@ -182,22 +176,11 @@ upto-names (suc n) = record { once-each = λ k h. once k h (ℕ-discrete n k) (u
 -- it keeps any two as they are
 upto-keeps : (g : Graph) (n : ℕ) → KeepsOrder g (upto n)
 upto-keeps g n =
-    record { keeps = λ i j l h s. omega (arith, upto-length n, upto-at n i (omega (arith, upto-length n)), upto-at n j (omega (arith, upto-length n))) }
+    let l = length-table n (λ (k : ℕ). k) in
+    record { keeps = λ i j m h s. omega (arith, upto-at n i (omega arith), upto-at n j (omega arith)) }
 
--- the index order passes both tests
+-- the index order passes 24, whatever the schedule
 pub index-taken : (schedule : Schedule) (g : Graph) → exchangeFault schedule g (upto (g .checks)) ≡ Done
 unfolding exchangeFault
 index-taken Flooding g = refl
 index-taken CheckSerial g = none-exchanged-is g (upto (g .checks)) .1 (upto-keeps g (g .checks))
-
--- a list with i at each place i
-pub index-order : (n : ℕ) (order : List ℕ) → length order ≡ n → ((i : ℕ) → i < n → getD order i 0 ≡ i) → order ≡ upto n
-index-order n order l h = ext-getD 0 order (upto n) (l ∙ sym (upto-length n)) (λ i m. h i (omega arith) ∙ sym (upto-at n i (omega arith)))
-
--- a turn of the test for it
-pub index-turn : (order : List ℕ) (i : ℕ) → ((k : ℕ) → k < i → getD order k 0 ≡ k) → getD order i 0 ≡ i → (k : ℕ) → k < i + 1 → getD order k 0 ≡ k
-index-turn order i f e k h = go (ℕ-discrete k i)
-  where
-    go : Dec (k ≡ i) → getD order k 0 ≡ k
-    go (yes q) = rw q e
-    go (no q) = f k (omega arith)

@@ -1,5 +1,5 @@
 -- Which orders of checks are taken: refusals 23 and 24 of document 01, in its words. Definitions only. Assumes nothing.
-use Prim.Native.Nat.{ℕ, zero, suc, _<_, _≤_}
+use Prim.Native.Nat.{ℕ, suc, _<_, _≤_}
 use mathlib.Core.Path.{_≡_}
 use mathlib.Core.Bool.{Bool, true, false, _&&_, _||_, cond}
 use mathlib.Core.List.{List, [], _∷_, _++_}
@@ -14,11 +14,6 @@ use Rattle.graph.specs.Lists.{has}
 use Rattle.graph.specs.Graph.{Graph, checkEntries}
 use Rattle.settings.specs.declared.Schedule.{Schedule}
 use Rattle.settings.specs.declared.Schedule.the-variants.{Flooding, CheckSerial}
-
--- the index order of n checks: 0, 1, .. n - 1
-unfoldable pub upto : ℕ → List ℕ
-upto zero = []
-upto (suc n) = upto n ++ (n ∷ [])
 
 -- how often k stands in xs
 unfoldable pub count : ℕ → List ℕ → ℕ
@@ -64,7 +59,7 @@ unfoldable pub exchangeFault : Schedule → Graph → List ℕ → Answer
 exchangeFault Flooding g order = Done
 exchangeFault CheckSerial g order = exchanged (checkEntries g) [] order
 
--- ---- the same in document 01's words, by place: `Theorems` ties the tests to them
+-- ---- the same in document 01's words, by place: `relay`'s `Theorems` ties the tests to them, by proofs/OrderWords.antt
 
 -- the order names each check once, and nothing else
 pub record NamesOnce (checks : ℕ) (order : List ℕ) : Type 0 where

@@ -1,17 +1,18 @@
 // Tests 23 and 24: which orders of checks are taken, in O(checks + edges), over local arrays, since a refusal writes nothing.
-use messages_core::at;
-use refusals::Answer;
-use refusals::Refusal;
-use settings::Schedule;
 ghost use mathlib.Core.Path.{_≡_};
 ghost use mathlib.Core.Bool.{true};
 ghost use mathlib.Core.List.{[]};
 ghost use Prim.Native.Nat.{_≤_};
 ghost use lib.ListN.{length};
-ghost use Rattle.numbers.specs.Loops.{row};
-ghost use Rattle.messages_core.specs.Needs.{Offsets, Entries, ofChecks};
-ghost use Rattle.orders_core.specs.Order.{upto, namesOnce, exchanged, namesFault, exchangeFault};
+ghost use Rattle.numbers.specs.Loops.{row, upto};
+ghost use Rattle.graph.specs.Sound.{Offsets, Keys};
+ghost use Rattle.messages_core.specs.Needs.{ofChecks};
+ghost use Rattle.orders_core.specs.Order.{namesOnce, exchanged, namesFault, exchangeFault};
 ghost use Rattle.orders_core.specs.Marks.{marked, overtaken};
+use messages_core::at;
+use refusals::Answer;
+use refusals::Refusal;
+use settings::Schedule;
 
 // Whether the order names each check once.
 fn names_each_once(checks: usize, order: &[u32]) -> bool
@@ -51,7 +52,7 @@ pub fn names_fault(checks: usize, order: &[u32]) -> Answer
 // Whether a mechanism of these entries was last named by a check above c. `last` has that check for
 // each mechanism, and 0 where there is none: no check is below 0.
 fn is_overtaken(c: u16, entries: &[u32], last: &[u16; 65536]) -> bool
-    requires { ⌜ Entries 65536 (now entries) ⌝ }
+    requires { ⌜ Keys 65536 (now entries) ⌝ }
     ensures { λ r. ⌜ r ≡ overtaken c (now (last .entry)) (now (entries .entry)) ⌝ }
 {
     let mut i = 0;
@@ -67,7 +68,7 @@ fn is_overtaken(c: u16, entries: &[u32], last: &[u16; 65536]) -> bool
 
 // The check c has named the mechanisms of these entries last.
 fn mark(c: u16, entries: &[u32], last: &mut [u16; 65536])
-    requires { ⌜ Entries 65536 (now entries) ⌝ }
+    requires { ⌜ Keys 65536 (now entries) ⌝ }
     ensures { λ _. ⌜ now (last .exit) ≡ marked c (now (last .entry)) (now (entries .entry)) ⌝ }
 {
     let mut i = 0;
@@ -82,7 +83,7 @@ fn mark(c: u16, entries: &[u32], last: &mut [u16; 65536])
 fn exchanged_check(checks: usize, check_var: &[u32], check_offset: &[u32], order: &[u32]) -> Answer
     requires { ⌜ checks ≤ 65536 ⌝ }
     requires { ⌜ Offsets checks (length (now «check_var»)) (now «check_offset») ⌝ }
-    requires { ⌜ Entries 65536 (now «check_var») ⌝ }
+    requires { ⌜ Keys 65536 (now «check_var») ⌝ }
     requires { ⌜ namesOnce checks (now order) ≡ true ⌝ }
     ensures { λ r. ⌜ r ≡ exchanged (λ c. row (now («check_offset» .entry)) c (now («check_var» .entry))) [] (now (order .entry)) ⌝ }
 {
@@ -129,7 +130,7 @@ pub fn exchange_fault(
 ) -> Answer
     requires { ⌜ checks ≤ 65536 ⌝ }
     requires { ⌜ Offsets checks (length (now «check_var»)) (now «check_offset») ⌝ }
-    requires { ⌜ Entries 65536 (now «check_var») ⌝ }
+    requires { ⌜ Keys 65536 (now «check_var») ⌝ }
     requires { ⌜ namesOnce checks (now order) ≡ true ⌝ }
     ensures { λ r. ⌜ r ≡ exchangeFault schedule (ofChecks checks (now («check_var» .entry)) (now («check_offset» .entry))) (now (order .entry)) ⌝ }
 {

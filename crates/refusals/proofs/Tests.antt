@@ -90,12 +90,6 @@ unfolding firstOf
 first-none f zero h = refl
 first-none f (suc n) h = or-second (firstOf n f) (f n) (first-none f n (λ i l. h i (omega arith))) ∙ h n (omega arith)
 
--- two loops whose tests agree
-pub first-same : (f g : ℕ → Answer) (n : ℕ) → ((i : ℕ) → i < n → f i ≡ g i) → firstOf n f ≡ firstOf n g
-unfolding firstOf
-first-same f g zero h = refl
-first-same f g (suc n) h = rw (first-same f g n (λ i l. h i (omega arith)), h n (omega arith))
-
 -- `if !is_done(a) { return a; }`, taken
 pub first-refuse : (f : ℕ → Answer) (i n : ℕ) (a : Answer) (b : Bool) → i < n → firstOf i f ≡ Done → a ≡ f i → b ≡ isDone a → not b ≡ true → a ≡ firstOf n f
 first-refuse f i n a b l h e d t = e ∙ sym (first-stop f i n l h (ap isDone (sym e) ∙ sym d ∙ not-true b t))

@@ -7,11 +7,11 @@ use Rattle.refusals.specs.declared.Answer.{Answer}
 use Rattle.refusals.specs.declared.Answer.the-variants.{Done, Refused}
 use Rattle.refusals.proofs.Tests.{or-done}
 use Rattle.graph.specs.Graph.{Graph}
-use Rattle.graph.specs.Sound.{Sound}
-use Rattle.graph.proofs.Sound.{passes-sound}
+use Rattle.graph.proofs.Sound.{Sound, passes-sound}
 use Rattle.graph.proofs.GraphTests.{graph-told}
 use Rattle.settings.specs.declared.Schedule.the-variants.{Flooding, CheckSerial}
-use Rattle.orders_core.specs.Order.{upto, NamesOnce, KeepsOrder, namesFault, exchangeFault}
+use Rattle.numbers.specs.Loops.{upto}
+use Rattle.orders_core.specs.Order.{NamesOnce, KeepsOrder, namesFault, exchangeFault}
 use Rattle.calls_core.specs.Decode.{Shot, Ended, decoded, refused, decodeLegs}
 use Rattle.calls_core.specs.Calls.{Lists, listsFit, decodeFault, leftBy, zeroed, afterLegs, afterTests, decodeInOrder, decode}
 use Rattle.orders_core.proofs.OrderWords.{upto-names, index-taken, none-exchanged-is}

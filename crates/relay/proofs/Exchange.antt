@@ -15,7 +15,7 @@ use Rattle.numbers.proofs.Loops.{length-table, Outside, length-part, getD-part,
 use Rattle.graph.specs.Lists.{has}
 use Rattle.graph.specs.Graph.{Graph, checkEntries, varEntries}
 use Rattle.graph.specs.Messages.{total}
-use Rattle.graph.specs.Sound.{Sound}
+use Rattle.graph.proofs.Sound.{Sound}
 use Rattle.graph.proofs.Cuts.{offsets-rise}
 use Rattle.relay_core.specs.Step.{State, state, sentTo, checkMessages, updateCheck, written, updateVariable, serialCheck}
 use Rattle.orders_core.specs.Order.{shares}

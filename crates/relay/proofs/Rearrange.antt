@@ -3,7 +3,7 @@ use Prim.Native.Nat.{ℕ, suc, _<_, _≤_}
 use mathlib.Core.Path.{_≡_, refl, sym, _∙_, ap}
 use mathlib.Core.List.{List, [], _∷_, _++_, foldl, foldl-append}
 use native.Mathlib.Omega.{arith}
-use Rattle.orders_core.specs.Order.{upto}
+use Rattle.numbers.specs.Loops.{upto}
 use Rattle.orders_core.proofs.All.{All, nil, cons, all-map, all-left, all-right, all-append}
 
 -- xs names 0 .. n - 1 once each, and the greatest may change places with all that stand after it; so does the next, among the rest; and so on
@@ -38,7 +38,6 @@ module _ {S : Type 0} (f : S → ℕ → S) (top : ℕ) (Good : S → Type 0) (F
 
   -- such an order and the index order come out the same
   pub same : {n : ℕ} {xs : List ℕ} → Orders Free n xs → n ≤ top → (s : S) → Good s → foldl f s xs ≡ foldl f s (upto n)
-  unfolding upto
   same none h s g = refl
   same (more {n = n} pre post t o) h s g =
       foldl-append f s pre (n ∷ post)

@@ -9,11 +9,12 @@ use lib.ListN.{length-replicate, length-map}
 use Rattle.refusals.specs.declared.Answer.the-variants.{Done}
 use Rattle.graph.specs.Graph.{Graph, checkEntries}
 use Rattle.graph.specs.Messages.{fromVariables, cleared}
-use Rattle.graph.specs.Sound.{Sound}
+use Rattle.graph.proofs.Sound.{Sound}
 use Rattle.settings.specs.declared.Schedule.{Schedule}
 use Rattle.settings.specs.declared.Schedule.the-variants.{Flooding, CheckSerial}
 use Rattle.relay_core.specs.Step.{State, updateCheck, computeBias, checkPass, variablePass, floodingIteration, serialCheck, serialPass, checkSerialIteration, iteration}
-use Rattle.orders_core.specs.Order.{upto, NamesOnce, exchanged, exchangeFault}
+use Rattle.numbers.specs.Loops.{upto}
+use Rattle.orders_core.specs.Order.{NamesOnce, exchanged, exchangeFault}
 use Rattle.relay_core.specs.Leg.{startLeg, runLeg, satisfied}
 use Rattle.relay_core.specs.Gammas.{gammaOf}
 use Rattle.calls_core.specs.Decode.{Shot, Run, running, iterationLimit, stepOf, executedLeg, startRun, recorded, afterLeg, decodeLegs}

@@ -14,7 +14,7 @@ use borrow.Author.Tests.{eq-eqb, ne-eqb}
 use Rattle.numbers.specs.Floats.{_*ᶠ_, zero⁺, one⁺, one⁻, abs, messageSign}
 use Rattle.numbers.proofs.Cases.{less-or-not}
 use Rattle.numbers.proofs.Loops.{tables-agree, but-one}
-use Rattle.graph.specs.Messages.{Scan, scanOf}
+use Rattle.graph.specs.Messages.{Scan, scanOf, lowered}
 use Rattle.messages_core.specs.Needs.{Rises}
 use Rattle.relay_core.specs.Step.{noVariable, scanned, scan, saturated, sent, sentTo, checkMessages}
 use Rattle.relay_core.specs.Places.{scanPlaces, bySigns}
@@ -29,7 +29,7 @@ module _ (odd : Bool) (variables : List ℕ) (messages : List Float) where
   -- one message further, by whether it is the least so far
   further : (n : ℕ) (s : Scan) (x : Float) (b : Bool) → x ≡ getD messages n nan → lt (abs x) (s .min1) ≡ b → Found odd variables messages n s
       → Found odd variables messages (suc n) (scanned s n x)
-  unfolding scan scanned
+  unfolding scan scanned lowered
   further n s x true e h f =
       record {
         variable = getD variables n 0;

@@ -4,12 +4,12 @@ use Prim.Native.Nat.{ℕ, suc}
 use mathlib.Core.Bool.{Bool, not, cond}
 use mathlib.Core.List.{List, foldl}
 use lib.Dec.{eqb}
-use lib.Ieee.{Float, nan, lt}
+use lib.Ieee.{Float, nan}
 use lib.ListN.{length, getD, set}
-use Rattle.numbers.specs.Floats.{_+ᶠ_, _-ᶠ_, _*ᶠ_, saturation, abs, isFinite, messageSign}
+use Rattle.numbers.specs.Floats.{_+ᶠ_, _-ᶠ_, _*ᶠ_, saturation, isFinite, messageSign}
 use Rattle.numbers.specs.Loops.{turns, table, row, spliced}
 use Rattle.graph.specs.Graph.{Graph, checkEntries, varEntries}
-use Rattle.graph.specs.Messages.{Scan, startScan, total}
+use Rattle.graph.specs.Messages.{Scan, startScan, lowered, total}
 use Rattle.settings.specs.declared.Schedule.{Schedule}
 use Rattle.settings.specs.declared.Schedule.the-variants.{Flooding, CheckSerial}
 
@@ -19,17 +19,9 @@ noVariable = 0xFFFF_FFFF
 
 -- ---- `update_check`, over the variables and the messages of one check
 
--- the message of a variable in the first pass: strict comparison keeps the first minimum
+-- the message of a variable in the first pass
 unfoldable pub scanned : Scan → ℕ → Float → Scan
-scanned s variable message =
-    let magnitude = abs message in
-    let lower = lt magnitude (s .min1) in
-    record {
-      totalSign = s .totalSign *ᶠ messageSign message;
-      min1 = cond lower magnitude (s .min1);
-      min2 = cond lower (s .min1) (cond (lt magnitude (s .min2)) magnitude (s .min2));
-      least = cond lower variable (s .least);
-    }
+scanned s variable message = lowered s (s .totalSign *ᶠ messageSign message) variable message
 
 -- the first n; `odd` says whether the check's syndrome byte is not zero
 unfoldable pub scan : Bool → List ℕ → List Float → ℕ → Scan
@@ -53,11 +45,13 @@ checkMessages alpha odd variables messages = sentTo alpha (scan odd variables me
 
 -- ---- one iteration, over all messages and the posterior
 
+-- the messages both ways, and the posterior
 pub record State : Type 0 where
   pub cToV : List Float
   pub vToC : List Float
   pub posterior : List Float
 
+-- a state of its parts
 abbrev pub state : List Float → List Float → List Float → State
 state c v p = record { cToV = c; vToC = v; posterior = p }
 

@@ -33,7 +33,7 @@ fn scanned(s: Scan, place: usize, message: f64) -> Scan
 fn scan_check(odd: bool, messages: &[f64]) -> Scan
     ensures { λ r. ⌜ scanOf (r .«total_sign») (r .min1) (r .min2) (r .least) ≡ scanPlaces odd (now (messages .entry)) (length (now (messages .entry))) ⌝ }
 {
-    let mut s = start_scan(odd, 18446744073709551615);
+    let mut s = start_scan(odd, 0xFFFFFFFFFFFFFFFF);
     let mut i = 0;
     while i < messages.len() {
         s = scanned(s, i, messages[i]);

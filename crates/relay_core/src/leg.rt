@@ -4,7 +4,8 @@ ghost use mathlib.Core.Bool.{false};
 ghost use Prim.Native.Nat.{_<_};
 ghost use lib.ListN.{length};
 ghost use Rattle.numbers.specs.Loops.{every};
-ghost use Rattle.messages_core.specs.Needs.{Entries, Walks, walked, ofChecks};
+ghost use Rattle.graph.specs.Sound.{Keys};
+ghost use Rattle.messages_core.specs.Needs.{Walks, walked, ofChecks};
 ghost use Rattle.relay_core.specs.Step.{state, iteration};
 ghost use Rattle.relay_core.specs.Leg.{hardBit, hardDecision, parity as parityOf, matches as matchesOf, satisfied as satisfiedBy, leg as legOf, runLeg, cost as costOf, correctionWeight};
 use crate::step::step;
@@ -35,7 +36,7 @@ pub fn hard_decision(posterior: &[f64], bits: &mut [u8])
 
 // The parity of the bits that the entries name.
 fn parity(entries: &[u32], bits: &[u8]) -> u8
-    requires { ⌜ Entries (length (now bits)) (now entries) ⌝ }
+    requires { ⌜ Keys (length (now bits)) (now entries) ⌝ }
     ensures { λ r. ⌜ r ≡ parityOf (now (bits .entry)) (now (entries .entry)) ⌝ }
 {
     let mut p: u8 = 0;
@@ -139,7 +140,7 @@ pub fn run_leg(
 ) -> Leg
     requires { ⌜ Walks (length (now syndrome)) (length (now priors)) (now «check_var») (now «check_offset») ⌝ }
     requires { ⌜ Walks (length (now priors)) (length (now «check_var»)) (now «var_message») (now «var_offset») ⌝ }
-    requires { ⌜ Entries (length (now syndrome)) (now order) ⌝ }
+    requires { ⌜ Keys (length (now syndrome)) (now order) ⌝ }
     requires { ⌜ (length (now gamma) ≡ length (now priors)) × (length (now bias) ≡ length (now priors)) × (length (now posterior) ≡ length (now priors)) × (length (now bits) ≡ length (now priors)) ⌝ }
     requires { ⌜ (length (now «c_to_v») ≡ length (now «check_var»)) × (length (now «v_to_c») ≡ length (now «check_var»)) ⌝ }
     ensures leg { λ r. ⌜ legOf (r .converged) (r .iterations) (state (now («c_to_v» .exit)) (now («v_to_c» .exit)) (now (posterior .exit))) ≡ runLeg (iteration schedule (walked (length (now (syndrome .entry))) (length (now (priors .entry))) (now («check_var» .entry)) (now («check_offset» .entry)) (now («var_message» .entry)) (now («var_offset» .entry))) alpha (now (syndrome .entry)) (now (priors .entry)) (now (gamma .entry)) (now (order .entry))) (satisfiedBy (ofChecks (length (now (syndrome .entry))) (now («check_var» .entry)) (now («check_offset» .entry))) (now (syndrome .entry))) limit false 0 (state (now («c_to_v» .entry)) (now («v_to_c» .entry)) (now (posterior .entry))) ⌝ }

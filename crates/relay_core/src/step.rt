@@ -3,7 +3,8 @@ ghost use mathlib.Core.Path.{_≡_};
 ghost use mathlib.Core.List.{[]};
 ghost use Prim.Native.Nat.{_<_};
 ghost use lib.ListN.{length};
-ghost use Rattle.messages_core.specs.Needs.{Offsets, Entries, Walks, walked, ofChecks, ofVariables, RowsRise};
+ghost use Rattle.graph.specs.Sound.{Offsets, Keys};
+ghost use Rattle.messages_core.specs.Needs.{Walks, walked, ofChecks, ofVariables, RowsRise};
 ghost use Rattle.relay_core.specs.Step.{state, biasOf, computeBias, updateCheck, checkPass, variablePass, serialCheck, serialPass, floodingIteration, checkSerialIteration, iteration};
 use crate::check::update_part;
 use crate::variable::update_variable;
@@ -71,7 +72,7 @@ fn check_pass(
 )
     requires { ⌜ Offsets (length (now syndrome)) (length (now «check_var»)) (now «check_offset») ⌝ }
     requires { ⌜ RowsRise (length (now syndrome)) (now «check_var») (now «check_offset») ⌝ }
-    requires { ⌜ Entries (length (now syndrome)) (now order) ⌝ }
+    requires { ⌜ Keys (length (now syndrome)) (now order) ⌝ }
     requires { ⌜ (length (now «v_to_c») ≡ length (now «check_var»)) × (length (now «c_to_v») ≡ length (now «check_var»)) ⌝ }
     ensures { λ _. ⌜ state (now («c_to_v» .exit)) (now («v_to_c» .entry)) [] ≡ checkPass (ofChecks (length (now (syndrome .entry))) (now («check_var» .entry)) (now («check_offset» .entry))) alpha (now (syndrome .entry)) (now (order .entry)) (state (now («c_to_v» .entry)) (now («v_to_c» .entry)) []) ⌝ }
 {
@@ -122,7 +123,7 @@ fn flooding_iteration(
 )
     requires { ⌜ Walks (length (now syndrome)) (length (now priors)) (now «check_var») (now «check_offset») ⌝ }
     requires { ⌜ Walks (length (now priors)) (length (now «check_var»)) (now «var_message») (now «var_offset») ⌝ }
-    requires { ⌜ Entries (length (now syndrome)) (now order) ⌝ }
+    requires { ⌜ Keys (length (now syndrome)) (now order) ⌝ }
     requires { ⌜ (length (now gamma) ≡ length (now priors)) × (length (now bias) ≡ length (now priors)) × (length (now posterior) ≡ length (now priors)) ⌝ }
     requires { ⌜ (length (now «c_to_v») ≡ length (now «check_var»)) × (length (now «v_to_c») ≡ length (now «check_var»)) ⌝ }
     ensures { λ _. ⌜ state (now («c_to_v» .exit)) (now («v_to_c» .exit)) (now (posterior .exit)) ≡ floodingIteration (walked (length (now (syndrome .entry))) (length (now (priors .entry))) (now («check_var» .entry)) (now («check_offset» .entry)) (now («var_message» .entry)) (now («var_offset» .entry))) alpha (now (syndrome .entry)) (now (priors .entry)) (now (gamma .entry)) (now (order .entry)) (state (now («c_to_v» .entry)) (now («v_to_c» .entry)) (now (posterior .entry))) ⌝ }
@@ -199,7 +200,7 @@ fn serial_pass(
 )
     requires { ⌜ Walks (length (now syndrome)) (length (now bias)) (now «check_var») (now «check_offset») ⌝ }
     requires { ⌜ Walks (length (now bias)) (length (now «check_var»)) (now «var_message») (now «var_offset») ⌝ }
-    requires { ⌜ Entries (length (now syndrome)) (now order) ⌝ }
+    requires { ⌜ Keys (length (now syndrome)) (now order) ⌝ }
     requires { ⌜ length (now posterior) ≡ length (now bias) ⌝ }
     requires { ⌜ (length (now «c_to_v») ≡ length (now «check_var»)) × (length (now «v_to_c») ≡ length (now «check_var»)) ⌝ }
     ensures { λ _. ⌜ state (now («c_to_v» .exit)) (now («v_to_c» .exit)) (now (posterior .exit)) ≡ serialPass (walked (length (now (syndrome .entry))) (length (now (bias .entry))) (now («check_var» .entry)) (now («check_offset» .entry)) (now («var_message» .entry)) (now («var_offset» .entry))) alpha (now (syndrome .entry)) (now (bias .entry)) (now (order .entry)) (state (now («c_to_v» .entry)) (now («v_to_c» .entry)) (now (posterior .entry))) ⌝ }
@@ -242,7 +243,7 @@ fn check_serial_iteration(
 )
     requires { ⌜ Walks (length (now syndrome)) (length (now priors)) (now «check_var») (now «check_offset») ⌝ }
     requires { ⌜ Walks (length (now priors)) (length (now «check_var»)) (now «var_message») (now «var_offset») ⌝ }
-    requires { ⌜ Entries (length (now syndrome)) (now order) ⌝ }
+    requires { ⌜ Keys (length (now syndrome)) (now order) ⌝ }
     requires { ⌜ (length (now gamma) ≡ length (now priors)) × (length (now bias) ≡ length (now priors)) × (length (now posterior) ≡ length (now priors)) ⌝ }
     requires { ⌜ (length (now «c_to_v») ≡ length (now «check_var»)) × (length (now «v_to_c») ≡ length (now «check_var»)) ⌝ }
     ensures { λ _. ⌜ state (now («c_to_v» .exit)) (now («v_to_c» .exit)) (now (posterior .exit)) ≡ checkSerialIteration (walked (length (now (syndrome .entry))) (length (now (priors .entry))) (now («check_var» .entry)) (now («check_offset» .entry)) (now («var_message» .entry)) (now («var_offset» .entry))) alpha (now (syndrome .entry)) (now (priors .entry)) (now (gamma .entry)) (now (order .entry)) (state (now («c_to_v» .entry)) (now («v_to_c» .entry)) (now (posterior .entry))) ⌝ }
@@ -282,7 +283,7 @@ pub fn step(
 )
     requires { ⌜ Walks (length (now syndrome)) (length (now priors)) (now «check_var») (now «check_offset») ⌝ }
     requires { ⌜ Walks (length (now priors)) (length (now «check_var»)) (now «var_message») (now «var_offset») ⌝ }
-    requires { ⌜ Entries (length (now syndrome)) (now order) ⌝ }
+    requires { ⌜ Keys (length (now syndrome)) (now order) ⌝ }
     requires { ⌜ (length (now gamma) ≡ length (now priors)) × (length (now bias) ≡ length (now priors)) × (length (now posterior) ≡ length (now priors)) ⌝ }
     requires { ⌜ (length (now «c_to_v») ≡ length (now «check_var»)) × (length (now «v_to_c») ≡ length (now «check_var»)) ⌝ }
     ensures { λ _. ⌜ state (now («c_to_v» .exit)) (now («v_to_c» .exit)) (now (posterior .exit)) ≡ iteration schedule (walked (length (now (syndrome .entry))) (length (now (priors .entry))) (now («check_var» .entry)) (now («check_offset» .entry)) (now («var_message» .entry)) (now («var_offset» .entry))) alpha (now (syndrome .entry)) (now (priors .entry)) (now (gamma .entry)) (now (order .entry)) (state (now («c_to_v» .entry)) (now («v_to_c» .entry)) (now (posterior .entry))) ⌝ }

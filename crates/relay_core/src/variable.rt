@@ -5,14 +5,15 @@ ghost use Prim.Native.Nat.{_<_};
 ghost use lib.ListN.{length};
 ghost use Rattle.numbers.specs.Floats.{_+ᶠ_};
 ghost use Rattle.graph.specs.Messages.{total as totalOf};
-ghost use Rattle.messages_core.specs.Needs.{Entries, Walks, ofVariables};
+ghost use Rattle.graph.specs.Sound.{Keys};
+ghost use Rattle.messages_core.specs.Needs.{Walks, ofVariables};
 ghost use Rattle.relay_core.specs.Step.{written, state, updateVariable};
 use messages_core::at;
 use messages_core::total;
 
 // p without each own message, written for each message that the entries name.
 fn write_messages(entries: &[u32], p: f64, c_to_v: &[f64], v_to_c: &mut [f64])
-    requires { ⌜ Entries (length (now «c_to_v»)) (now entries) ⌝ }
+    requires { ⌜ Keys (length (now «c_to_v»)) (now entries) ⌝ }
     requires { ⌜ length (now «v_to_c») ≡ length (now «c_to_v») ⌝ }
     ensures { λ _. ⌜ now («v_to_c» .exit) ≡ written p (now («c_to_v» .entry)) (now («v_to_c» .entry)) (now (entries .entry)) ⌝ }
 {
@@ -26,7 +27,7 @@ fn write_messages(entries: &[u32], p: f64, c_to_v: &[f64], v_to_c: &mut [f64])
 
 // The posterior of the variable with these entries, and its messages.
 fn update_entries(bias: f64, entries: &[u32], c_to_v: &[f64], v_to_c: &mut [f64]) -> f64
-    requires { ⌜ Entries (length (now «c_to_v»)) (now entries) ⌝ }
+    requires { ⌜ Keys (length (now «c_to_v»)) (now entries) ⌝ }
     requires { ⌜ length (now «v_to_c») ≡ length (now «c_to_v») ⌝ }
     ensures posterior { λ r. ⌜ r ≡ bias +ᶠ totalOf (now («c_to_v» .entry)) (now (entries .entry)) ⌝ }
     ensures messages { λ r. ⌜ now («v_to_c» .exit) ≡ written r (now («c_to_v» .entry)) (now («v_to_c» .entry)) (now (entries .entry)) ⌝ }
@@ -67,7 +68,7 @@ pub(crate) fn update_variables(
     v_to_c: &mut [f64],
     posterior: &mut [f64],
 )
-    requires { ⌜ Entries (length (now bias)) (now variables) ⌝ }
+    requires { ⌜ Keys (length (now bias)) (now variables) ⌝ }
     requires { ⌜ length (now posterior) ≡ length (now bias) ⌝ }
     requires { ⌜ Walks (length (now bias)) (length (now «c_to_v»)) (now «var_message») (now «var_offset») ⌝ }
     requires { ⌜ length (now «v_to_c») ≡ length (now «c_to_v») ⌝ }

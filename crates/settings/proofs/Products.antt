@@ -10,6 +10,7 @@ use borrow.Author.Tests.{eqb-true, eqb-false, eq-eqb, ne-eqb}
 whole : (n a : ℕ) → n % a ≡ 0 → n ≡ a * (n / a)
 whole n a r = sym (div-add-mod n a) ∙ ap (λ x. a * (n / a) + x) r ∙ add-zero (a * (n / a))
 
+-- by the test of the quotient
 by-quotient : (n a b : ℕ) → 0 < a → n % a ≡ 0 → (t : Bool) → eqb (n / a) b ≡ t → t ≡ eqb n (a * b)
 by-quotient n a b h r true e = sym (eq-eqb _ _ (whole n a r ∙ ap (λ x. a * x) (eqb-true _ _ e)))
 by-quotient n a b h r false e = sym (ne-eqb _ _ (λ q. eqb-false _ _ e (ap (λ x. x / a) q ∙ mul-div-right b h)))

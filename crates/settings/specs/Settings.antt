@@ -15,7 +15,7 @@ use Rattle.settings.specs.declared.Schedule.the-variants.{Flooding}
 use Rattle.settings.specs.declared.GammaSource.{GammaSource}
 use Rattle.settings.specs.declared.GammaSource.the-variants.{Explicit, Seeded}
 
--- `RelayConfig::default`: the published operating point
+-- `RelayConfig::default`: the published operating point. gamma0 is 0.1, and the interval goes from -0.24 to 0.66, each the binary64 nearest
 abbrev pub published : Settings
 published =
     record {

@@ -1,12 +1,5 @@
 // Relay's settings, the published operating point, and their test, 10 to 19. Each number is decided by itself and the first that refuses is answered, so that no
 // test waits on another's branch. What they mean stands in specs/.
-use numbers::is_finite;
-use refusals::Answer;
-use refusals::Refusal;
-use tests_core::at_most;
-use tests_core::both;
-use tests_core::or_else;
-use tests_core::unless;
 ghost use mathlib.Core.Path.{_≡_};
 ghost use mathlib.Core.Bool.{_||_};
 ghost use Prim.Native.Nat.{_*_};
@@ -16,6 +9,13 @@ ghost use lib.ListN.{length};
 ghost use Rattle.numbers.specs.Floats.{zero⁺};
 ghost use Rattle.refusals.specs.Tests.{firstOf};
 ghost use Rattle.settings.specs.Settings.{published, alphaGood, preGood, legIterationsGood, intervalGood, setsGood, gammaFault, sourceFault, settingsFault};
+use numbers::is_finite;
+use refusals::Answer;
+use refusals::Refusal;
+use tests_core::at_most;
+use tests_core::both;
+use tests_core::or_else;
+use tests_core::unless;
 
 // The order in which messages are passed within an iteration.
 pub enum Schedule {
@@ -81,8 +81,8 @@ fn in_order(low: f64, high: f64) -> bool
     low <= high
 }
 
-// There are none unless n is at least 1.
-fn none_or_some(n: usize, legs: usize) -> bool
+// n is at least 1, or there are no legs.
+fn some_or_no_legs(n: usize, legs: usize) -> bool
     ensures { λ r. ⌜ r ≡ (leb 1 n || eqb legs 0) ⌝ }
 {
     if 1 <= n {
@@ -109,7 +109,7 @@ fn pre_good(n: usize) -> bool
 fn leg_iterations_good(legs: usize, n: usize) -> bool
     ensures { λ r. ⌜ r ≡ legIterationsGood legs n ⌝ }
 {
-    both(at_most(n, 65535), none_or_some(n, legs))
+    both(at_most(n, 65535), some_or_no_legs(n, legs))
 }
 
 // 15.
@@ -165,7 +165,7 @@ fn source_fault(source: GammaSource, legs: usize, mechanisms: usize, gammas: &[f
 {
     match source {
         GammaSource::Explicit(sets) => or_else(
-            unless(none_or_some(sets, legs), Refusal::NoGammaSets),
+            unless(some_or_no_legs(sets, legs), Refusal::NoGammaSets),
             or_else(
                 unless(
                     sets_good(sets, mechanisms, gammas.len()),

@@ -1,8 +1,9 @@
--- `graph::build_dense` meets its contract: where no test refuses, the lists fit, which is all that building asks; a refusal leaves them. Assumes nothing.
+-- `graph::build_dense` meets its contract. Where no test refuses, the lists fit, which is all that building asks; a refusal leaves them. Assumes nothing.
 use mathlib.Core.Path.{sym, _∙_}
 use native.Mathlib.Omega.{arith}
 use lib.ListN.{length}
 use borrow.Author.Needs.{needs}
+use Rattle.numbers.proofs.Cases.{was-true, was-false}
 use Rattle.refusals.proofs.Tests.{done-is}
 use Rattle.graph.specs.Graph.{Graph, graph}
 use Rattle.graph.specs.Model.{graphFits}
@@ -17,13 +18,13 @@ abbrev lists : tie.Start → Graph
 lists c = let a = c .args in graph (a .checks) (a .mechanisms) (a .check-var .now) (a .check-message .now) (a .check-offset .now) (a .var-check .now) (a .var-message .now) (a .var-offset .now)
 
 -- what the tests told
-told : (c : tie.Then1)
+told : (c : tie.Else1)
     → let a = c .before .before .before .before .before .before .before .before .before .before .before .before .before .args in
     DenseTold (a .checks) (a .mechanisms) (c .before .before .before .before .count-edges .result) (a .priors .now) (length (a .matrix .now)) (c .before .before .before .lists-fit .result)
-told c = dense-told _ _ _ _ _ _ (sym (c .before .before .dense-fault .ensures) ∙ done-is _ (sym (c .before .is-done .ensures) ∙ c .if1 .taken))
+told c = dense-told _ _ _ _ _ _ (sym (c .before .before .dense-fault .ensures) ∙ done-is _ (was-true _ _ (c .before .is-done .ensures) (c .if1 .left)))
 
 -- and of the graph lists
-long : (c : tie.Then1) → Long (c .before .before .before .before .count-edges .result) (lists (c .before .before .before .before .before .before .before .before .before .before .before .before .before))
+long : (c : tie.Else1) → Long (c .before .before .before .before .count-edges .result) (lists (c .before .before .before .before .before .before .before .before .before .before .before .before .before))
 unfolding graphFits
 long c = long-told _ (lists (c .before .before .before .before .before .before .before .before .before .before .before .before .before)) (sym (c .before .before .before .lists-fit .ensures) ∙ told c .fits)
 
@@ -38,6 +39,10 @@ dense-fault-requires c κs = search needs
 
 is-done-requires : tie.Need-is-done-requires
 is-done-requires c κs = search needs
+
+returns : tie.Need-returns
+unfolding graphFits
+returns c = dense-refused _ _ _ _ _ (lists (c .before .before .before .before .before .before .before .before .before .before .before .before .before)) (c .before .before .before .before .count-edges .ensures) (c .before .before .before .lists-fit .ensures) (c .before .before .dense-fault .ensures) (was-false _ _ (c .before .is-done .ensures) (c .if1 .taken))
 
 from-matrix-requires : tie.Need-from-matrix-requires
 from-matrix-requires c κs =
@@ -69,13 +74,9 @@ same-length-5 c = search needs
 same-length-6 : tie.Need-same-length-6
 same-length-6 c = search needs
 
-returns : tie.Need-returns
-unfolding graphFits
-returns c = dense-done _ _ _ _ _ (lists (c .before .before .before .before .before .before .before .before .before .before .before .before .before .before .before .before .before .before .before .before .before .before .before .before .before .before .before .before .before .before .before .before)) (c .before .before .before .before .before .before .before .before .before .before .before .before .before .before .before .before .before .before .before .before .before .before .before .count-edges .ensures) (c .before .before .before .before .before .before .before .before .before .before .before .before .before .before .before .before .before .before .before .before .before .before .lists-fit .ensures) (c .before .before .before .before .before .before .before .before .before .before .before .before .before .before .before .before .before .before .before .before .before .dense-fault .ensures) _ (sym (c .before .before .before .before .before .before .before .before .before .before .before .before .before .before .before .before .before .before .before .before .is-done .ensures) ∙ c .before .before .before .before .before .before .before .before .before .before .before .before .before .before .before .before .before .before .before .if1 .taken) (c .before .before .before .before .before .before .before .before .before .before .before .before .from-matrix .ensures)
-
 returns-2 : tie.Need-returns-2
 unfolding graphFits
-returns-2 c = dense-refused _ _ _ _ _ (lists (c .before .before .before .before .before .before .before .before .before .before .before .before .before)) (c .before .before .before .before .count-edges .ensures) (c .before .before .before .lists-fit .ensures) (c .before .before .dense-fault .ensures) (sym (c .before .is-done .ensures) ∙ c .if1 .left)
+returns-2 c = dense-done _ _ _ _ _ (lists (c .before .before .before .before .before .before .before .before .before .before .before .before .before .before .before .before .before .before .before .before .before .before .before .before .before .before .before .before .before .before .before .before)) (c .before .before .before .before .before .before .before .before .before .before .before .before .before .before .before .before .before .before .before .before .before .before .before .count-edges .ensures) (c .before .before .before .before .before .before .before .before .before .before .before .before .before .before .before .before .before .before .before .before .before .before .lists-fit .ensures) (c .before .before .before .before .before .before .before .before .before .before .before .before .before .before .before .before .before .before .before .before .before .dense-fault .ensures) _ (was-true _ _ (c .before .before .before .before .before .before .before .before .before .before .before .before .before .before .before .before .before .before .before .before .is-done .ensures) (c .before .before .before .before .before .before .before .before .before .before .before .before .before .before .before .before .before .before .before .if1 .left)) (c .before .before .before .before .before .before .before .before .before .before .before .before .from-matrix .ensures)
 
 pub build-dense-spec : {M : Type 1} → statement M
 build-dense-spec =
@@ -85,6 +86,7 @@ build-dense-spec =
     lists-fit-requires
     dense-fault-requires
     is-done-requires
+    returns
     from-matrix-requires
     same-length
     same-length-2
@@ -92,5 +94,4 @@ build-dense-spec =
     same-length-4
     same-length-5
     same-length-6
-    returns
     returns-2)

@@ -1,7 +1,8 @@
--- `graph::build_sparse` meets its contract: where no test refuses, the model is valid and the lists fit, which is all that building asks; a refusal leaves them. Assumes nothing.
+-- `graph::build_sparse` meets its contract. Where no test refuses, the model is valid and the lists fit, which is all that building asks; a refusal leaves them. Assumes nothing.
 use mathlib.Core.Path.{sym, _∙_}
 use native.Mathlib.Omega.{arith}
 use borrow.Author.Needs.{needs}
+use Rattle.numbers.proofs.Cases.{was-true, was-false}
 use Rattle.refusals.proofs.Tests.{done-is}
 use Rattle.graph.specs.Graph.{Graph, graph}
 use Rattle.graph.specs.Model.{graphFits}
@@ -15,13 +16,13 @@ abbrev lists : tie.Start → Graph
 lists c = let a = c .args in graph (a .size .checks) (a .size .mechanisms) (a .check-var .now) (a .check-message .now) (a .check-offset .now) (a .var-check .now) (a .var-message .now) (a .var-offset .now)
 
 -- what the tests told
-told : (c : tie.Then1)
+told : (c : tie.Else1)
     → let a = c .before .before .before .before .before .before .before .before .before .before .before .before .before .args in
     Told (a .size .checks) (a .size .mechanisms) (a .size .edges) (a .priors .now) (a .detector-offsets .now) (a .detectors .now) (c .before .before .before .lists-fit .result)
-told c = sparse-told _ _ _ _ _ _ _ (sym (c .before .before .sparse-fault .ensures) ∙ done-is _ (sym (c .before .is-done .ensures) ∙ c .if1 .taken))
+told c = sparse-told _ _ _ _ _ _ _ (sym (c .before .before .sparse-fault .ensures) ∙ done-is _ (was-true _ _ (c .before .is-done .ensures) (c .if1 .left)))
 
 -- and of the graph lists
-long : (c : tie.Then1) → Long (c .before .before .before .before .before .before .before .before .before .before .before .before .before .args .size .edges) (lists (c .before .before .before .before .before .before .before .before .before .before .before .before .before))
+long : (c : tie.Else1) → Long (c .before .before .before .before .before .before .before .before .before .before .before .before .before .args .size .edges) (lists (c .before .before .before .before .before .before .before .before .before .before .before .before .before))
 unfolding graphFits
 long c = long-told _ (lists (c .before .before .before .before .before .before .before .before .before .before .before .before .before)) (sym (c .before .before .before .lists-fit .ensures) ∙ told c .lengths .fits)
 
@@ -33,6 +34,10 @@ sparse-fault-requires c κs = search needs
 
 is-done-requires : tie.Need-is-done-requires
 is-done-requires c κs = search needs
+
+returns : tie.Need-returns
+unfolding graphFits
+returns c = sparse-refused _ _ _ _ _ _ (lists (c .before .before .before .before .before .before .before .before .before .before .before .before .before)) (c .before .before .before .lists-fit .ensures) (c .before .before .sparse-fault .ensures) (was-false _ _ (c .before .is-done .ensures) (c .if1 .taken))
 
 from-detectors-requires : tie.Need-from-detectors-requires
 from-detectors-requires c κs =
@@ -64,13 +69,9 @@ same-length-5 c = search needs
 same-length-6 : tie.Need-same-length-6
 same-length-6 c = search needs
 
-returns : tie.Need-returns
-unfolding graphFits
-returns c = sparse-done _ _ _ _ _ _ (lists (c .before .before .before .before .before .before .before .before .before .before .before .before .before .before .before .before .before .before .before .before .before .before .before .before .before .before .before .before .before .before .before .before)) (c .before .before .before .before .before .before .before .before .before .before .before .before .before .before .before .before .before .before .before .before .before .before .lists-fit .ensures) (c .before .before .before .before .before .before .before .before .before .before .before .before .before .before .before .before .before .before .before .before .before .sparse-fault .ensures) _ (sym (c .before .before .before .before .before .before .before .before .before .before .before .before .before .before .before .before .before .before .before .before .is-done .ensures) ∙ c .before .before .before .before .before .before .before .before .before .before .before .before .before .before .before .before .before .before .before .if1 .taken) (c .before .before .before .before .before .before .before .before .before .before .before .before .from-detectors .ensures)
-
 returns-2 : tie.Need-returns-2
 unfolding graphFits
-returns-2 c = sparse-refused _ _ _ _ _ _ (lists (c .before .before .before .before .before .before .before .before .before .before .before .before .before)) (c .before .before .before .lists-fit .ensures) (c .before .before .sparse-fault .ensures) (sym (c .before .is-done .ensures) ∙ c .if1 .left)
+returns-2 c = sparse-done _ _ _ _ _ _ (lists (c .before .before .before .before .before .before .before .before .before .before .before .before .before .before .before .before .before .before .before .before .before .before .before .before .before .before .before .before .before .before .before .before)) (c .before .before .before .before .before .before .before .before .before .before .before .before .before .before .before .before .before .before .before .before .before .before .lists-fit .ensures) (c .before .before .before .before .before .before .before .before .before .before .before .before .before .before .before .before .before .before .before .before .before .sparse-fault .ensures) _ (was-true _ _ (c .before .before .before .before .before .before .before .before .before .before .before .before .before .before .before .before .before .before .before .before .is-done .ensures) (c .before .before .before .before .before .before .before .before .before .before .before .before .before .before .before .before .before .before .before .if1 .left)) (c .before .before .before .before .before .before .before .before .before .before .before .before .from-detectors .ensures)
 
 pub build-sparse-spec : {M : Type 1} → statement M
 build-sparse-spec =
@@ -79,6 +80,7 @@ build-sparse-spec =
     lists-fit-requires
     sparse-fault-requires
     is-done-requires
+    returns
     from-detectors-requires
     same-length
     same-length-2
@@ -86,5 +88,4 @@ build-sparse-spec =
     same-length-4
     same-length-5
     same-length-6
-    returns
     returns-2)

@@ -1,4 +1,4 @@
--- `graph::check_graph` meets its contract: each answer is the definition at what the tests before it said. Assumes nothing.
+-- `graph::check_graph` meets its contract. Each answer is the definition at what the tests before it said. Assumes nothing.
 use mathlib.Core.Bool.{true, _&&_}
 use mathlib.Core.Path.{_≡_, sym, ap, _∙_}
 use Prim.Native.Nat.{ℕ}
@@ -6,14 +6,12 @@ use lib.Dec.{eqb}
 use lib.ListN.{length}
 use borrow.Author.Needs.{needs}
 use borrow.Author.Tests.{not-true, not-false, eqb-true}
-use Rattle.numbers.proofs.Cases.{was-true, was-false}
-use Rattle.numbers.proofs.Tests.{and-left, and-right}
+use Rattle.numbers.proofs.Cases.{and-both, was-true, was-false}
 use Rattle.refusals.specs.Tests.{firstOf}
 use Rattle.refusals.specs.declared.Answer.{Answer}
 use Rattle.graph.specs.Graph.{Graph, graph}
-use Rattle.graph.specs.Model.{graphFits, priorFault}
+use Rattle.graph.specs.Model.{graphFits, priorFault, sizesGood}
 use Rattle.graph.specs.Sound.{Long}
-use Rattle.graph.specs.Steps.{fewSizes}
 use Rattle.graph.proofs.GraphTests.{fault-1, fault-2, fault-4, fault-7, fault-none}
 use Rattle.graph.proofs.SparseTests.{long-told}
 use Rattle.graph.proofs.check_graph.Statement.{statement}
@@ -24,7 +22,7 @@ abbrev lists : tie.Start → Graph
 lists c = let a = c .args in graph (a .size .checks) (a .size .mechanisms) (a .check-var .now) (a .check-message .now) (a .check-offset .now) (a .var-check .now) (a .var-message .now) (a .var-offset .now)
 
 -- what the first test told
-sizes : (c : tie.Else1) → let s = c .before .before .before .before .before .before .before .before .before .args .size in fewSizes (s .checks) (s .mechanisms) (s .edges) ≡ true
+sizes : (c : tie.Else1) → let s = c .before .before .before .before .before .before .before .before .before .args .size in sizesGood (s .checks) (s .mechanisms) (s .edges) ≡ true
 sizes c = was-true _ _ (c .before .sizes-good .ensures) (c .if1 .left)
 
 -- what the second asks
@@ -38,12 +36,12 @@ fits c = was-true _ _ (fit (c .before)) (c .if2 .left)
 
 -- of the graph lists
 long : (c : tie.Else2) → Long (c .before .before .before .before .before .before .before .before .before .before .before .before .before .args .size .edges) (lists (c .before .before .before .before .before .before .before .before .before .before .before .before .before))
-long c = long-told _ (lists (c .before .before .before .before .before .before .before .before .before .before .before .before .before)) (and-right (eqb (length (c .before .before .before .before .before .before .before .before .before .before .before .before .before .args .priors .now)) (c .before .before .before .before .before .before .before .before .before .before .before .before .before .args .size .mechanisms)) _ (fits c))
+long c = long-told _ (lists (c .before .before .before .before .before .before .before .before .before .before .before .before .before)) (and-both (eqb (length (c .before .before .before .before .before .before .before .before .before .before .before .before .before .args .priors .now)) (c .before .before .before .before .before .before .before .before .before .before .before .before .before .args .size .mechanisms)) _ (fits c) .1)
 
 -- there are as many priors as mechanisms
 priors : (c : tie.Else2) {a : Answer} → a ≡ firstOf (length (c .before .before .before .before .before .before .before .before .before .before .before .before .before .args .priors .now)) (priorFault (c .before .before .before .before .before .before .before .before .before .before .before .before .before .args .priors .now))
     → a ≡ firstOf (c .before .before .before .before .before .before .before .before .before .before .before .before .before .args .size .mechanisms) (priorFault (c .before .before .before .before .before .before .before .before .before .before .before .before .before .args .priors .now))
-priors c e = e ∙ ap (λ (n : ℕ). firstOf n (priorFault (c .before .before .before .before .before .before .before .before .before .before .before .before .before .args .priors .now))) (eqb-true _ _ (and-left _ _ (fits c)))
+priors c e = e ∙ ap (λ (n : ℕ). firstOf n (priorFault (c .before .before .before .before .before .before .before .before .before .before .before .before .before .args .priors .now))) (eqb-true _ _ (and-both _ _ (fits c) .0))
 
 sizes-good-requires : tie.Need-sizes-good-requires
 sizes-good-requires c κs = search needs

@@ -1,4 +1,4 @@
--- `graph::count_edges` meets its contract: the loop's invariant: n is how many of the first i are not zero. Assumes nothing.
+-- `graph::count_edges` meets its contract. The invariant: `edges` is how many of the first i are not zero. Assumes nothing.
 use mathlib.Core.Logic.{⊎-elim}
 use mathlib.Core.Path.{_≡_, sym, ap, _∙_}
 use Prim.Native.Nat.{_-_, _≤_}

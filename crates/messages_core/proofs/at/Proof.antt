@@ -1,4 +1,4 @@
--- `messages_core::at` meets its contract: an entry is below 2 ^ 32, so the cast keeps it. Assumes nothing.
+-- `messages_core::at` meets its contract. An entry is below 2 ^ 32, so the cast keeps it. Assumes nothing.
 use native.Mathlib.Omega.{arith}
 use borrow.Author.Needs.{needs}
 use Rattle.messages_core.proofs.at.Statement.{statement}

@@ -1,4 +1,4 @@
--- `messages_core::greater` meets its contract: each arm is one case of the comparison. Assumes nothing.
+-- `messages_core::greater` meets its contract. Each arm is one case of the comparison. Assumes nothing.
 use Rattle.messages_core.proofs.greater.Statement.{statement}
 use Rattle.messages_core.proofs.greater.Tie as tie
 

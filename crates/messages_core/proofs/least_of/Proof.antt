@@ -1,4 +1,4 @@
--- `messages_core::least_of` meets its contract: each arm is one case of the comparison. Assumes nothing.
+-- `messages_core::least_of` meets its contract. Each arm is one case of the comparison. Assumes nothing.
 use Rattle.messages_core.proofs.least_of.Statement.{statement}
 use Rattle.messages_core.proofs.least_of.Tie as tie
 

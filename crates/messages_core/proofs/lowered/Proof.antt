@@ -1,4 +1,5 @@
--- `messages_core::lowered` meets its contract: each field is found by itself, and the two least stay ordered. Assumes nothing.
+-- `messages_core::lowered` meets its contract. Each field is found by itself, and the two least stay ordered. Assumes nothing.
+use Rattle.graph.specs.Messages.{lowered}
 use Rattle.messages_core.proofs.Least.{ordered-next}
 use borrow.Author.Needs.{needs}
 use Rattle.messages_core.proofs.lowered.Statement.{statement}
@@ -17,6 +18,7 @@ least-of-requires : tie.Need-least-of-requires
 least-of-requires c κs = search needs
 
 returns : tie.Need-returns
+unfolding lowered
 returns c = (rw (c .least-of .ensures, c .before .next-least .ensures, c .before .before .lesser .ensures, c .before .before .before .magnitude .ensures), rw (c .before .next-least .ensures, c .before .before .lesser .ensures, c .before .before .before .magnitude .ensures) (ordered-next _ _ _ (c .before .before .before .before .pre)))
 
 pub lowered-spec : {M : Type 1} → statement M

@@ -1,4 +1,4 @@
--- `messages_core::next_least` meets its contract: of two least that are ordered, the greater of the first and the lesser is the next. Assumes nothing.
+-- `messages_core::next_least` meets its contract. Of two least that are ordered, the greater of the first and the lesser is the next. Assumes nothing.
 use Rattle.messages_core.proofs.Least.{next-is}
 use borrow.Author.Needs.{needs}
 use Rattle.messages_core.proofs.next_least.Statement.{statement}

@@ -1,4 +1,4 @@
--- `messages_core::start_scan` meets its contract: each arm is one case of the definition. Assumes nothing.
+-- `messages_core::start_scan` meets its contract. Each arm is one case of the definition. Assumes nothing.
 use lib.Ieee.{ofBits, neg}
 use borrow.Author.Needs.{needs}
 use Rattle.messages_core.proofs.start_scan.Statement.{statement}

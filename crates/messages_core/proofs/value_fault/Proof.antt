@@ -1,4 +1,4 @@
--- `messages_core::value_fault` meets its contract: each arm is one case of the test. Assumes nothing.
+-- `messages_core::value_fault` meets its contract. Each arm is one case of the test. Assumes nothing.
 use borrow.Author.Needs.{needs}
 use Rattle.refusals.specs.Tests.{unless}
 use Rattle.messages_core.proofs.value_fault.Statement.{statement}

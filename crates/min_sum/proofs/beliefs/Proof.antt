@@ -1,4 +1,4 @@
--- `min_sum::beliefs` meets its contract: a refused call leaves the lists; else the tests told all that the run asks, and the run reads no more of the graph than the four lists. Assumes nothing.
+-- `min_sum::beliefs` meets its contract. A refused call leaves the lists; else the tests told all that the run asks, and the run reads no more of the graph than the four lists. Assumes nothing.
 use borrow.Author.Needs.{needs}
 use Rattle.min_sum.specs.Beliefs.{Lists, lists, listsFit, beliefsFault}
 use Rattle.min_sum.proofs.Calls.{Told, told, beliefs-refused, beliefs-ran}

@@ -1,4 +1,4 @@
--- `numbers::gamma` meets its contract: the definition, with what `unit` ensures. Assumes nothing.
+-- `numbers::gamma` meets its contract. The definition, with what `unit` ensures. Assumes nothing.
 use borrow.Author.Needs.{needs}
 use Rattle.numbers.specs.Draw.{gamma}
 use Rattle.numbers.proofs.gamma.Statement.{statement}

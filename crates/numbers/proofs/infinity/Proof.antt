@@ -1,4 +1,4 @@
--- `numbers::infinity` meets its contract: the quotient computes. Assumes nothing.
+-- `numbers::infinity` meets its contract. The quotient computes. Assumes nothing.
 use mathlib.Core.Path.{refl}
 use lib.Ieee.{ofBits, div}
 use Rattle.numbers.proofs.infinity.Statement.{statement}

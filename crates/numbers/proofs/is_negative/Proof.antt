@@ -1,5 +1,4 @@
--- `numbers::is_negative` meets its contract. Where x equals itself it is no NaN, and its sign is the top bit; else it is a NaN.
--- Assumes nothing.
+-- `numbers::is_negative` meets its contract. Where x equals itself it is no NaN, and its sign is the top bit; else it is a NaN. Assumes nothing.
 use mathlib.Core.Path.{sym, ap}
 use Rattle.numbers.specs.Floats.{isNegative}
 use Rattle.numbers.proofs.Bits.{self-number, self-nan, negative-bits}

@@ -1,5 +1,4 @@
--- `numbers::magnitude` meets its contract. Where x equals itself it is no NaN, and its bits without the top one are its magnitude's; else it is a NaN.
--- Assumes nothing.
+-- `numbers::magnitude` meets its contract. Where x equals itself it is no NaN, and its bits without the top one are its magnitude's; else it is a NaN. Assumes nothing.
 use mathlib.Core.Path.{sym, _∙_, ap}
 use Rattle.numbers.specs.Floats.{abs}
 use Rattle.numbers.proofs.Bits.{self-number, self-nan, abs-bits, abs-no-nan}

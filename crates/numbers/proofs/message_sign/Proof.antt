@@ -1,4 +1,4 @@
--- `numbers::message_sign` meets its contract: each answer is the definition at what the test said. Assumes nothing.
+-- `numbers::message_sign` meets its contract. Each answer is the definition at what the test said. Assumes nothing.
 use lib.Ieee.{ofBits, neg}
 use Rattle.numbers.specs.Floats.{messageSign}
 use Rattle.numbers.proofs.message_sign.Statement.{statement}

@@ -1,4 +1,4 @@
--- `numbers::unit` meets its contract: 53 bits are a float exactly, and the constant is 2 ^ -53. Assumes nothing.
+-- `numbers::unit` meets its contract. 53 bits are a float exactly, and the constant is 2 ^ -53. Assumes nothing.
 use mathlib.Core.Path.{refl}
 use Prim.Native.Nat.{_/_, _^_}
 use lib.Dec.{le→leb}

@@ -1,5 +1,4 @@
--- `numbers::wrapping_mul` meets its contract: a product of two halves has 64 bits, the sum of three numbers below 2 ^ 32 too, and the result is the product
--- by halves. Assumes nothing.
+-- `numbers::wrapping_mul` meets its contract. A product of two halves has 64 bits, the sum of three numbers below 2 ^ 32 too, and the result is the product by halves. Assumes nothing.
 use Prim.Native.Nat.{ℕ, _*_, _%_, _^_, _<_}
 use native.Mathlib.Nat.{mod-lt}
 use native.Mathlib.Omega.{arith}

@@ -1,5 +1,4 @@
--- `orders_core::exchange_fault` meets its contract. Each arm answers what the definition says of its schedule.
--- Assumes nothing.
+-- `orders_core::exchange_fault` meets its contract. Each arm answers what the definition says of its schedule. Assumes nothing.
 use Rattle.orders_core.specs.Order.{exchangeFault}
 use borrow.Author.Needs.{needs}
 use Rattle.orders_core.proofs.exchange_fault.Statement.{statement}

@@ -1,18 +1,17 @@
--- `orders_core::exchanged_check` meets its contract. The loop's invariant: nothing is exchanged among the names so far, and `last` has the highest of them for each mechanism. So the marks of a
--- check's mechanisms tell whether it is late.
--- Assumes nothing.
+-- `orders_core::exchanged_check` meets its contract. The invariant: nothing is exchanged among the names so far, and `last` has the highest of them for each mechanism. So the marks of a check's mechanisms tell whether it is late. Assumes nothing.
 use mathlib.Core.Path.{_≡_, refl, _∙_, ap}
 use mathlib.Core.List.{[]}
 use Prim.Native.Nat.{ℕ, _≤_, _<_, _-_}
 use native.Mathlib.Omega.{arith}
-use native.Mathlib.Numerals.{add-one}
 use lib.ListN.{length, take, drop, length-replicate}
 use Rattle.numbers.specs.Loops.{part, row}
 use Rattle.orders_core.proofs.All.{all-at}
 use Rattle.orders_core.proofs.Counts.{names-below, names-once-is}
 use Rattle.orders_core.specs.Order.{exchanged}
-use Rattle.messages_core.specs.Needs.{Entries}
-use Rattle.orders_core.proofs.OrderTests.{Tells, tells-start, part-below, test-found, test-goes-on, test-tells, exchange-done, length-marked}
+use Rattle.graph.specs.Sound.{Keys}
+use Rattle.graph.proofs.Cuts.{cut-bounds}
+use Rattle.messages_core.proofs.Parts.{part-names}
+use Rattle.orders_core.proofs.OrderTests.{Tells, tells-start, test-found, test-goes-on, test-tells, exchange-done, length-marked}
 use Rattle.orders_core.proofs.exchanged_check.Statement.{statement}
 use Rattle.orders_core.proofs.exchanged_check.Tie as tie
 
@@ -34,14 +33,11 @@ named c = omega (arith, c .at .ensures, all-at (names-below (names-once-is _ _ .
 
 -- its part lies within the entries
 bounds : (c : tie.After-at3 Inv-loop μ-loop) → (c .before .at2 .result ≤ c .at3 .result) × (c .at3 .result ≤ length (start (c .before .before) .args .check-var .now))
-bounds c =
-    let k = c .before .before in
-    let offs = start k .pre .1 .0 in
-    omega (arith, rw add-one at (c .at3 .ensures), c .before .at2 .ensures, offs .rises (k .at .result) (named k), offs .ends (k .at .result) (named k))
+bounds c = cut-bounds _ _ _ (c .before .before .at .result) _ _ (start (c .before .before) .pre .1 .0) (named (c .before .before)) (c .before .at2 .ensures) (c .at3 .ensures)
 
 -- and names mechanisms
-entries : (c : tie.After-at3 Inv-loop μ-loop) → Entries 65536 (part (c .before .at2 .result) (c .at3 .result) (start (c .before .before) .args .check-var .now))
-entries c = part-below _ _ _ _ (start (c .before .before) .pre .1 .1 .0) (bounds c .0) (bounds c .1)
+entries : (c : tie.After-at3 Inv-loop μ-loop) → Keys 65536 (part (c .before .at2 .result) (c .at3 .result) (start (c .before .before) .args .check-var .now))
+entries c = part-names _ _ _ _ (start (c .before .before) .pre .1 .1 .0) (bounds c .1)
 
 loop-holds : tie.Need-loop-holds Inv-loop μ-loop
 loop-holds c = (omega arith, length-replicate {A = ℕ} 65536 0, tells-start _, refl)

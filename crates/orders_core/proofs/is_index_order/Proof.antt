@@ -1,11 +1,11 @@
--- `orders_core::is_index_order` meets its contract. The loop's invariant: each place so far holds its own number.
--- Assumes nothing.
+-- `orders_core::is_index_order` meets its contract. The invariant: each place so far holds its own number. Assumes nothing.
 use mathlib.Core.Path.{_≡_, sym, _∙_}
 use mathlib.Core.Bool.{false≢true}
 use Prim.Native.Nat.{ℕ, _≤_, _<_, _-_}
 use native.Mathlib.Omega.{arith}
 use lib.ListN.{getD}
-use Rattle.orders_core.proofs.OrderWords.{index-order, index-turn}
+use borrow.Author.Count.{below-more}
+use Rattle.numbers.proofs.Loops.{is-table}
 use Rattle.orders_core.proofs.is_index_order.Statement.{statement}
 use Rattle.orders_core.proofs.is_index_order.Tie as tie
 
@@ -34,10 +34,10 @@ loop-less : tie.Need-loop-less Inv-loop μ-loop
 loop-less c = omega arith
 
 loop-again : tie.Need-loop-again Inv-loop μ-loop
-loop-again c = (omega arith, index-turn (c .before .before .before .before .before .before .args .order .now) _ (c .before .before .before .loop .inv .1) (sym (c .before .at .ensures) ∙ c .if2 .left))
+loop-again c = (omega arith, below-more (λ k. getD (c .before .before .before .before .before .before .args .order .now) k 0 ≡ k) _ (c .before .before .before .loop .inv .1) (sym (c .before .at .ensures) ∙ c .if2 .left))
 
 returns-3 : tie.Need-returns-3 Inv-loop μ-loop
-returns-3 c = λ e. index-order _ _ (c .before .before .if1 .left) (λ k h. c .before .loop .inv .1 k (omega arith))
+returns-3 c = λ e. is-table _ _ _ (c .before .before .if1 .left) (λ k h. c .before .loop .inv .1 k (omega arith))
 
 pub is-index-order-spec : {M : Type 1} → statement M
 is-index-order-spec =

@@ -1,5 +1,4 @@
--- `orders_core::is_overtaken` meets its contract. The loop's invariant: no entry so far holds more than c.
--- Assumes nothing.
+-- `orders_core::is_overtaken` meets its contract. The invariant: no entry so far holds more than c. Assumes nothing.
 use mathlib.Core.Path.{_≡_, refl, sym, _∙_, ap}
 use mathlib.Core.Bool.{false}
 use Prim.Native.Nat.{_≤_, _<_, _-_}
@@ -19,7 +18,7 @@ abbrev μ-loop : tie.MeasureT-loop
 
 -- the entry of a turn names a mechanism
 named : (c : tie.After-at Inv-loop μ-loop) → c .at .result < 65536
-named c = omega (arith, c .at .ensures, c .before .before .before .before .pre .names (c .before .before .loop .i) (c .before .loop-test .taken))
+named c = omega (arith, c .at .ensures, c .before .before .before .before .pre .small (c .before .before .loop .i) (c .before .loop-test .taken))
 
 loop-holds : tie.Need-loop-holds Inv-loop μ-loop
 unfolding overtaken

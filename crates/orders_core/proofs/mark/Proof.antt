@@ -1,5 +1,4 @@
--- `orders_core::mark` meets its contract. The loop's invariant: the places that the entries so far name hold c.
--- Assumes nothing.
+-- `orders_core::mark` meets its contract. The invariant: the places that the entries so far name hold c. Assumes nothing.
 use mathlib.Core.Path.{_≡_, refl, _∙_, ap}
 use Prim.Native.Nat.{_≤_, _<_, _-_}
 use native.Mathlib.Omega.{arith}
@@ -18,7 +17,7 @@ abbrev μ-loop : tie.MeasureT-loop
 
 -- the entry of a turn names a mechanism
 named : (c : tie.After-at Inv-loop μ-loop) → c .at .result < 65536
-named c = omega (arith, c .at .ensures, c .before .before .before .before .pre .names (c .before .before .loop .i) (c .before .loop-test .taken))
+named c = omega (arith, c .at .ensures, c .before .before .before .before .pre .small (c .before .before .loop .i) (c .before .loop-test .taken))
 
 loop-holds : tie.Need-loop-holds Inv-loop μ-loop
 unfolding marked

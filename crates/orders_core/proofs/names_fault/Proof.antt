@@ -1,5 +1,4 @@
--- `orders_core::names_fault` meets its contract. It answers by the test.
--- Assumes nothing.
+-- `orders_core::names_fault` meets its contract. It answers by the test. Assumes nothing.
 use mathlib.Core.Path.{sym, _∙_}
 use Rattle.refusals.specs.Tests.{unless}
 use Rattle.orders_core.specs.Order.{namesFault}

@@ -1,5 +1,4 @@
--- `refusals::number_of` meets its contract: each arm answers the number that the definition computes at that arm's constructor.
--- Assumes nothing.
+-- `refusals::number_of` meets its contract. Each arm answers the number that the definition computes at that arm's constructor. Assumes nothing.
 use mathlib.Core.Path.{sym, ap}
 use Rattle.refusals.specs.Refusal.{numberOf}
 use borrow.Author.Needs.{needs}

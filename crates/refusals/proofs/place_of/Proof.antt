@@ -1,5 +1,4 @@
--- `refusals::place_of` meets its contract: each arm answers the place that the definition computes at that arm's constructor.
--- Assumes nothing.
+-- `refusals::place_of` meets its contract. Each arm answers the place that the definition computes at that arm's constructor. Assumes nothing.
 use mathlib.Core.Path.{sym, ap}
 use Rattle.refusals.specs.Refusal.{placeOf}
 use borrow.Author.Needs.{needs}

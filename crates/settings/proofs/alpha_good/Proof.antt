@@ -1,5 +1,4 @@
--- `settings::alpha_good` meets its contract. It answers by the two tests of the definition.
--- Assumes nothing.
+-- `settings::alpha_good` meets its contract. It answers by the two tests of the definition. Assumes nothing.
 use Rattle.settings.specs.Settings.{alphaGood}
 use borrow.Author.Needs.{needs}
 use Rattle.settings.proofs.alpha_good.Statement.{statement}

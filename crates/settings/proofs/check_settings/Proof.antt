@@ -1,5 +1,4 @@
--- `settings::check_settings` meets its contract. The tests, each equal to its part of the definition, joined as there.
--- Assumes nothing.
+-- `settings::check_settings` meets its contract. The tests, each equal to its part of the definition, joined as there. Assumes nothing.
 use Rattle.settings.specs.Settings.{settingsFault}
 use borrow.Author.Needs.{needs}
 use Rattle.settings.proofs.check_settings.Statement.{statement}

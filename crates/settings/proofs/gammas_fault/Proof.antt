@@ -1,5 +1,4 @@
--- `settings::gammas_fault` meets its contract. The loop's invariant: none of the first i gammas is refused.
--- Assumes nothing.
+-- `settings::gammas_fault` meets its contract. The invariant: none of the first i gammas is refused. Assumes nothing.
 use mathlib.Core.Path.{_≡_, refl, sym}
 use Prim.Native.Nat.{_-_, _≤_}
 use native.Mathlib.Omega.{arith}

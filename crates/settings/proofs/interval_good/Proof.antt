@@ -1,5 +1,4 @@
--- `settings::interval_good` meets its contract. It answers by the tests of the definition.
--- Assumes nothing.
+-- `settings::interval_good` meets its contract. It answers by the tests of the definition. Assumes nothing.
 use Rattle.settings.specs.Settings.{intervalGood}
 use borrow.Author.Needs.{needs}
 use Rattle.settings.proofs.interval_good.Statement.{statement}

@@ -1,5 +1,4 @@
--- `settings::is_positive` meets its contract. The comparison is the definition's, once the literal is computed.
--- Assumes nothing.
+-- `settings::is_positive` meets its contract. The comparison is the definition's, once the literal is computed. Assumes nothing.
 use mathlib.Core.Path.{refl}
 use lib.Ieee.{ofBits}
 use Rattle.settings.proofs.is_positive.Statement.{statement}

@@ -1,5 +1,4 @@
--- `settings::is_product` meets its contract. A product with a factor 0 is 0; else the number has no rest, and the quotient is the other factor.
--- Assumes nothing.
+-- `settings::is_product` meets its contract. A product with a factor 0 is 0; else the number has no rest, and the quotient is the other factor. Assumes nothing.
 use native.Mathlib.Omega.{arith}
 use borrow.Author.Needs.{needs}
 use Rattle.settings.proofs.Products.{product-of-zero, product-by-quotient, product-with-rest}

@@ -1,5 +1,4 @@
--- `settings::leg_iterations_good` meets its contract. It answers by the tests of the definition.
--- Assumes nothing.
+-- `settings::leg_iterations_good` meets its contract. It answers by the tests of the definition. Assumes nothing.
 use Rattle.settings.specs.Settings.{legIterationsGood}
 use borrow.Author.Needs.{needs}
 use Rattle.settings.proofs.leg_iterations_good.Statement.{statement}
@@ -8,8 +7,8 @@ use Rattle.settings.proofs.leg_iterations_good.Tie as tie
 at-most-requires : tie.Need-at-most-requires
 at-most-requires c κs = search needs
 
-none-or-some-requires : tie.Need-none-or-some-requires
-none-or-some-requires c κs = search needs
+some-or-no-legs-requires : tie.Need-some-or-no-legs-requires
+some-or-no-legs-requires c κs = search needs
 
 both-requires : tie.Need-both-requires
 both-requires c κs = search needs
@@ -20,4 +19,4 @@ returns c = cc
 
 pub leg-iterations-good-spec : {M : Type 1} → statement M
 leg-iterations-good-spec =
-    tie.close (tie.spec at-most-requires none-or-some-requires both-requires returns)
+    tie.close (tie.spec at-most-requires some-or-no-legs-requires both-requires returns)

@@ -1,5 +1,4 @@
--- `settings::pre_good` meets its contract. It answers by the two tests of the definition.
--- Assumes nothing.
+-- `settings::pre_good` meets its contract. It answers by the two tests of the definition. Assumes nothing.
 use Rattle.settings.specs.Settings.{preGood}
 use borrow.Author.Needs.{needs}
 use Rattle.settings.proofs.pre_good.Statement.{statement}

@@ -1,5 +1,4 @@
--- `settings::sets_good` meets its contract. It answers by the two tests of the definition.
--- Assumes nothing.
+-- `settings::sets_good` meets its contract. It answers by the two tests of the definition. Assumes nothing.
 use Rattle.settings.specs.Settings.{setsGood}
 use borrow.Author.Needs.{needs}
 use Rattle.settings.proofs.sets_good.Statement.{statement}

@@ -1,5 +1,4 @@
--- `settings::source_fault` meets its contract. Each arm answers what the definition says of its source.
--- Assumes nothing.
+-- `settings::source_fault` meets its contract. Each arm answers what the definition says of its source. Assumes nothing.
 use Rattle.settings.specs.Settings.{sourceFault}
 use borrow.Author.Needs.{needs}
 use Rattle.settings.proofs.source_fault.Statement.{statement}
@@ -8,8 +7,8 @@ use Rattle.settings.proofs.source_fault.Tie as tie
 enum-known-source : tie.Need-enum-known-source
 enum-known-source c = search needs
 
-none-or-some-requires : tie.Need-none-or-some-requires
-none-or-some-requires c κs = search needs
+some-or-no-legs-requires : tie.Need-some-or-no-legs-requires
+some-or-no-legs-requires c κs = search needs
 
 unless-requires : tie.Need-unless-requires
 unless-requires c κs = search needs
@@ -36,7 +35,7 @@ returns : tie.Need-returns
 unfolding sourceFault
 returns c =
     rw
-    (c .or-else2 .ensures, c .before .or-else .ensures, c .before .before .gammas-fault .ensures, c .before .before .before .unless2 .ensures, c .before .before .before .before .sets-good .ensures, c .before .before .before .before .before .unless .ensures, c .before .before .before .before .before .before .none-or-some .ensures, c .before .before .before .before .before .before .before .before .source .given .1)
+    (c .or-else2 .ensures, c .before .or-else .ensures, c .before .before .gammas-fault .ensures, c .before .before .before .unless2 .ensures, c .before .before .before .before .sets-good .ensures, c .before .before .before .before .before .unless .ensures, c .before .before .before .before .before .before .some-or-no-legs .ensures, c .before .before .before .before .before .before .before .before .source .given .1)
 
 returns-2 : tie.Need-returns-2
 unfolding sourceFault
@@ -47,7 +46,7 @@ source-fault-spec =
     tie.close
     (tie.spec
     enum-known-source
-    none-or-some-requires
+    some-or-no-legs-requires
     unless-requires
     sets-good-requires
     unless-requires-2

@@ -1,5 +1,4 @@
--- `tests_core::or_else` meets its contract. It goes by whether the first is done.
--- Assumes nothing.
+-- `tests_core::or_else` meets its contract. It goes by whether the first is done. Assumes nothing.
 use mathlib.Core.Path.{sym, _∙_}
 use Rattle.refusals.specs.Tests.{orElse}
 use borrow.Author.Needs.{needs}

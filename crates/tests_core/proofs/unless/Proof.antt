@@ -1,5 +1,4 @@
--- `tests_core::unless` meets its contract. Each arm answers what the definition says of that bool.
--- Assumes nothing.
+-- `tests_core::unless` meets its contract. Each arm answers what the definition says of that bool. Assumes nothing.
 use Rattle.refusals.specs.Tests.{unless}
 use Rattle.tests_core.proofs.unless.Statement.{statement}
 use Rattle.tests_core.proofs.unless.Tie as tie

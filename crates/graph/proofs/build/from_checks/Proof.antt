@@ -1,9 +1,8 @@
--- `graph::build::from_checks` meets its contract: the numbers are a table, and the bucket pass over the check lists is the rest. Assumes nothing.
+-- `graph::build::from_checks` meets its contract. The numbers are a table, and the bucket pass over the check lists is the rest. Assumes nothing.
 use mathlib.Core.Path.{ap, _∙_}
 use Prim.Native.Nat.{ℕ}
 use borrow.Author.Needs.{needs}
-use Rattle.numbers.specs.Loops.{table}
-use Rattle.graph.specs.Lists.{same}
+use Rattle.numbers.specs.Loops.{upto}
 use Rattle.graph.proofs.build.from_checks.Statement.{statement}
 use Rattle.graph.proofs.build.from_checks.Tie as tie
 
@@ -26,7 +25,7 @@ same-length-4 : tie.Need-same-length-4
 same-length-4 c = search needs
 
 returns : tie.Need-returns
-returns c = record { numbers = c .before .before .before .before .before .before .before .before .before .before .before .before .number .ensures ∙ ap (λ (n : ℕ). table n same) (c .before .before .before .before .before .before .before .before .before .before .before .before .before .before .before .before .before .before .before .before .pre .1 .1 .1 .0); pass = c .before .before .before .before .before .before .bucket .ensures }
+returns c = record { numbers = c .before .before .before .before .before .before .before .before .before .before .before .before .number .ensures ∙ ap (λ (n : ℕ). upto n) (c .before .before .before .before .before .before .before .before .before .before .before .before .before .before .before .before .before .before .before .before .pre .1 .1 .1 .0); pass = c .before .before .before .before .before .before .bucket .ensures }
 
 pub from-checks-spec : {M : Type 1} → statement M
 from-checks-spec =

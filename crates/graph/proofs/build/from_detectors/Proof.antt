@@ -1,4 +1,4 @@
--- `graph::build::from_detectors` meets its contract: the first pass writes the check lists of the graph, which are all that the second asks. Assumes nothing.
+-- `graph::build::from_detectors` meets its contract. The first pass writes the check lists of the graph, which are all that the second asks. Assumes nothing.
 use mathlib.Core.Path.{sym, _∙_}
 use native.Mathlib.Omega.{arith}
 use borrow.Author.Needs.{needs}

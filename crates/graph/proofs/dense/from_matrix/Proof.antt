@@ -1,4 +1,4 @@
--- `graph::dense::from_matrix` meets its contract: the rows write the check lists of the graph, which are all that the bucket pass asks. Assumes nothing.
+-- `graph::dense::from_matrix` meets its contract. The rows write the check lists of the graph, which are all that the bucket pass asks. Assumes nothing.
 use mathlib.Core.Path.{sym, _∙_}
 use native.Mathlib.Omega.{arith}
 use borrow.Author.Needs.{needs}

@@ -1,4 +1,4 @@
--- `graph::dense::mark` meets its contract: a zero byte adds nothing, and another its mechanism. Assumes nothing.
+-- `graph::dense::mark` meets its contract. A zero byte adds nothing, and another its mechanism. Assumes nothing.
 use borrow.Author.Needs.{needs}
 use Rattle.graph.proofs.MatrixTurns.{mark-none, mark-one, mark-room}
 use Rattle.graph.proofs.dense.mark.Statement.{statement}

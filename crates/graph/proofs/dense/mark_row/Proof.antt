@@ -1,10 +1,10 @@
--- `graph::dense::mark_row` meets its contract: the loop's invariant: up to `place` stand what stood before `start` and the marked of the first m. Assumes nothing.
+-- `graph::dense::mark_row` meets its contract. The invariant: up to `place` stand what stood before `start` and the marked of the first m. Assumes nothing.
 use mathlib.Core.List.{_++_, append-nil}
 use mathlib.Core.Path.{_≡_, refl, sym, _∙_}
 use Prim.Native.Nat.{_+_, _-_, _≤_}
 use native.Mathlib.Omega.{arith}
 use lib.ListN.{length, take}
-use Rattle.graph.specs.Lists.{passing, start}
+use Rattle.graph.specs.Lists.{passing}
 use Rattle.graph.specs.Steps.{nonzero, marks}
 use Rattle.graph.proofs.MatrixTurns.{row-turn-room, row-turn}
 use Rattle.graph.proofs.dense.mark_row.Statement.{statement}

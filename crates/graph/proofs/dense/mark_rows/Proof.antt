@@ -1,4 +1,4 @@
--- `graph::dense::mark_rows` meets its contract: the loop's invariant: up to `place` stand the entries of the first c checks, and their offsets are written. Assumes nothing.
+-- `graph::dense::mark_rows` meets its contract. The invariant: up to `place` stand the entries of the first c checks, and their offsets are written. Assumes nothing.
 use mathlib.Core.Path.{_≡_, refl, _∙_}
 use Prim.Native.Nat.{ℕ, _*_, suc, _+_, _-_, _<_, _≤_}
 use native.Mathlib.Omega.{arith}
@@ -8,7 +8,7 @@ use Rattle.graph.specs.Graph.{mechanismsOf, marked}
 use Rattle.graph.specs.Lists.{joined, start, offsets}
 use Rattle.graph.specs.Model.{countEdges}
 use Rattle.graph.specs.Steps.{marks}
-use Rattle.graph.proofs.BucketPass.{is-table}
+use Rattle.numbers.proofs.Loops.{is-table}
 use Rattle.graph.proofs.BucketTurns.{filled-turn}
 use Rattle.graph.proofs.MatrixTurns.{rows-room, rows-place, rows-turn, rows-base, rows-end, rows-none, offset-none}
 use Rattle.graph.proofs.dense.mark_rows.Statement.{statement}

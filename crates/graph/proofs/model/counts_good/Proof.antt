@@ -1,4 +1,4 @@
--- `graph::model::counts_good` meets its contract: the definition, with what each test ensures. Assumes nothing.
+-- `graph::model::counts_good` meets its contract. The definition, with what each test ensures. Assumes nothing.
 use borrow.Author.Needs.{needs}
 use Rattle.graph.proofs.model.counts_good.Statement.{statement}
 use Rattle.graph.proofs.model.counts_good.Tie as tie

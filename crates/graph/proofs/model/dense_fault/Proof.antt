@@ -1,4 +1,4 @@
--- `graph::model::dense_fault` meets its contract: each answer is the definition at what the tests before it said. Assumes nothing.
+-- `graph::model::dense_fault` meets its contract. Each answer is the definition at what the tests before it said. Assumes nothing.
 use mathlib.Core.Bool.{true, _&&_}
 use mathlib.Core.Path.{_≡_}
 use Prim.Native.Nat.{_*_}
@@ -8,13 +8,13 @@ use lib.ListN.{length}
 use borrow.Author.Needs.{needs}
 use borrow.Author.Tests.{not-true, not-false}
 use Rattle.numbers.proofs.Cases.{was-true, was-false}
-use Rattle.graph.specs.Steps.{fewCounts}
+use Rattle.graph.specs.Model.{countsGood}
 use Rattle.graph.proofs.DenseTests.{product-small, dense-1, dense-2, dense-3, dense-4, dense-5}
 use Rattle.graph.proofs.model.dense_fault.Statement.{statement}
 use Rattle.graph.proofs.model.dense_fault.Tie as tie
 
 -- what the first test told
-counts : (c : tie.Else1) → let s = c .before .before .before .args .s in fewCounts (s .checks) (s .mechanisms) ≡ true
+counts : (c : tie.Else1) → let s = c .before .before .before .args .s in countsGood (s .checks) (s .mechanisms) ≡ true
 counts c = was-true _ _ (c .before .counts-good .ensures) (c .if1 .left)
 
 -- what the second asks

@@ -1,4 +1,4 @@
--- `graph::model::detector_fault` meets its contract: each answer is the definition at what the tests said. Assumes nothing.
+-- `graph::model::detector_fault` meets its contract. Each answer is the definition at what the tests said. Assumes nothing.
 use mathlib.Core.Path.{sym, _∙_}
 use borrow.Author.Needs.{needs}
 use Rattle.graph.proofs.ModelTests.{detector-range, detector-repeat, detector-fine}

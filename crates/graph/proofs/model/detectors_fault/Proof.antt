@@ -1,4 +1,4 @@
--- `graph::model::detectors_fault` meets its contract: the loop's invariant: none of the first i refuses. Assumes nothing.
+-- `graph::model::detectors_fault` meets its contract. The invariant: none of the first i refuses. Assumes nothing.
 use mathlib.Core.Path.{_≡_, refl, sym}
 use Prim.Native.Nat.{_-_, _≤_}
 use native.Mathlib.Omega.{arith}

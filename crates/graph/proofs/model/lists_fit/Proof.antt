@@ -1,4 +1,4 @@
--- `graph::model::lists_fit` meets its contract: the definition, with what each test ensures. Assumes nothing.
+-- `graph::model::lists_fit` meets its contract. The definition, with what each test ensures. Assumes nothing.
 use borrow.Author.Needs.{needs}
 use Rattle.graph.proofs.model.lists_fit.Statement.{statement}
 use Rattle.graph.proofs.model.lists_fit.Tie as tie

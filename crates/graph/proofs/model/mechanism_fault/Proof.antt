@@ -1,4 +1,4 @@
--- `graph::model::mechanism_fault` meets its contract: each answer is the definition at what the first test said. Assumes nothing.
+-- `graph::model::mechanism_fault` meets its contract. Each answer is the definition at what the first test said. Assumes nothing.
 use mathlib.Core.Path.{sym, _∙_}
 use borrow.Author.Needs.{needs}
 use Rattle.graph.proofs.ModelTests.{mech-prior, mech-rest}

@@ -1,7 +1,6 @@
--- `graph::model::mechanisms_fault` meets its contract: the loop's invariant: none of the first m refuses; a mechanism's part lies within the detectors, which the offsets cut. Assumes nothing.
+-- `graph::model::mechanisms_fault` meets its contract. The invariant: none of the first m refuses; a mechanism's part lies within the detectors, which the offsets cut. Assumes nothing.
 use mathlib.Core.Path.{_≡_, refl, sym}
-use Prim.Native.Nat.{suc, _-_, _≤_}
-use native.Mathlib.Numerals.{add-one}
+use Prim.Native.Nat.{_-_, _≤_}
 use native.Mathlib.Omega.{arith}
 use lib.ListN.{length}
 use borrow.Author.Needs.{needs}
@@ -9,7 +8,7 @@ use Rattle.refusals.proofs.Tests.{first-refuse, first-go}
 use Rattle.refusals.specs.Tests.{firstOf}
 use Rattle.refusals.specs.declared.Answer.the-variants.{Done}
 use Rattle.graph.specs.Model.{mechanismFault}
-use Rattle.graph.proofs.Cuts.{offsets-rise}
+use Rattle.graph.proofs.Cuts.{cut-bounds}
 use Rattle.graph.proofs.ModelTests.{mech-at}
 use Rattle.graph.proofs.model.mechanisms_fault.Statement.{statement}
 use Rattle.graph.proofs.model.mechanisms_fault.Tie as tie
@@ -22,12 +21,7 @@ abbrev μ-loop : tie.MeasureT-loop
 
 -- a mechanism's part lies within the detectors
 bounds : (c : tie.After-at2 Inv-loop μ-loop) → (c .before .at .result ≤ c .at2 .result) × (c .at2 .result ≤ length (c .before .before .before .before .before .before .before .args .dets .now))
-bounds c =
-    let m = c .before .before .before .loop .m in
-    let h = c .before .before .loop-test .taken in
-    let o = c .before .before .before .before .before .before .before .pre .0 in
-    let e = rw add-one at (c .at2 .ensures) in
-    (omega (arith, e, c .before .at .ensures, o .rises m h), omega (arith, e, o .ends, offsets-rise _ _ _ o (suc m) (c .before .before .before .before .before .before .before .args .mechanisms) h (omega arith)))
+bounds c = cut-bounds _ _ _ (c .before .before .before .loop .m) _ _ (c .before .before .before .before .before .before .before .pre .0) (c .before .before .loop-test .taken) (c .before .at .ensures) (c .at2 .ensures)
 
 loop-holds : tie.Need-loop-holds Inv-loop μ-loop
 unfolding firstOf

@@ -1,4 +1,4 @@
--- `graph::model::model_fits` meets its contract: the definition, with what each test ensures. Assumes nothing.
+-- `graph::model::model_fits` meets its contract. The definition, with what each test ensures. Assumes nothing.
 use borrow.Author.Needs.{needs}
 use Rattle.graph.proofs.model.model_fits.Statement.{statement}
 use Rattle.graph.proofs.model.model_fits.Tie as tie

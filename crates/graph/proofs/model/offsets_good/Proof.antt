@@ -1,4 +1,4 @@
--- `graph::model::offsets_good` meets its contract: the definition, with what each test ensures. Assumes nothing.
+-- `graph::model::offsets_good` meets its contract. The definition, with what each test ensures. Assumes nothing.
 use borrow.Author.Needs.{needs}
 use Rattle.graph.specs.Model.{offsetsGood}
 use Rattle.graph.proofs.model.offsets_good.Statement.{statement}

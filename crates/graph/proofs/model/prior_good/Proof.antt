@@ -1,4 +1,4 @@
--- `graph::model::prior_good` meets its contract: each answer is the definition at what the first comparison said. Assumes nothing.
+-- `graph::model::prior_good` meets its contract. Each answer is the definition at what the first comparison said. Assumes nothing.
 use lib.Ieee.{neg, ofBits}
 use Rattle.graph.proofs.ModelTests.{prior-yes, prior-no}
 use Rattle.graph.proofs.model.prior_good.Statement.{statement}

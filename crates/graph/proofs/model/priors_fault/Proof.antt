@@ -1,13 +1,15 @@
--- `graph::model::priors_fault` meets its contract: the loop's invariant: none of the first m priors is refused. Assumes nothing.
+-- `graph::model::priors_fault` meets its contract. The invariant: none of the first m priors is refused. Assumes nothing.
 use mathlib.Core.Path.{_≡_, refl, sym}
 use Prim.Native.Nat.{_-_, _≤_}
 use native.Mathlib.Omega.{arith}
-use lib.ListN.{length}
+use lib.Ieee.{nan}
+use lib.ListN.{length, getD}
 use borrow.Author.Needs.{needs}
+use Rattle.refusals.proofs.Tests.{unless-refuse, unless-go}
 use Rattle.refusals.specs.Tests.{firstOf}
 use Rattle.refusals.specs.declared.Answer.the-variants.{Done}
-use Rattle.graph.specs.Model.{priorFault}
-use Rattle.graph.proofs.ModelTests.{prior-refuse, prior-go}
+use Rattle.refusals.specs.declared.Refusal.the-variants.{BadPrior}
+use Rattle.graph.specs.Model.{priorGood, priorFault}
 use Rattle.graph.proofs.model.priors_fault.Statement.{statement}
 use Rattle.graph.proofs.model.priors_fault.Tie as tie
 
@@ -31,7 +33,8 @@ prior-good-requires : tie.Need-prior-good-requires Inv-loop μ-loop
 prior-good-requires c κs = search needs
 
 returns : tie.Need-returns Inv-loop μ-loop
-returns c = prior-refuse _ (c .before .before .before .before .loop .m) _ _ (c .before .before .before .loop-test .taken) (c .before .before .before .before .loop .inv .1) (c .before .prior-good .ensures) (c .if1 .taken)
+unfolding priorFault
+returns c = unless-refuse (λ k. priorGood (getD (c .before .before .before .before .before .before .args .priors .now) k nan)) BadPrior (c .before .before .before .before .loop .m) _ _ (c .before .before .before .loop-test .taken) (c .before .before .before .before .loop .inv .1) (c .before .prior-good .ensures) (c .if1 .taken)
 
 add-m : tie.Need-add-m Inv-loop μ-loop
 add-m c = omega arith
@@ -40,7 +43,8 @@ loop-less : tie.Need-loop-less Inv-loop μ-loop
 loop-less c = omega arith
 
 loop-again : tie.Need-loop-again Inv-loop μ-loop
-loop-again c = (omega arith, prior-go _ (c .before .before .before .before .loop .m) _ (c .before .before .before .before .loop .inv .1) (c .before .prior-good .ensures) (c .if1 .left))
+unfolding priorFault
+loop-again c = (omega arith, unless-go (λ k. priorGood (getD (c .before .before .before .before .before .before .args .priors .now) k nan)) BadPrior (c .before .before .before .before .loop .m) _ (c .before .before .before .before .loop .inv .1) (c .before .prior-good .ensures) (c .if1 .left))
 
 returns-2 : tie.Need-returns-2 Inv-loop μ-loop
 returns-2 c = let e : c .before .loop .m ≡ length (c .before .before .before .args .priors .now) = omega arith in sym (rw e at (c .before .loop .inv .1))

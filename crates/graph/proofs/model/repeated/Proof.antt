@@ -1,4 +1,4 @@
--- `graph::model::repeated` meets its contract: the loop's invariant: d is not among the first j. Assumes nothing.
+-- `graph::model::repeated` meets its contract. The invariant: d is not among the first j. Assumes nothing.
 use mathlib.Core.Bool.{false}
 use mathlib.Core.Path.{_≡_, refl, sym}
 use Prim.Native.Nat.{_-_, _≤_}

@@ -1,4 +1,4 @@
--- `graph::model::rises` meets its contract: the loop's invariant: no offset up to r is below the one before it. Assumes nothing.
+-- `graph::model::rises` meets its contract. The invariant: no offset up to r is below the one before it. Assumes nothing.
 use mathlib.Core.Bool.{true}
 use mathlib.Core.Path.{_≡_, refl, sym}
 use Prim.Native.Nat.{_-_, _≤_}

@@ -1,4 +1,4 @@
--- `graph::model::sizes_good` meets its contract: the definition, with what each test ensures. Assumes nothing.
+-- `graph::model::sizes_good` meets its contract. The definition, with what each test ensures. Assumes nothing.
 use borrow.Author.Needs.{needs}
 use Rattle.graph.proofs.model.sizes_good.Statement.{statement}
 use Rattle.graph.proofs.model.sizes_good.Tie as tie

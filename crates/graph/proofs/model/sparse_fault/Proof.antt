@@ -1,19 +1,20 @@
--- `graph::model::sparse_fault` meets its contract: each answer is the definition at what the tests before it said. Assumes nothing.
+-- `graph::model::sparse_fault` meets its contract. Each answer is the definition at what the tests before it said. Assumes nothing.
 use mathlib.Core.Bool.{Bool, _&&_}
 use mathlib.Core.Path.{_≡_, ap, _∙_}
 use lib.ListN.{length}
 use borrow.Author.Needs.{needs}
 use Rattle.numbers.proofs.Cases.{was-true, was-false}
-use Rattle.graph.specs.Steps.{sparseLengths}
+use Rattle.graph.specs.Model.{sparseFits}
 use Rattle.graph.proofs.ModelTests.{offsets-told}
 use Rattle.graph.proofs.SparseTests.{sparse-1, sparse-2, sparse-3, sparse-4, Lengths, lengths-told}
 use Rattle.graph.proofs.model.sparse_fault.Statement.{statement}
 use Rattle.graph.proofs.model.sparse_fault.Tie as tie
 
 -- what the second test's flag says
-fit : (c : tie.After-both) → let a = c .before .before .before .before .before .before .before .args in c .both .result ≡ (sparseLengths (a .s .mechanisms) (a .s .edges) (length (a .priors .now)) (length (a .off .now)) (length (a .dets .now)) && a .fit)
+fit : (c : tie.After-both) → let a = c .before .before .before .before .before .before .before .args in c .both .result ≡ (sparseFits (a .s .mechanisms) (a .s .edges) (length (a .priors .now)) (length (a .off .now)) (length (a .dets .now)) && a .fit)
 fit c = c .both .ensures ∙ ap (λ (b : Bool). b && c .before .before .before .before .before .before .before .args .fit) (c .before .model-fits .ensures)
 
+-- the lengths that it tells
 lengths : (c : tie.Else2) → let a = c .before .before .before .before .before .before .before .before .args in Lengths (a .s .checks) (a .s .mechanisms) (a .s .edges) (a .priors .now) (a .off .now) (a .dets .now) (a .fit)
 lengths c = lengths-told _ _ _ _ _ _ _ (was-true _ _ (fit (c .before)) (c .if2 .left))
 

@@ -1,4 +1,4 @@
--- `graph::seven::checks_good` meets its contract: the loop's invariant: the first c checks are good; a check's part lies within the entries, which the offsets cut. Assumes nothing.
+-- `graph::seven::checks_good` meets its contract. The invariant: the first c checks are good; a check's part lies within the entries, which the offsets cut. Assumes nothing.
 use mathlib.Core.Bool.{Bool, true}
 use mathlib.Core.Path.{_≡_, refl, sym}
 use Prim.Native.Nat.{ℕ, _-_, _≤_}
@@ -8,7 +8,8 @@ use borrow.Author.Needs.{needs}
 use Rattle.numbers.proofs.Cases.{every-refuse, every-go}
 use Rattle.numbers.specs.Loops.{every}
 use Rattle.graph.specs.QuickTest.{checkGood}
-use Rattle.graph.proofs.QuickTurns.{check-is, cut-bounds}
+use Rattle.graph.proofs.Cuts.{cut-bounds}
+use Rattle.graph.proofs.QuickTurns.{check-is}
 use Rattle.graph.proofs.seven.checks_good.Statement.{statement}
 use Rattle.graph.proofs.seven.checks_good.Tie as tie
 

@@ -1,4 +1,4 @@
--- `graph::seven::entries_good` meets its contract: each answer is the definition at what the first test said. Assumes nothing.
+-- `graph::seven::entries_good` meets its contract. Each answer is the definition at what the first test said. Assumes nothing.
 use borrow.Author.Needs.{needs}
 use Rattle.numbers.proofs.Cases.{was-true, was-false}
 use Rattle.graph.proofs.QuickTests.{rises-told}

@@ -1,4 +1,4 @@
--- `graph::seven::is_graph` meets its contract: each answer is the quick test at what its parts said, and the quick test is the plain one (`test-is`). Assumes nothing.
+-- `graph::seven::is_graph` meets its contract. Each answer is the quick test at what its parts said, and the quick test is the plain one (`test-is`). Assumes nothing.
 use mathlib.Core.Path.{sym, _∙_}
 use borrow.Author.Needs.{needs}
 use Rattle.numbers.proofs.Cases.{was-true, was-false}
@@ -8,6 +8,7 @@ use Rattle.graph.proofs.QuickTurns.{whole-1, whole-2, whole-3, whole-4,
 use Rattle.graph.proofs.seven.is_graph.Statement.{statement}
 use Rattle.graph.proofs.seven.is_graph.Tie as tie
 
+-- the lists as one graph
 abbrev lists : tie.Start → Graph
 lists c = let a = c .args in graph (a .checks) (a .mechanisms) (a .check-var .now) (a .check-message .now) (a .check-offset .now) (a .var-check .now) (a .var-message .now) (a .var-offset .now)
 

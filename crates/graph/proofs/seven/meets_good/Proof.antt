@@ -1,4 +1,4 @@
--- `graph::seven::meets_good` meets its contract: the loop's invariant: the first i entries are good. Assumes nothing.
+-- `graph::seven::meets_good` meets its contract. The invariant: the first i entries are good. Assumes nothing.
 use mathlib.Core.Bool.{Bool, true}
 use mathlib.Core.Path.{_≡_, refl, sym}
 use Prim.Native.Nat.{ℕ, _-_, _≤_}

@@ -1,4 +1,4 @@
--- `graph::seven::met_good` meets its contract: each answer is the definition at what the tests before it said. Assumes nothing.
+-- `graph::seven::met_good` meets its contract. Each answer is the definition at what the tests before it said. Assumes nothing.
 use mathlib.Core.Path.{ap, _∙_}
 use Prim.Native.Nat.{ℕ}
 use lib.Dec.{eqb}

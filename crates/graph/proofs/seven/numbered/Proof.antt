@@ -1,4 +1,4 @@
--- `graph::seven::numbered` meets its contract: the loop's invariant: the first i have their own number. Assumes nothing.
+-- `graph::seven::numbered` meets its contract. The invariant: the first i have their own number. Assumes nothing.
 use mathlib.Core.Bool.{true}
 use mathlib.Core.Path.{_≡_, refl, sym}
 use Prim.Native.Nat.{_-_, _≤_}

@@ -1,4 +1,4 @@
--- `graph::seven::rises_below` meets its contract: the loop's invariant: the first i rise, and `least` is one more than the last of them. Assumes nothing.
+-- `graph::seven::rises_below` meets its contract. The invariant: the first i rise, and `least` is one more than the last of them. Assumes nothing.
 use mathlib.Core.Bool.{true}
 use mathlib.Core.Path.{_≡_, refl, sym}
 use Prim.Native.Nat.{_-_, _≤_}

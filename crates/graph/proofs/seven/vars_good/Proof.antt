@@ -1,4 +1,4 @@
--- `graph::seven::vars_good` meets its contract: the loop's invariant: the first v variables are good; a variable's part lies within the entries, which the offsets cut. Assumes nothing.
+-- `graph::seven::vars_good` meets its contract. The invariant: the first v variables are good; a variable's part lies within the entries, which the offsets cut. Assumes nothing.
 use mathlib.Core.Bool.{Bool, true}
 use mathlib.Core.Path.{_≡_, refl, sym}
 use Prim.Native.Nat.{ℕ, _-_, _≤_}
@@ -8,7 +8,8 @@ use Rattle.numbers.proofs.Cases.{every-refuse, every-go}
 use Rattle.numbers.specs.Loops.{every}
 use Rattle.graph.specs.Graph.{graph}
 use Rattle.graph.specs.QuickTest.{varGood}
-use Rattle.graph.proofs.QuickTurns.{var-is, cut-bounds, parts-long}
+use Rattle.graph.proofs.Cuts.{cut-bounds}
+use Rattle.graph.proofs.QuickTurns.{var-is, parts-long}
 use Rattle.graph.proofs.seven.vars_good.Statement.{statement}
 use Rattle.graph.proofs.seven.vars_good.Tie as tie
 

@@ -4,7 +4,7 @@ use mathlib.Core.Path.{_≡_, refl}
 use Prim.Native.Nat.{ℕ, _≤_, _<_, _-_}
 use native.Mathlib.Omega.{arith}
 use lib.ListN.{length, getD, length-set}
-use Rattle.orders_core.proofs.OrderWords.{index-order}
+use Rattle.numbers.proofs.Loops.{is-table}
 use Rattle.legs_core.proofs.Copies.{count-turn}
 use Rattle.legs_core.proofs.bytes.index_order.Statement.{statement}
 use Rattle.legs_core.proofs.bytes.index_order.Tie as tie
@@ -40,7 +40,7 @@ same-length : tie.Need-same-length Inv-loop μ-loop
 same-length c = omega arith
 
 returns : tie.Need-returns Inv-loop μ-loop
-returns c = let l = c .before .loop in index-order _ (l .order) (l .inv .1) (λ k h. l .inv .2 k (omega arith))
+returns c = let l = c .before .loop in is-table _ _ (l .order) (l .inv .1) (λ k h. l .inv .2 k (omega arith))
 
 pub index-order-spec : {M : Type 1} → statement M
 index-order-spec =

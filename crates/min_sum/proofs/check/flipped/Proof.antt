@@ -1,4 +1,4 @@
--- `min_sum::check::flipped` meets its contract: each arm is one case of the definition. Assumes nothing.
+-- `min_sum::check::flipped` meets its contract. Each arm is one case of the definition. Assumes nothing.
 use lib.Ieee.{ofBits}
 use Rattle.min_sum.specs.MinSum.{flippedBy}
 use Rattle.min_sum.proofs.check.flipped.Statement.{statement}

@@ -23,7 +23,7 @@ start-scan-requires c κs = search needs
 
 loop-holds : tie.Need-loop-holds Inv-loop μ-loop
 unfolding scan
-loop-holds c = (omega arith, c .start-scan .ensures, start-ordered _ _ _ _ 18446744073709551615 (c .before .before .args .odd) (c .start-scan .ensures))
+loop-holds c = (omega arith, c .start-scan .ensures, start-ordered _ _ _ _ 0xFFFF_FFFF_FFFF_FFFF (c .before .before .args .odd) (c .start-scan .ensures))
 
 mul-scanned : tie.Need-mul-scanned Inv-loop μ-loop
 mul-scanned c = omega arith

@@ -1,4 +1,4 @@
--- `min_sum::check::scanned` meets its contract: the sign and the two least are found each by itself. Assumes nothing.
+-- `min_sum::check::scanned` meets its contract. The sign and the two least are found each by itself. Assumes nothing.
 use mathlib.Core.Path.{_∙_}
 use Rattle.min_sum.specs.MinSum.{scanned}
 use borrow.Author.Needs.{needs}

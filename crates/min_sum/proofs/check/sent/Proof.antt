@@ -1,4 +1,4 @@
--- `min_sum::check::sent` meets its contract: it is the definition, with the sign found. Assumes nothing.
+-- `min_sum::check::sent` meets its contract. It is the definition, with the sign found. Assumes nothing.
 use borrow.Author.Needs.{needs}
 use Rattle.min_sum.proofs.check.sent.Statement.{statement}
 use Rattle.min_sum.proofs.check.sent.Tie as tie

@@ -1,4 +1,4 @@
--- `min_sum::check::sign_without` meets its contract: each arm is one case of the product's sign. Assumes nothing.
+-- `min_sum::check::sign_without` meets its contract. Each arm is one case of the product's sign. Assumes nothing.
 use lib.Ieee.{ofBits, neg}
 use borrow.Author.Needs.{needs}
 use Rattle.min_sum.specs.MinSum.{signWithout}

@@ -1,4 +1,4 @@
--- `min_sum::check::update_check` meets its contract: what is sent at all positions but the one of the least is right, and that one is put right. Assumes nothing.
+-- `min_sum::check::update_check` meets its contract. What is sent at all positions but the one of the least is right, and that one is put right. Assumes nothing.
 use Rattle.min_sum.proofs.Sends.{sends-next, sends-least}
 use borrow.Author.Needs.{needs}
 use Rattle.min_sum.proofs.check.update_check.Statement.{statement}

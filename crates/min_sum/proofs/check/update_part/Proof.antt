@@ -1,4 +1,4 @@
--- `min_sum::check::update_part` meets its contract: the part that comes back stands where the part lent stood. Assumes nothing.
+-- `min_sum::check::update_part` meets its contract. The part that comes back stands where the part lent stood. Assumes nothing.
 use borrow.Rule.Slice.PartMut.{post-is}
 use borrow.Author.Needs.{needs}
 use Rattle.min_sum.proofs.check.update_part.Statement.{statement}

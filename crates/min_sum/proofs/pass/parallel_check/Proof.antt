@@ -1,16 +1,16 @@
--- `min_sum::pass::parallel_check` meets its contract: the check's part lies within the entries; too few of them skip it, and others send. Assumes nothing.
+-- `min_sum::pass::parallel_check` meets its contract. The check's part lies within the entries; too few of them skip it, and others send. Assumes nothing.
 use Prim.Native.Nat.{_≤_}
 use native.Mathlib.Omega.{arith}
 use lib.ListN.{length}
 use borrow.Author.Needs.{needs}
-use Rattle.messages_core.proofs.Parts.{bounds}
+use Rattle.graph.proofs.Cuts.{cut-bounds}
 use Rattle.min_sum.proofs.Checks.{parallel-skips, parallel-sends}
 use Rattle.min_sum.proofs.pass.parallel_check.Statement.{statement}
 use Rattle.min_sum.proofs.pass.parallel_check.Tie as tie
 
 -- the check's part lies within the entries
 within : (c : tie.After-at2) → (c .before .at .result ≤ c .at2 .result) × (c .at2 .result ≤ length (c .before .before .before .before .before .before .before .args .check-var .now))
-within c = bounds _ _ _ (c .before .before .before .before .before .before .before .args .c) _ _ (c .before .before .before .before .before .before .before .pre .1 .0) (c .before .before .before .before .before .before .before .pre .0) (c .before .at .ensures) (c .at2 .ensures)
+within c = cut-bounds _ _ _ (c .before .before .before .before .before .before .before .args .c) _ _ (c .before .before .before .before .before .before .before .pre .1 .0) (c .before .before .before .before .before .before .before .pre .0) (c .before .at .ensures) (c .at2 .ensures)
 
 at-requires : tie.Need-at-requires
 at-requires c κs = search needs

@@ -1,17 +1,18 @@
--- `min_sum::pass::serial_check` meets its contract: the check's part lies within the entries; too few of them skip it, and others send and have their variables updated. Assumes nothing.
+-- `min_sum::pass::serial_check` meets its contract. The check's part lies within the entries; too few of them skip it, and others send and have their variables updated. Assumes nothing.
 use mathlib.Core.Path.{sym, _∙_}
 use Prim.Native.Nat.{_≤_}
 use native.Mathlib.Omega.{arith}
 use lib.ListN.{length}
 use borrow.Author.Needs.{needs}
-use Rattle.messages_core.proofs.Parts.{bounds, part-names, walks-along}
+use Rattle.graph.proofs.Cuts.{cut-bounds}
+use Rattle.messages_core.proofs.Parts.{part-names, walks-along}
 use Rattle.min_sum.proofs.Checks.{serial-skips, serial-sends}
 use Rattle.min_sum.proofs.pass.serial_check.Statement.{statement}
 use Rattle.min_sum.proofs.pass.serial_check.Tie as tie
 
 -- the check's part lies within the entries
 within : (c : tie.After-at2) → (c .before .at .result ≤ c .at2 .result) × (c .at2 .result ≤ length (c .before .before .before .before .before .before .before .before .before .before .args .check-var .now))
-within c = bounds _ _ _ (c .before .before .before .before .before .before .before .before .before .before .args .c) _ _ (c .before .before .before .before .before .before .before .before .before .before .pre .1 .0 .parts) (c .before .before .before .before .before .before .before .before .before .before .pre .0) (c .before .at .ensures) (c .at2 .ensures)
+within c = cut-bounds _ _ _ (c .before .before .before .before .before .before .before .before .before .before .args .c) _ _ (c .before .before .before .before .before .before .before .before .before .before .pre .1 .0 .parts) (c .before .before .before .before .before .before .before .before .before .before .pre .0) (c .before .at .ensures) (c .at2 .ensures)
 
 at-requires : tie.Need-at-requires
 at-requires c κs = search needs

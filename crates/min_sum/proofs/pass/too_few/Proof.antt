@@ -1,4 +1,4 @@
--- `min_sum::pass::too_few` meets its contract: the code is the definition's test. Assumes nothing.
+-- `min_sum::pass::too_few` meets its contract. The code is the definition's test. Assumes nothing.
 use mathlib.Core.Path.{refl}
 use Rattle.min_sum.proofs.pass.too_few.Statement.{statement}
 use Rattle.min_sum.proofs.pass.too_few.Tie as tie

@@ -1,4 +1,4 @@
--- `min_sum::run::chosen` meets its contract: each arm is one case of the two tests. Assumes nothing.
+-- `min_sum::run::chosen` meets its contract. Each arm is one case of the two tests. Assumes nothing.
 use lib.Ieee.{ofBits}
 use borrow.Author.Needs.{needs}
 use Rattle.min_sum.proofs.Rounds.{chosen-apart, chosen-raw, chosen-old}

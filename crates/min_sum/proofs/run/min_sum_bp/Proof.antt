@@ -1,4 +1,4 @@
--- `min_sum::run::min_sum_bp` meets its contract: what the rounds and the end rule leave is the run of the whole graph. Assumes nothing.
+-- `min_sum::run::min_sum_bp` meets its contract. What the rounds and the end rule leave is the run of the whole graph. Assumes nothing.
 use mathlib.Core.Path.{sym, _∙_}
 use borrow.Author.Needs.{needs}
 use Rattle.messages_core.proofs.Parts.{walks-along}

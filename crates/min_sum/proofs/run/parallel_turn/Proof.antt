@@ -1,4 +1,4 @@
--- `min_sum::run::parallel_turn` meets its contract: what its two passes leave is the iteration of the whole graph. Assumes nothing.
+-- `min_sum::run::parallel_turn` meets its contract. What its two passes leave is the iteration of the whole graph. Assumes nothing.
 use mathlib.Core.Path.{sym, _∙_}
 use borrow.Author.Needs.{needs}
 use Rattle.messages_core.proofs.Parts.{walks-along}

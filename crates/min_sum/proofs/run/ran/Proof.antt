@@ -1,4 +1,4 @@
--- `min_sum::run::ran` meets its contract: the cleared lists are the definition's zeros, and the posterior is cleared where a belief is not finite. Assumes nothing.
+-- `min_sum::run::ran` meets its contract. The cleared lists are the definition's zeros, and the posterior is cleared where a belief is not finite. Assumes nothing.
 use mathlib.Core.Path.{_∙_, ap}
 use lib.ListN.{replicate}
 use borrow.Author.Needs.{needs}

@@ -1,4 +1,4 @@
--- `min_sum::run::rounds` meets its contract: one round or two, from the priors; a round reads nothing of the messages before it. Assumes nothing.
+-- `min_sum::run::rounds` meets its contract. One round or two, from the priors; a round reads nothing of the messages before it. Assumes nothing.
 use mathlib.Core.Path.{_∙_}
 use borrow.Author.Needs.{needs}
 use Rattle.min_sum.proofs.Rounds.{one-round, two-rounds}
@@ -23,11 +23,8 @@ same-length-3 c = search needs
 returns : tie.Need-returns
 returns c = one-round _ _ _ _ _ _ _ _ _ (c .before .before .before .before .before .before .before .before .before .before .if1 .taken) (c .before .before .before .before .before .before .before .before .before .before .before .before .before .copy .ensures) (c .before .before .before .before .before .before .round .ensures)
 
-halves-requires : tie.Need-halves-requires
-halves-requires c κs = search needs
-
 two-rounds-requires : tie.Need-two-rounds-requires
-two-rounds-requires c κs = let p = c .before .before .before .before .before .before .before .before .before .before .before .before .before .before .before .before .before .before .pre in (p .0, (p .1 .0, (p .1 .1 .0, p .1 .1 .1, c .before .before .before .before .before .before .before .copy .kept .1 .0 ∙ p .1 .1 .2)))
+two-rounds-requires c κs = let p = c .before .before .before .before .before .before .before .before .before .before .before .before .before .before .before .before .before .pre in (p .0, (p .1 .0, (p .1 .1 .0, p .1 .1 .1, c .before .before .before .before .before .before .copy .kept .1 .0 ∙ p .1 .1 .2)))
 
 same-length-4 : tie.Need-same-length-4
 same-length-4 c = search needs
@@ -39,9 +36,7 @@ same-length-6 : tie.Need-same-length-6
 same-length-6 c = search needs
 
 returns-2 : tie.Need-returns-2
-returns-2 c =
-    let h = c .before .before .before .before .before .before .before .before .before .before .halves .ensures in
-    two-rounds _ _ _ _ _ _ _ _ _ _ _ (c .before .before .before .before .before .before .before .before .before .before .before .if1 .left) (c .before .before .before .before .before .before .before .before .before .before .before .before .before .before .copy .ensures) (h .0) (h .1) (c .before .before .before .before .before .before .two-rounds .ensures)
+returns-2 c = two-rounds _ _ _ _ _ _ _ _ _ (c .before .before .before .before .before .before .before .before .before .before .if1 .left) (c .before .before .before .before .before .before .before .before .before .before .before .before .before .copy .ensures) (c .before .before .before .before .before .before .two-rounds .ensures)
 
 pub rounds-spec : {M : Type 1} → statement M
 rounds-spec =
@@ -53,7 +48,6 @@ rounds-spec =
     same-length-2
     same-length-3
     returns
-    halves-requires
     two-rounds-requires
     same-length-4
     same-length-5

@@ -1,4 +1,4 @@
--- `min_sum::run::turn` meets its contract: each arm is one case of `serial`. Assumes nothing.
+-- `min_sum::run::turn` meets its contract. Each arm is one case of `serial`. Assumes nothing.
 use borrow.Author.Needs.{needs}
 use Rattle.min_sum.proofs.run.turn.Statement.{statement}
 use Rattle.min_sum.proofs.run.turn.Tie as tie

@@ -1,4 +1,4 @@
--- `min_sum::run::two_rounds` meets its contract: the second round starts from what the first leaves. Assumes nothing.
+-- `min_sum::run::two_rounds` meets its contract. The second round starts from what the first leaves. Assumes nothing.
 use mathlib.Core.Path.{ap, _∙_}
 use borrow.Author.Needs.{needs}
 use Rattle.min_sum.specs.MinSum.{round}

@@ -1,4 +1,4 @@
--- `min_sum::run::weight` meets its contract: the test says whether the iteration is the very first. Assumes nothing.
+-- `min_sum::run::weight` meets its contract. The test says whether the iteration is the very first. Assumes nothing.
 use mathlib.Core.Path.{_≡_, sym, _∙_}
 use mathlib.Core.Bool.{_&&_}
 use lib.Dec.{eqb}

@@ -1,4 +1,4 @@
--- `min_sum::tests::fault` meets its contract: the graph's tests refuse, or those of the run answer. Assumes nothing.
+-- `min_sum::tests::fault` meets its contract. The graph's tests refuse, or those of the run answer. Assumes nothing.
 use borrow.Author.Needs.{needs}
 use Rattle.refusals.proofs.Tests.{or-refused, or-passed}
 use Rattle.min_sum.proofs.tests.fault.Statement.{statement}

@@ -1,4 +1,4 @@
--- `min_sum::tests::lists_fit` meets its contract: what the calls ensure is the definition's conjunction. Assumes nothing.
+-- `min_sum::tests::lists_fit` meets its contract. What the calls ensure is the definition's conjunction. Assumes nothing.
 use borrow.Author.Needs.{needs}
 use Rattle.min_sum.proofs.tests.lists_fit.Statement.{statement}
 use Rattle.min_sum.proofs.tests.lists_fit.Tie as tie

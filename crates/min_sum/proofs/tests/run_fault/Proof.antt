@@ -1,4 +1,4 @@
--- `min_sum::tests::run_fault` meets its contract: each answer is the definition at what the tests before it said. Assumes nothing.
+-- `min_sum::tests::run_fault` meets its contract. Each answer is the definition at what the tests before it said. Assumes nothing.
 use borrow.Author.Needs.{needs}
 use Rattle.numbers.proofs.Cases.{was-true, was-false}
 use Rattle.refusals.specs.Tests.{unless, orElse}

@@ -1,4 +1,4 @@
--- `min_sum::variable::update_entries` meets its contract: what the two calls ensure, one after the other. Assumes nothing.
+-- `min_sum::variable::update_entries` meets its contract. What the two calls ensure, one after the other. Assumes nothing.
 use borrow.Author.Needs.{needs}
 use Rattle.min_sum.proofs.variable.update_entries.Statement.{statement}
 use Rattle.min_sum.proofs.variable.update_entries.Tie as tie

@@ -1,4 +1,4 @@
--- `numbers::SplitMix64::draw` meets its contract: the value is the definition, step by step, with what each call ensures. Assumes nothing.
+-- `numbers::SplitMix64::draw` meets its contract. The value is the definition, step by step, with what each call ensures. Assumes nothing.
 use borrow.Author.Needs.{needs}
 use Rattle.numbers.specs.Draw.{mixed}
 use Rattle.numbers.proofs.SplitMix64.draw.Statement.{statement}

@@ -23,7 +23,7 @@ at-requires : tie.Need-at-requires Inv-loop μ-loop
 at-requires c κs = omega arith
 
 shared-slice-read-p : tie.Need-shared-slice-read-p Inv-loop μ-loop
-shared-slice-read-p c = omega (arith, c .before .at .ensures, c .before .before .before .before .before .before .pre .names (c .before .before .before .loop .i) (c .before .before .loop-test .taken))
+shared-slice-read-p c = omega (arith, c .before .at .ensures, c .before .before .before .before .before .before .pre .small (c .before .before .before .loop .i) (c .before .before .loop-test .taken))
 
 add-i : tie.Need-add-i Inv-loop μ-loop
 add-i c = omega arith

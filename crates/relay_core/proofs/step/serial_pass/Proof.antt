@@ -31,7 +31,7 @@ serial-check-requires : tie.Need-serial-check-requires Inv-loop μ-loop
 serial-check-requires c κs =
     let s = c .before .before .before .before .before .before .before .before .before .before .before .before .before .before .before .before in
     let l = c .before .before .before .before .before .loop in
-    (omega (arith, c .before .before .before .at .ensures, s .pre .1 .1 .0 .names (l .i) (c .before .before .before .before .loop-test .taken)), (s .pre .0, (s .pre .1 .0, (l .inv .3 ∙ s .pre .1 .1 .1 .0, (l .inv .1 ∙ s .pre .1 .1 .1 .1 .0, l .inv .2 ∙ s .pre .1 .1 .1 .1 .1)))))
+    (omega (arith, c .before .before .before .at .ensures, s .pre .1 .1 .0 .small (l .i) (c .before .before .before .before .loop-test .taken)), (s .pre .0, (s .pre .1 .0, (l .inv .3 ∙ s .pre .1 .1 .1 .0, (l .inv .1 ∙ s .pre .1 .1 .1 .1 .0, l .inv .2 ∙ s .pre .1 .1 .1 .1 .1)))))
 
 add-i : tie.Need-add-i Inv-loop μ-loop
 add-i c = omega (arith, c .before .before .before .before .before .before .before .before .before .before .before .loop-test .taken, c .before .before .before .before .before .before .before .before .before .before .before .before .before .before .before .before .before .before .before .before .before .before .before .good)

@@ -1,5 +1,4 @@
--- `settings::Settings::published` meets its contract. Each literal is the definition's float, bit for bit.
--- Assumes nothing.
+-- `settings::Settings::published` meets its contract. Each literal is the definition's float, bit for bit. Assumes nothing.
 use mathlib.Core.Path.{refl}
 use lib.Ieee.{ofBits, neg}
 use Rattle.settings.proofs.Settings.published.Statement.{statement}
