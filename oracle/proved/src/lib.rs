@@ -295,11 +295,11 @@ impl Settings {
 
 /// The published operating point.
 pub fn published() -> Settings {
-    let (floats, counts) = calls::published();
+    let (schedule, floats, counts) = calls::published();
     let [alpha, gamma0, low, high] = floats;
     let [pre_iterations, num_legs, leg_iterations, stop] = counts.map(|count| count as usize);
     Settings {
-        serial: false,
+        serial: schedule != 0,
         alpha,
         gamma0,
         pre_iterations,
