@@ -1,6 +1,7 @@
 //! How much stack a call takes: of a thread whose stack is painted before it starts, how far down the paint is gone. Linux.
 
 use crate::models::sized;
+use proved::streams;
 use crate::refused::{GOOD, Lent};
 use std::ffi::{c_int, c_void};
 
@@ -63,5 +64,18 @@ pub fn run() -> Vec<(&'static str, usize)> {
         let most = most.into_iter().max().unwrap_or(0);
         rows.push((call, most));
     }
+    rows.push(("take", used(&mut read) - nothing));
     rows
+}
+
+/// A session over a stream with a surface code's shots.
+fn read() {
+    let mut session = streams::session_new();
+    let mut lists = vec![0; 3 * 8192];
+    let (payload, rest) = lists.split_at_mut(8192);
+    let (model, line) = rest.split_at_mut(8192);
+    let line = (&mut line[..512]).try_into().expect("512 bytes");
+    for &byte in include_bytes!("../../examples/surface.stream") {
+        streams::take(&mut session, byte, payload, model, line);
+    }
 }

@@ -2,8 +2,11 @@
  *
  * Graph: chowderkite_build_sparse, _build_dense, _count_edges, _check_graph.
  * Beliefs: chowderkite_beliefs.
- * Relay-BP: chowderkite_published, _check_settings, _decode, _decode_in_order, _leg_record, _iteration.
+ * Relay-BP: chowderkite_published, _alpha_good, _check_settings, _decode, _decode_in_order, _leg_record, _iteration.
+ * Refusals: chowderkite_number_of, _place_of.
  * Single numbers: chowderkite_magnitude and those that follow it.
+ * Record streams: chowderkite_session_new, _take, _finish, what they stand on (chowderkite_reader_new and those that follow
+ * it), and the lines (chowderkite_shot_line and those that follow it).
  *
  * What holds for every call:
  *
@@ -11,7 +14,8 @@
  *   caller; only that each pointer and its length are true, that a list which is written overlaps no other list, and that
  *   pointers are aligned as their type asks. A list of length 0 may have any pointer, NULL too.
  * - It has no heap and no globals. Calls in several threads are free as long as they don't share a list that is written.
- *   On x86-64 a decode takes 260 KiB of stack, whatever the model, and the single iteration 65 KiB; the others take little.
+ *   On x86-64 a decode takes 260 KiB of stack, whatever the model, a byte of a session STACK_TAKE, and the single iteration
+ *   65 KiB; the others take little.
  * - Its floats are IEEE 754 binary64, so the processor must be as a program starts: rounding to nearest even, and
  *   subnormals not flushed to zero. Linking with -ffast-math can change the second for a whole program.
  * - The numbers of checks, mechanisms and edges are said by the caller, and the lists must fit them: exactly, unless a
@@ -80,19 +84,25 @@ enum chowderkite_refusal {
                                               Place: the first check in the order that shares a mechanism with a
                                               higher check named before it */
     CHOWDERKITE_STATE_NOT_FINITE = 25,     /* single iteration: a message, posterior or gamma before it */
-    CHOWDERKITE_NON_FINITE = 30            /* a posterior after a leg or a run of beliefs; single iteration: a
+    CHOWDERKITE_NON_FINITE = 30,           /* a posterior after a leg or a run of beliefs; single iteration: a
                                               posterior or message after it. Place: first mechanism that has one */
+    CHOWDERKITE_CUT_RECORD = 40,           /* a stream that ends within a record */
+    CHOWDERKITE_UNKNOWN_KIND = 41,         /* a record of another kind than 1, 2 and 3 */
+    CHOWDERKITE_PAYLOAD_LENGTH = 42,       /* a payload of wrong length for its kind */
+    CHOWDERKITE_SHOT_TOO_EARLY = 43,       /* a shot before a model or settings */
+    CHOWDERKITE_BEYOND_ROOM = 44,          /* more than the room of a session */
+    CHOWDERKITE_BAD_SCHEDULE = 45          /* a schedule byte other than 0 and 1 */
 };
 
 /* The refusal's number, 0 for none. */
-static inline uint64_t chowderkite_number(uint64_t code) { return code % 65536; }
+uint64_t chowderkite_number_of(uint64_t code);
 
 /* The refusal's place. It is 0 too where the refusal has none: ask chowderkite_has_place. */
-static inline uint64_t chowderkite_place(uint64_t code) { return code / 65536; }
+uint64_t chowderkite_place_of(uint64_t code);
 
 /* Whether the refusal has a place: 4, 5, 6, 19, 21, 24 and 30 have. */
 static inline int chowderkite_has_place(uint64_t code) {
-    switch (chowderkite_number(code)) {
+    switch (chowderkite_number_of(code)) {
     case CHOWDERKITE_BAD_PRIOR:
     case CHOWDERKITE_DETECTOR_OUT_OF_RANGE:
     case CHOWDERKITE_DETECTOR_REPEATED:
@@ -209,10 +219,14 @@ uint64_t chowderkite_beliefs(
 #define CHOWDERKITE_EXPLICIT 1
 
 /* Writes the published operating point: floats are alpha, gamma0, gamma_low, gamma_high; counts are pre_iterations,
- * num_legs, leg_iterations, stop_after_converged. Its schedule is Flooding, and its gammas are drawn. Refuses nothing. */
-void chowderkite_published(
+ * num_legs, leg_iterations, stop_after_converged. Answers its schedule, which is Flooding; its gammas are drawn. Refuses
+ * nothing. */
+uint8_t chowderkite_published(
     double floats[4],
     uint64_t counts[4]);
+
+/* 1 if 10 passes an alpha, which is finite and above 0, else 0. Refuses nothing. */
+uint8_t chowderkite_alpha_good(double alpha);
 
 /* Tests settings as a decode over so many mechanisms does: 10 to 19. Length: gammas sets times mechanisms, of an explicit
  * source alone. Writes nothing. */
@@ -374,6 +388,9 @@ uint64_t chowderkite_iteration(
 /* The magnitude of x. A NaN stays one. */
 double chowderkite_magnitude(double x);
 
+/* Positive infinity. */
+double chowderkite_infinity(void);
+
 /* 1 if x is finite, else 0. */
 uint8_t chowderkite_is_finite(double x);
 
@@ -392,8 +409,138 @@ uint64_t chowderkite_next_state(uint64_t state);
 /* SplitMix64: the number that a draw from a state gives. Relayed leg r draws from the state seed xor (r + 1). */
 uint64_t chowderkite_draw(uint64_t state);
 
-/* The gamma of a draw: low + (high - low) times (the draw's top 53 bits times 2^-53). */
+/* A draw as a number from 0 to below 1: its top 53 bits times 2^-53. */
+double chowderkite_unit(uint64_t draw);
+
+/* The gamma of a draw: low + (high - low) times chowderkite_unit of it. */
 double chowderkite_gamma(double low, double high, uint64_t draw);
+
+/* ---- record streams
+ *
+ * A record is a u32 payload length, a u16 kind and the payload, all little-endian; kind 1 is a model, 2 settings, 3 a shot.
+ * A session reads a stream byte by byte, decodes its shots, and says what the program shots writes. Its room is 128 checks,
+ * 256 mechanisms, 512 edges and 16 relayed legs. The calls below it, over a reader and over single payloads, are for who
+ * wants the records themselves. None of these calls refuses anything, but where a code is answered it says what 40 to 45
+ * refuse. */
+
+/* A session's words; its settings' floats stand beside them. Who only feeds a session need not look at them. */
+enum chowderkite_session {
+    CHOWDERKITE_SESSION_READER = 0,        /* eight words: the reader, as below */
+    CHOWDERKITE_SESSION_MODEL_LENGTH = 8,  /* of the model's payload */
+    CHOWDERKITE_SESSION_HAS_MODEL = 9,     /* not 0 once there is a model */
+    CHOWDERKITE_SESSION_HAS_SETTINGS = 10, /* not 0 once there are settings */
+    CHOWDERKITE_SESSION_SHOTS = 11,        /* the number of the next shot */
+    CHOWDERKITE_SESSION_STOPPED = 12,      /* not 0 once a refusal has ended the run */
+    CHOWDERKITE_SESSION_SAID = 13,         /* the length of the line that is to be written now, 0 for none */
+    CHOWDERKITE_SESSION_SETTINGS = 14,     /* seven words: schedule, pre_iterations, num_legs, leg_iterations,
+                                              stop_after_converged, explicit, sets */
+    CHOWDERKITE_SESSION_WORDS = 21
+};
+
+/* What the payload of a record within the room has at most. */
+#define CHOWDERKITE_MAX_PAYLOAD 5132
+
+/* A session before the first byte of a stream. */
+void chowderkite_session_new(
+    size_t words[21],
+    double floats[4]);
+
+/* One byte of the stream. payload and model are lists of CHOWDERKITE_MAX_PAYLOAD bytes that stay with the session; what is to be
+ * written now is the front of line, as long as words[CHOWDERKITE_SESSION_SAID] says. With shorter lists the session answers as
+ * if what finds no room were not there. */
+void chowderkite_take(
+    size_t words[21],
+    double floats[4],
+    uint8_t byte,
+    uint8_t *payload, size_t payload_len,
+    uint8_t *model, size_t model_len,
+    uint8_t line[512]);
+
+/* The end of the stream: writes the last line and answers its length, 0 after a run that has ended before. */
+size_t chowderkite_finish(
+    const size_t words[21],
+    const double floats[4],
+    uint8_t line[512]);
+
+/* A reader before the first byte of the record at an offset. Its words: the record's offset, how many of its bytes were
+ * taken, its payload length, its kind, and of a model checks, mechanisms, edges and the sum of its degrees. */
+void chowderkite_reader_new(
+    size_t offset,
+    size_t reader[8]);
+
+/* 1 if the record has been read to its end, else 0. */
+uint8_t chowderkite_is_whole(
+    const size_t reader[8]);
+
+/* One byte of the stream; past a whole record the next begins. The payload's bytes are kept as far as the list has room. */
+void chowderkite_push(
+    size_t reader[8],
+    uint8_t byte,
+    uint8_t *payload, size_t payload_len);
+
+/* 41 to 45 of a record that has been read to its end. A byte that is not 0 says that there is a model, or settings. */
+uint64_t chowderkite_verdict(
+    const size_t reader[8],
+    const uint8_t *payload, size_t payload_len,
+    uint8_t has_model,
+    uint8_t has_settings);
+
+/* 40 at the end of a stream, unless it ends with a whole record or holds nothing. */
+uint64_t chowderkite_at_end(
+    const size_t reader[8]);
+
+/* Writes the checks, mechanisms and edges of a model's payload. */
+void chowderkite_read_counts(
+    const uint8_t *payload, size_t payload_len,
+    size_t counts[3]);
+
+/* Fills the lists that chowderkite_build_sparse takes from a model's payload, each as long as it is; lists of more than 256,
+ * 257 and 512 are left as they were, all three. */
+void chowderkite_read_model(
+    const uint8_t *payload, size_t payload_len,
+    double *priors, size_t priors_len,
+    uint32_t *detector_offsets, size_t detector_offsets_len,
+    uint32_t *detectors, size_t detectors_len);
+
+/* Writes the floats and counts of a settings' payload, as chowderkite_published does, and answers the schedule. */
+uint8_t chowderkite_read_settings(
+    const uint8_t *payload, size_t payload_len,
+    double floats[4],
+    uint64_t counts[4]);
+
+/* The seed of a shot's payload. The syndrome's bytes stand behind it, from the eighth on. */
+uint64_t chowderkite_read_seed(
+    const uint8_t *payload, size_t payload_len);
+
+/* 1 if a refusal with this number is said of a shot (20, 21, 30), 0 if it ends the run. */
+uint8_t chowderkite_is_of_shot(size_t number);
+
+/* The lines of shots, each written over the front of line: the answer is its length. A shot that was decoded; more than 256
+ * bits are no line, and the answer is 0. */
+size_t chowderkite_shot_line(
+    size_t number,
+    uint8_t converged,
+    size_t total,
+    size_t legs,
+    const uint8_t *bits, size_t bits_len,
+    uint8_t line[512]);
+
+/* A shot that was refused. */
+size_t chowderkite_refused_line(
+    size_t number,
+    size_t code,
+    uint8_t line[512]);
+
+/* A refusal that ends the run, with the offset of its record. */
+size_t chowderkite_stopped_line(
+    size_t code,
+    size_t offset,
+    uint8_t line[512]);
+
+/* The end of a run without one. */
+size_t chowderkite_end_line(
+    size_t shots,
+    uint8_t line[512]);
 
 #ifdef __cplusplus
 }

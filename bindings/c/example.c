@@ -16,6 +16,19 @@ static const uint32_t detector_offsets[MECHANISMS + 1] = {0, 1, 3, 4};
 static const uint32_t detectors[EDGES] = {0, 0, 1, 1};
 static const uint8_t syndrome[CHECKS] = {1, 0};
 
+/* The same model as a record stream, with settings and one shot: document 01's example, 141 bytes. */
+static const uint8_t stream[141] = {
+    64, 0, 0, 0, 1, 0, 2, 0, 0, 0, 3, 0, 0, 0, 4, 0,
+    0, 0, 0, 0, 0, 0, 0, 0, 16, 64, 1, 0, 0, 0, 0, 0,
+    0, 0, 0, 0, 16, 64, 2, 0, 0, 0, 0, 0, 0, 0, 0, 0,
+    16, 64, 1, 0, 0, 0, 0, 0, 0, 0, 0, 0, 0, 0, 1, 0,
+    0, 0, 1, 0, 0, 0, 49, 0, 0, 0, 2, 0, 0, 0, 0, 0,
+    0, 0, 0, 240, 63, 0, 0, 0, 0, 0, 0, 0, 0, 2, 0, 0,
+    0, 0, 0, 0, 0, 0, 0, 0, 0, 0, 0, 0, 0, 0, 0, 0,
+    0, 0, 0, 0, 0, 0, 0, 0, 0, 1, 0, 0, 0, 10, 0, 0,
+    0, 3, 0, 7, 0, 0, 0, 0, 0, 0, 0, 1, 0,
+};
+
 /* ---- the lists that the calls fill */
 
 typedef struct {
@@ -103,10 +116,10 @@ int main(void) {
         uint64_t code;
         memcpy(&before_graph, &g, sizeof g);
         code = build(bad, &g);
-        printf("refused with %u at mechanism %u\n", (unsigned)chowderkite_number(code), (unsigned)chowderkite_place(code));
+        printf("refused with %u at mechanism %u\n", (unsigned)chowderkite_number_of(code), (unsigned)chowderkite_place_of(code));
         expect("a prior of 31 is refused with 4 at its mechanism, 1",
-               chowderkite_number(code) == CHOWDERKITE_BAD_PRIOR && chowderkite_has_place(code)
-                   && chowderkite_place(code) == 1);
+               chowderkite_number_of(code) == CHOWDERKITE_BAD_PRIOR && chowderkite_has_place(code)
+                   && chowderkite_place_of(code) == 1);
         expect("and the graph lists are as they were", memcmp(&g, &before_graph, sizeof g) == 0);
     }
 
@@ -156,8 +169,8 @@ int main(void) {
         memcpy(&before, &d, sizeof d);
         code = decode(&g, CHOWDERKITE_CHECK_SERIAL, exchanged, &d);
         expect("R6: CheckSerial refuses order 1,0 with 24 at check 0",
-               chowderkite_number(code) == CHOWDERKITE_ORDER_EXCHANGED && chowderkite_has_place(code)
-                   && chowderkite_place(code) == 0);
+               chowderkite_number_of(code) == CHOWDERKITE_ORDER_EXCHANGED && chowderkite_has_place(code)
+                   && chowderkite_place_of(code) == 0);
         expect("and every list is as it was", memcmp(&d, &before, sizeof d) == 0);
     }
 
@@ -188,9 +201,53 @@ int main(void) {
         const uint64_t wanted_counts[4] = {80, 40, 60, 1};
         double floats[4];
         uint64_t counts[4];
-        chowderkite_published(floats, counts);
-        expect("the published operating point: alpha 1, gamma0 0.1, 80, 40 legs, 60, -0.24 to 0.66, stop 1",
-               memcmp(floats, wanted_floats, sizeof floats) == 0 && memcmp(counts, wanted_counts, sizeof counts) == 0);
+        const uint8_t schedule = chowderkite_published(floats, counts);
+        expect("the published operating point: Flooding, alpha 1, gamma0 0.1, 80, 40 legs, 60, -0.24 to 0.66, stop 1",
+               schedule == CHOWDERKITE_FLOODING && memcmp(floats, wanted_floats, sizeof floats) == 0 && memcmp(counts, wanted_counts, sizeof counts) == 0);
+    }
+
+    /* A session over the record stream, byte by byte. */
+    {
+        static uint8_t payload[CHOWDERKITE_MAX_PAYLOAD], model[CHOWDERKITE_MAX_PAYLOAD];
+        const char *const wanted = "shot 0 1 2 1 100\nend 1\n";
+        size_t words[CHOWDERKITE_SESSION_WORDS], length = 0, i;
+        double floats[4];
+        uint8_t line[512];
+        char text[1024];
+        chowderkite_session_new(words, floats);
+        for (i = 0; i < sizeof stream; i += 1) {
+            chowderkite_take(words, floats, stream[i], payload, sizeof payload, model, sizeof model, line);
+            memcpy(text + length, line, words[CHOWDERKITE_SESSION_SAID]);
+            length += words[CHOWDERKITE_SESSION_SAID];
+        }
+        i = chowderkite_finish(words, floats, line);
+        memcpy(text + length, line, i);
+        length += i;
+        expect("document 01's stream: shot 0 1 2 1 100, end 1",
+               length == strlen(wanted) && memcmp(text, wanted, length) == 0);
+    }
+
+    /* A reader over the same bytes: three whole records, the first of them the model. */
+    {
+        uint8_t payload[CHOWDERKITE_MAX_PAYLOAD];
+        size_t reader[8], counts[3] = {0, 0, 0}, records = 0, i;
+        int good = 1;
+        chowderkite_reader_new(0, reader);
+        for (i = 0; i < sizeof stream; i += 1) {
+            chowderkite_push(reader, stream[i], payload, sizeof payload);
+            if (chowderkite_is_whole(reader)) {
+                good = good && chowderkite_verdict(reader, payload, sizeof payload, records > 0, records > 1) == CHOWDERKITE_DONE;
+                if (records == 0) {
+                    chowderkite_read_counts(payload, sizeof payload, counts);
+                }
+                records += 1;
+            }
+        }
+        expect("a reader meets three records, and the model has 2 checks, 3 mechanisms, 4 edges",
+               good && records == 3 && counts[0] == CHECKS && counts[1] == MECHANISMS && counts[2] == EDGES
+                   && chowderkite_at_end(reader) == CHOWDERKITE_DONE);
+        chowderkite_push(reader, 1, payload, sizeof payload);
+        expect("a byte more is a cut record: 40", chowderkite_number_of(chowderkite_at_end(reader)) == CHOWDERKITE_CUT_RECORD);
     }
 
     printf("%d passed, %d failed\n", passed, failed);

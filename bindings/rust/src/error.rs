@@ -7,7 +7,7 @@ macro_rules! refusals {
     ($($(#[$more:meta])* $name:ident = $number:literal, $when:literal $(, at $place:literal)?;)*) => {
         /// Why a call refused, with document 01's number.
         ///
-        /// 40 to 45 are missing: they belong to the record stream, which this crate does not read.
+        /// 40 to 45 are missing: they belong to record streams, where [`Shots`](crate::Shots) says them in a line.
         ///
         /// ```
         /// use chowderkite::Refusal;

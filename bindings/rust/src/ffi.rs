@@ -172,12 +172,16 @@ pub fn iteration(
 
 /// The published operating point.
 pub fn published() -> RelayConfig {
-    let (floats, counts) = calls::published();
+    let (schedule, floats, counts) = calls::published();
     let [alpha, gamma0, low, high] = floats;
     let [pre_iterations, num_legs, leg_iterations, stop_after_converged] =
         counts.map(|count| count as usize);
     RelayConfig {
-        schedule: Schedule::Flooding,
+        schedule: if schedule == 0 {
+            Schedule::Flooding
+        } else {
+            Schedule::CheckSerial
+        },
         alpha,
         gamma0,
         pre_iterations,

@@ -67,6 +67,11 @@
 //! | sizes up to `u32` | [`MAX_CHECKS`], [`MAX_MECHANISMS`], [`MAX_EDGES`], [`MAX_COUNT`] |
 //! | checks in index order | [`RelayBp::decode_in_order`] and [`iteration()`] take others |
 //!
+//! # Record streams
+//!
+//! [`Shots`] reads a stream of models, settings and shots, as the program `shots` does, and hands out the lines. 40 to 45 are the
+//! refusals of streams; they end a run, and are said in its last line.
+//!
 //! # Threads, stack and floats
 //!
 //! There is no shared state. A decoder works in one thread at a time; clone it for others. A decode takes 260 KiB of stack on
@@ -82,12 +87,14 @@ mod graph;
 mod iteration;
 mod min_sum;
 mod relay;
+mod shots;
 
 pub use error::{Error, Refusal};
 pub use graph::{BpGraph, GraphLists};
 pub use iteration::{iteration, RelayState};
 pub use min_sum::{min_sum, min_sum_into, BpScratch};
 pub use relay::{GammaSource, LegOutcome, RelayBp, RelayConfig, RelayOutcome, Schedule};
+pub use shots::Shots;
 
 // The README's example is a test too.
 #[cfg(doctest)]

@@ -1,12 +1,10 @@
--- A code fits 64 bits, and lists of fixed length are written whole. Assumes nothing.
+-- A code fits 64 bits, and whether its number is 30. Assumes nothing.
 use Prim.Native.Nat.{ℕ, _<_, _+_}
-use mathlib.Core.Path.{_≡_, refl, _∙_, ap, sym}
-use mathlib.Core.List.{List, [], _∷_}
+use mathlib.Core.Path.{_≡_, _∙_, ap, sym}
 use native.Mathlib.Omega.{arith}
 use mathlib.Core.Bool.{true, false}
 use lib.Dec.{eqb}
 use borrow.Author.Tests.{eq-eqb, ne-eqb}
-use lib.ListN.{length, set}
 use Rattle.refusals.specs.declared.Refusal.{Refusal}
 use Rattle.refusals.specs.declared.Refusal.the-variants.{SizeAboveLimit, ModelListLength, BadDetectorOffsets, BadPrior, DetectorOutOfRange, DetectorRepeated, NoSuchGraph, BadAlpha, BadGamma0, BadIterations, TooManyLegs, BadLegIterations, BadGammaInterval, BadStop, NoGammaSets, GammaSetsLength, GammaNotFinite, SyndromeLength, SyndromeNotBinary, LentListLength, OrderNotEachOnce, OrderExchanged, StateNotFinite, NonFinite, CutRecord, UnknownKind, PayloadLength, ShotTooEarly, BeyondRoom, BadSchedule}
 use Rattle.refusals.specs.declared.Answer.{Answer}
@@ -58,28 +56,6 @@ place-small (At place) = omega arith
 pub code-as : (a : Answer) (r : Refusal) (p : Place) (n k : ℕ) → a ≡ Refused r → n ≡ numberOf r → p ≡ placeOf r → k ≡ placeCode p → n + k ≡ codeOf a
 code-as a r p n k is-refused is-number is-place is-code =
     ap (λ x. x + k) is-number ∙ (ap (λ x. numberOf r + x) (is-code ∙ ap placeCode is-place) ∙ sym (ap codeOf is-refused))
-
--- ---- lists of fixed length, written whole
-
-pub three-set : (xs : List ℕ) (a b c : ℕ) → length xs ≡ 3 → set (set (set xs 0 a) 1 b) 2 c ≡ a ∷ (b ∷ (c ∷ []))
-three-set [] a b c h = absurd (omega (arith, h))
-three-set (x ∷ []) a b c h = absurd (omega (arith, h))
-three-set (x ∷ (y ∷ [])) a b c h = absurd (omega (arith, h))
-three-set (x ∷ (y ∷ (z ∷ []))) a b c h = refl
-three-set (x ∷ (y ∷ (z ∷ (w ∷ ws)))) a b c h = absurd (omega (arith, h))
-
-pub four-set : {A : Type 0} (xs : List A) (a b c d : A) → length xs ≡ 4 → set (set (set (set xs 0 a) 1 b) 2 c) 3 d ≡ a ∷ (b ∷ (c ∷ (d ∷ [])))
-four-set [] a b c d h = absurd (omega (arith, h))
-four-set (x ∷ []) a b c d h = absurd (omega (arith, h))
-four-set (x ∷ (y ∷ [])) a b c d h = absurd (omega (arith, h))
-four-set (x ∷ (y ∷ (z ∷ []))) a b c d h = absurd (omega (arith, h))
-four-set (x ∷ (y ∷ (z ∷ (w ∷ [])))) a b c d h = refl
-four-set (x ∷ (y ∷ (z ∷ (w ∷ (v ∷ vs))))) a b c d h = absurd (omega (arith, h))
-
-pub one-set : {A : Type 0} (xs : List A) (a : A) → length xs ≡ 1 → set xs 0 a ≡ a ∷ []
-one-set [] a h = absurd (omega (arith, h))
-one-set (x ∷ []) a h = refl
-one-set (x ∷ (y ∷ ys)) a h = absurd (omega (arith, h))
 
 -- whether a refusal's number is 30, as the code finds it
 pub thirty : (n m : ℕ) → n ≡ m → n ≡ 30 → eqb m 30 ≡ true

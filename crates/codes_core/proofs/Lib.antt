@@ -1,2 +1,3 @@
--- The laws that stand by themselves, for the proofs of this crate.
+-- The laws that stand by themselves, for the proofs of this crate, and what a reader may rely on.
 mod Laws
+pub mod Theorems

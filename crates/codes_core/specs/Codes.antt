@@ -1,5 +1,5 @@
 -- How answers and settings pass through the C calling convention, as numbers and lists of fixed length. Definitions only. Assumes nothing.
-use Prim.Native.Nat.{ℕ, zero, suc, _+_, _*_, _%_}
+use Prim.Native.Nat.{ℕ, zero, suc, _+_, _*_, _/_, _%_}
 use mathlib.Core.Bool.{Bool, true, false, cond}
 use mathlib.Core.List.{List, [], _∷_}
 use lib.Dec.{eqb}
@@ -36,6 +36,14 @@ abbrev pub codeOf : Answer → ℕ
 codeOf Done = 0
 codeOf (Refused r) = numberOf r + placeCode (placeOf r)
 
+-- a refusal's number, out of its code
+abbrev pub numberIn : ℕ → ℕ
+numberIn code = code % 65536
+
+-- and its place, where it has one
+abbrev pub placeIn : ℕ → ℕ
+placeIn code = code / 65536
+
 -- ---- settings
 
 -- a byte that is 0 is Flooding
@@ -63,6 +71,19 @@ settingsOf schedule alpha gamma0 pre legs iterations low high stop explicit sets
       «stop_after_converged» = stop;
       «gamma_source» = sourceOf explicit sets;
     }
+
+-- a schedule as a byte
+abbrev pub byteOf : Schedule → ℕ
+byteOf Flooding = 0
+byteOf CheckSerial = 1
+
+-- the floats of settings: alpha, gamma0 and the interval's ends
+abbrev pub floatsIn : Settings → List Float
+floatsIn t = t .alpha ∷ (t .gamma0 ∷ (t .«gamma_low» ∷ (t .«gamma_high» ∷ [])))
+
+-- and their counts: pre_iterations, num_legs, leg_iterations, stop_after_converged
+abbrev pub countsIn : Settings → List ℕ
+countsIn t = t .«pre_iterations» ∷ (t .«num_legs» ∷ (t .«leg_iterations» ∷ (t .«stop_after_converged» ∷ [])))
 
 -- ---- a decode
 

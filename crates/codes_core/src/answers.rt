@@ -1,6 +1,6 @@
 // How answers pass: a bool as 1 or 0, an answer as one number.
 ghost use mathlib.Core.Path.{_≡_};
-ghost use Rattle.codes_core.specs.Codes.{bitOf, placeCode, codeOf};
+ghost use Rattle.codes_core.specs.Codes.{bitOf, placeCode, codeOf, numberIn, placeIn};
 use refusals::Answer;
 use refusals::Place;
 use refusals::number_of;
@@ -34,4 +34,18 @@ pub fn code(a: Answer) -> u64
         Answer::Done => 0,
         Answer::Refused(r) => (number_of(r) + place_code(place_of(r))) as u64,
     }
+}
+
+// A refusal's number, out of its code.
+pub fn number_in(code: u64) -> u64
+    ensures { λ r. ⌜ r ≡ numberIn code ⌝ }
+{
+    code % 65536
+}
+
+// A refusal's place, out of its code.
+pub fn place_in(code: u64) -> u64
+    ensures { λ r. ⌜ r ≡ placeIn code ⌝ }
+{
+    code / 65536
 }

@@ -5,18 +5,18 @@ use settings::Settings;
 ghost use mathlib.Core.Path.{_≡_};
 ghost use Rattle.codes_core.specs.Codes.{scheduleOf, sourceOf, settingsOf};
 
-// The schedule of a byte.
-pub fn schedule_of(byte: u8) -> Schedule
-    ensures { λ r. ⌜ r ≡ scheduleOf byte ⌝ }
+// The schedule of a word.
+pub fn schedule_of(word: usize) -> Schedule
+    ensures { λ r. ⌜ r ≡ scheduleOf word ⌝ }
 {
-    if byte == 0 {
+    if word == 0 {
         return Schedule::Flooding;
     }
     Schedule::CheckSerial
 }
 
 // Where the gammas come from.
-fn source_of(explicit: u8, sets: usize) -> GammaSource
+fn source_of(explicit: usize, sets: usize) -> GammaSource
     ensures { λ r. ⌜ r ≡ sourceOf explicit sets ⌝ }
 {
     if explicit == 0 {
@@ -27,7 +27,7 @@ fn source_of(explicit: u8, sets: usize) -> GammaSource
 
 // The settings of a call.
 pub fn settings_of(
-    schedule: u8,
+    schedule: usize,
     alpha: f64,
     gamma0: f64,
     pre_iterations: usize,
@@ -36,7 +36,7 @@ pub fn settings_of(
     gamma_low: f64,
     gamma_high: f64,
     stop_after_converged: usize,
-    explicit: u8,
+    explicit: usize,
     sets: usize,
 ) -> Settings
     ensures { λ r. ⌜ r ≡ settingsOf schedule alpha gamma0 «pre_iterations» «num_legs» «leg_iterations» «gamma_low» «gamma_high» «stop_after_converged» explicit sets ⌝ }

@@ -31,7 +31,7 @@ pub fn check_settings(
     ensures { λ r. ⌜ r ≡ codeOf (settingsFault (settingsOf schedule alpha gamma0 «pre_iterations» «num_legs» «leg_iterations» «gamma_low» «gamma_high» «stop_after_converged» explicit sets) mechanisms (now (gammas .entry))) ⌝ }
 {
     let t = settings_of(
-        schedule,
+        schedule as usize,
         alpha,
         gamma0,
         pre_iterations,
@@ -40,7 +40,7 @@ pub fn check_settings(
         gamma_low,
         gamma_high,
         stop_after_converged,
-        explicit,
+        explicit as usize,
         sets,
     );
     code(settings::check_settings(t, mechanisms, gammas))
@@ -94,7 +94,7 @@ pub fn decode_in_order(
         edges: edges,
     };
     let settings = settings_of(
-        schedule,
+        schedule as usize,
         alpha,
         gamma0,
         pre_iterations,
@@ -103,7 +103,7 @@ pub fn decode_in_order(
         gamma_low,
         gamma_high,
         stop_after_converged,
-        explicit,
+        explicit as usize,
         sets,
     );
     let decoded = relay::decode_in_order(
@@ -181,7 +181,7 @@ pub fn decode(
         edges: edges,
     };
     let settings = settings_of(
-        schedule,
+        schedule as usize,
         alpha,
         gamma0,
         pre_iterations,
@@ -190,7 +190,7 @@ pub fn decode(
         gamma_low,
         gamma_high,
         stop_after_converged,
-        explicit,
+        explicit as usize,
         sets,
     );
     let decoded = relay::decode(

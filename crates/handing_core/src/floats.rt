@@ -1,7 +1,8 @@
-// The calls of `numbers` whose answers are no single numbers: a bool passes as 1 or 0, and of a draw its value and the next state by themselves.
+// The calls of `numbers` and `settings` whose answers are no single numbers: a bool passes as 1 or 0, and of a draw its value and the next state by themselves.
 ghost use mathlib.Core.Path.{_≡_};
 ghost use Rattle.numbers.specs.Floats.{isFinite, isNegative};
 ghost use Rattle.numbers.specs.Draw.{advanced, mixed};
+ghost use Rattle.settings.specs.Settings.{alphaGood};
 ghost use Rattle.codes_core.specs.Codes.{bitOf};
 use codes_core::answers::bit;
 use numbers::SplitMix64;
@@ -35,4 +36,11 @@ pub fn draw(state: u64) -> u64
 {
     let drawn = SplitMix64::new(state).draw();
     drawn.value
+}
+
+// `settings::alpha_good`.
+pub fn alpha_good(alpha: f64) -> u8
+    ensures { λ r. ⌜ r ≡ bitOf (alphaGood alpha) ⌝ }
+{
+    bit(settings::alpha_good(alpha))
 }

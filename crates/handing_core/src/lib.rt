@@ -5,4 +5,6 @@ pub mod floats;
 pub mod graphs;
 pub mod legs;
 pub mod point;
+pub mod reading;
+pub mod sessions;
 pub mod steps;

@@ -47,7 +47,7 @@ pub fn iteration(
         var_check,
         var_message,
         var_offset,
-        schedule_of(schedule),
+        schedule_of(schedule as usize),
         alpha,
         gamma,
         syndrome,

@@ -9,6 +9,7 @@ mod given;
 mod graphs;
 mod numbers;
 mod progress;
+mod records;
 mod rounds;
 mod steps;
 mod table;
@@ -21,14 +22,14 @@ use std::process::ExitCode;
 use std::time::Duration;
 
 const USAGE: &str = "usage: oracle/beside [KIND] [--minutes M | --rounds N | --round R] [--seed S]
-  KIND         numbers, graphs, beliefs, iterations or decodes; without it, everything
+  KIND         numbers, graphs, beliefs, iterations, decodes or streams; without it, everything
   --minutes M  as many rounds as M minutes hold; 1 if nothing is said
   --rounds N   the first N rounds
   --round R    round R alone, from 0, and all that is known of what fails
   --seed S     the seed, 1 if nothing is said";
 
 /// A kind's place and a part's place in it choose the part's random numbers.
-const KINDS: [Kind; 5] = [
+const KINDS: [Kind; 6] = [
     Kind {
         name: "numbers",
         parts: numbers::PARTS,
@@ -48,6 +49,10 @@ const KINDS: [Kind; 5] = [
     Kind {
         name: "decodes",
         parts: decodes::PARTS,
+    },
+    Kind {
+        name: "streams",
+        parts: records::PARTS,
     },
 ];
 

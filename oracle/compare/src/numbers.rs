@@ -1,4 +1,4 @@
-//! The calls of the crate `numbers` against Rust's own operations.
+//! The calls over single numbers against Rust's own operations.
 
 use crate::counts::Counts;
 use crate::rounds::{Part, Rate};
@@ -58,7 +58,12 @@ fn case(_: u64, g: &mut SplitMix64, counts: &mut Counts) {
         && proved::wrapping_mul(a, b) == a.wrapping_mul(b)
         && proved::draw(a) == draw
         && proved::next_state(a) == other.state()
-        && same(proved::gamma(low, high, draw), low + (high - low) * unit);
+        && same(proved::unit(draw), unit)
+        && same(proved::gamma(low, high, draw), low + (high - low) * unit)
+        && same(proved::infinity(), f64::INFINITY)
+        && proved::alpha_good(x) == (x.is_finite() && x > 0.0)
+        && (proved::number_of(a), proved::place_of(a)) == (a & 0xFFFF, a >> 16)
+        && proved::is_of_shot(b % 64) == [20, 21, 30].contains(&(b % 64));
     counts.check("numbers", Ok(()), good, || {
         format!("x {x:e}, interval {low:e} to {high:e}, numbers {a:x} and {b:x}")
     });

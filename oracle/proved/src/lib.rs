@@ -6,11 +6,22 @@
 use chowderkite_sys::calls;
 
 pub use calls::count_edges;
+pub use chowderkite_sys::streams;
 pub use chowderkite_sys::{
-    chowderkite_draw as draw, chowderkite_gamma as gamma, chowderkite_magnitude as magnitude,
-    chowderkite_message_sign as message_sign, chowderkite_next_state as next_state,
+    chowderkite_draw as draw, chowderkite_gamma as gamma, chowderkite_infinity as infinity,
+    chowderkite_magnitude as magnitude, chowderkite_message_sign as message_sign,
+    chowderkite_next_state as next_state, chowderkite_number_of as number_of,
+    chowderkite_place_of as place_of, chowderkite_unit as unit,
     chowderkite_wrapping_mul as wrapping_mul,
 };
+
+pub fn alpha_good(alpha: f64) -> bool {
+    chowderkite_sys::chowderkite_alpha_good(alpha) == 1
+}
+
+pub fn is_of_shot(number: u64) -> bool {
+    chowderkite_sys::chowderkite_is_of_shot(number as usize) == 1
+}
 
 pub fn is_finite(x: f64) -> bool {
     chowderkite_sys::chowderkite_is_finite(x) == 1
@@ -295,11 +306,11 @@ impl Settings {
 
 /// The published operating point.
 pub fn published() -> Settings {
-    let (floats, counts) = calls::published();
+    let (schedule, floats, counts) = calls::published();
     let [alpha, gamma0, low, high] = floats;
     let [pre_iterations, num_legs, leg_iterations, stop] = counts.map(|count| count as usize);
     Settings {
-        serial: false,
+        serial: schedule != 0,
         alpha,
         gamma0,
         pre_iterations,

@@ -1,19 +1,11 @@
 //! What `shots` must write for a stream, worked out apart from it; the program beside that on random streams; and the gate's streams.
 
-mod compare;
-mod counts;
-mod decode;
-mod expect;
-mod gate;
-mod program;
-mod random;
-mod stream;
-
 use oracle::tally::Tally;
 use oracle::toolchain;
-use program::Program;
 use std::io::Read;
 use std::process::ExitCode;
+use streams::program::Program;
+use streams::{compare, expect, gate};
 
 const USAGE: &str = "\
 usage: oracle/shots expect FILE                            what shots must write for a stream; - is standard input

@@ -241,15 +241,15 @@ pub fn beliefs(
     }
 }
 
-/// The published operating point: alpha, gamma0, gamma_low and gamma_high; pre_iterations, num_legs, leg_iterations and
-/// stop_after_converged.
+/// The published operating point: its schedule; alpha, gamma0, gamma_low and gamma_high; pre_iterations, num_legs, leg_iterations
+/// and stop_after_converged.
 #[inline]
 #[must_use]
-pub fn published() -> ([f64; 4], [u64; 4]) {
+pub fn published() -> (u8, [f64; 4], [u64; 4]) {
     let (mut floats, mut counts) = ([0.0; 4], [0; 4]);
     // SAFETY: both are arrays of the length that the call writes, and apart.
-    unsafe { crate::chowderkite_published(&mut floats, &mut counts) };
-    (floats, counts)
+    let schedule = unsafe { crate::chowderkite_published(&mut floats, &mut counts) };
+    (schedule, floats, counts)
 }
 
 /// Tests settings over so many mechanisms.

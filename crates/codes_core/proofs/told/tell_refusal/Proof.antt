@@ -1,4 +1,5 @@
 -- `codes_core::told::tell_refusal` meets its contract: 30 writes zeros, and any other refusal nothing. Assumes nothing.
+use mathlib.Core.Path.{refl}
 use lib.Ieee.{ofBits}
 use Rattle.codes_core.proofs.Laws.{thirty, not-thirty}
 use borrow.Author.Needs.{needs}
@@ -8,37 +9,18 @@ use Rattle.codes_core.proofs.told.tell_refusal.Tie as tie
 number-of-requires : tie.Need-number-of-requires
 number-of-requires c κs = search needs
 
-put-requires : tie.Need-put-requires
-put-requires c κs = search needs
-
 code-requires : tie.Need-code-requires
 code-requires c κs = search needs
 
-same-length : tie.Need-same-length
-same-length c = search needs
-
-same-length-2 : tie.Need-same-length-2
-same-length-2 c = search needs
-
 returns : tie.Need-returns
 unfolding ofBits
-returns c = (c .code .ensures, (rw (thirty _ _ (c .before .before .before .before .before .before .before .before .before .number-of .ensures) (c .before .before .before .before .before .before .before .before .if1 .taken)) (c .before .before .before .before .before .put .ensures .0), rw (thirty _ _ (c .before .before .before .before .before .before .before .before .before .number-of .ensures) (c .before .before .before .before .before .before .before .before .if1 .taken)) (c .before .before .before .before .before .put .ensures .1)))
+returns c = (c .code .ensures, rw (thirty _ _ (c .before .before .before .before .number-of .ensures) (c .before .before .before .if1 .taken)) (refl, refl))
 
 code-requires-2 : tie.Need-code-requires-2
 code-requires-2 c κs = search needs
 
 returns-2 : tie.Need-returns-2
-returns-2 c = (c .code2 .ensures, (rw (not-thirty _ _ (c .before .before .number-of .ensures) (c .before .if1 .left)), rw (not-thirty _ _ (c .before .before .number-of .ensures) (c .before .if1 .left))))
+returns-2 c = (c .code2 .ensures, rw (not-thirty _ _ (c .before .before .number-of .ensures) (c .before .if1 .left)) (refl, refl))
 
 pub tell-refusal-spec : {M : Type 1} → statement M
-tell-refusal-spec =
-    tie.close
-    (tie.spec
-    number-of-requires
-    put-requires
-    code-requires
-    same-length
-    same-length-2
-    returns
-    code-requires-2
-    returns-2)
+tell-refusal-spec = tie.close (tie.spec number-of-requires code-requires returns code-requires-2 returns-2)

@@ -1,0 +1,74 @@
+//! Record streams.
+
+use chowderkite_sys::streams::{self, Line};
+
+/// Where a session's word stands that says how long the line is.
+const SAID: usize = 13;
+/// The longest payload within the room: 256 mechanisms and 512 edges.
+const MAX_PAYLOAD: usize = 12 + 12 * 256 + 4 * 512;
+
+/// A run of the program `shots` over a record stream that is fed in pieces of any size: the proved session, with its lists.
+///
+/// Document 01 has the stream's records and the lines; `./shots --help` and `tools/stream` in the repository say the same. Its room is
+/// 128 checks, 256 mechanisms, 512 edges and 16 relayed legs.
+///
+/// ```
+/// use chowderkite::Shots;
+///
+/// // Model G, settings, and one shot: document 01's example.
+/// let stream = include_bytes!(concat!(env!("CARGO_MANIFEST_DIR"), "/../../examples/g.stream"));
+/// let mut shots = Shots::new();
+/// let mut text = shots.feed(&stream[..70]);
+/// text.extend(shots.feed(&stream[70..]));
+/// text.extend(shots.finish());
+/// assert_eq!(String::from_utf8(text).unwrap(), "shot 0 1 2 1 100\nend 1\n");
+/// ```
+#[derive(Clone, Debug)]
+pub struct Shots {
+    session: streams::Session,
+    payload: Vec<u8>,
+    model: Vec<u8>,
+    line: Line,
+}
+
+impl Default for Shots {
+    fn default() -> Self {
+        Self::new()
+    }
+}
+
+impl Shots {
+    /// Before the first byte.
+    #[must_use]
+    pub fn new() -> Self {
+        Self {
+            session: streams::session_new(),
+            payload: vec![0; MAX_PAYLOAD],
+            model: vec![0; MAX_PAYLOAD],
+            line: [0; 512],
+        }
+    }
+
+    /// The next bytes of the stream, and the lines that are to be written now.
+    pub fn feed(&mut self, bytes: &[u8]) -> Vec<u8> {
+        let mut text = Vec::new();
+        for &byte in bytes {
+            streams::take(
+                &mut self.session,
+                byte,
+                &mut self.payload,
+                &mut self.model,
+                &mut self.line,
+            );
+            text.extend_from_slice(&self.line[..self.session.words[SAID]]);
+        }
+        text
+    }
+
+    /// The end of the stream: the last line, or nothing after a run that a refusal has ended.
+    #[must_use]
+    pub fn finish(mut self) -> Vec<u8> {
+        let said = streams::finish(&self.session, &mut self.line);
+        self.line[..said].to_vec()
+    }
+}

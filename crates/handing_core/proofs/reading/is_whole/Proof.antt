@@ -1,0 +1,22 @@
+-- `handing_core::reading::is_whole` meets its contract: the bit of what `records::is_whole` answers of the reader that its words are. Assumes nothing.
+use mathlib.Core.Path.{_∙_, ap}
+use Rattle.records.specs.Reading.{isWhole}
+use Rattle.codes_core.specs.Codes.{bitOf}
+use borrow.Author.Needs.{needs}
+use Rattle.handing_core.proofs.reading.is_whole.Statement.{statement}
+use Rattle.handing_core.proofs.reading.is_whole.Tie as tie
+
+reader-of-requires : tie.Need-reader-of-requires
+reader-of-requires c κs = search needs
+
+is-whole-requires : tie.Need-is-whole-requires
+is-whole-requires c κs = search needs
+
+bit-requires : tie.Need-bit-requires
+bit-requires c κs = search needs
+
+returns : tie.Need-returns
+returns c = c .bit .ensures ∙ ap bitOf (c .before .is-whole .ensures ∙ ap isWhole (c .before .before .reader-of .ensures))
+
+pub is-whole-spec : {M : Type 1} → statement M
+is-whole-spec = tie.close (tie.spec reader-of-requires is-whole-requires bit-requires returns)

@@ -1,0 +1,27 @@
+-- `handing_core::reading::push` meets its contract: the words of the reader that `records::push` leaves, and the payload. Assumes nothing.
+use mathlib.Core.Path.{_∙_, ap}
+use Rattle.records.specs.Reading.{Held}
+use Rattle.words_core.specs.Words.{readerWords}
+use borrow.Author.Needs.{needs}
+use Rattle.handing_core.proofs.reading.push.Statement.{statement}
+use Rattle.handing_core.proofs.reading.push.Tie as tie
+
+reader-of-requires : tie.Need-reader-of-requires
+reader-of-requires c κs = search needs
+
+push-requires : tie.Need-push-requires
+push-requires c κs = search needs
+
+put-reader-requires : tie.Need-put-reader-requires
+put-reader-requires c κs = search needs
+
+same-length : tie.Need-same-length
+same-length c = search needs
+
+returns : tie.Need-returns
+returns c =
+    let e = rw (c .before .before .before .before .before .before .reader-of .ensures) at (c .before .before .before .before .push .ensures) in
+    (c .put-reader .ensures ∙ ap (λ (h : Held). readerWords (h .reader)) e, ap (λ (h : Held). h .kept) e)
+
+pub push-spec : {M : Type 1} → statement M
+push-spec = tie.close (tie.spec reader-of-requires push-requires put-reader-requires same-length returns)
