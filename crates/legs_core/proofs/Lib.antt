@@ -1,2 +1,3 @@
+-- The laws that stand by themselves, for the proofs of this crate and of those above it.
 pub mod Copies
 pub mod Records

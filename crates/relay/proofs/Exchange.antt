@@ -16,7 +16,7 @@ use Rattle.graph.specs.Lists.{has}
 use Rattle.graph.specs.Graph.{Graph, checkEntries, varEntries}
 use Rattle.graph.specs.Messages.{total}
 use Rattle.graph.proofs.Sound.{Sound}
-use Rattle.graph.proofs.Cuts.{offsets-rise}
+use Rattle.graph.proofs.Cuts.{offsets-rise, row-end}
 use Rattle.relay_core.specs.Step.{State, state, sentTo, checkMessages, updateCheck, written, updateVariable, serialCheck}
 use Rattle.orders_core.specs.Order.{shares}
 use Rattle.orders_core.proofs.All.{All, nil, cons, all-map, all-places, all-at, all-head, all-tail, any-none, or-left, or-right}
@@ -140,7 +140,7 @@ module _ (g : Graph) (sound : Sound g) (alpha : Float) (syndrome : List ℕ) (bi
 
   -- a check's part ends within the entries
   part-ends : (c : ℕ) → c < g .checks → start (suc c) ≤ length (g .checkVar)
-  part-ends c h = omega (arith, sound .check-parts .ends, offsets-rise (g .checks) (length (g .checkVar)) (g .checkOffset) (sound .check-parts) (suc c) (g .checks) h (omega arith))
+  part-ends c h = row-end (g .checks) (length (g .checkVar)) (g .checkOffset) (sound .check-parts) c h
 
   -- each entry of a mechanism is a message of its own
   owned : (v k : ℕ) → v < g .mechanisms → k < length (varEntries g v) → Owns (g .checkVar) v (getD (varEntries g v) k 0)

@@ -1,3 +1,4 @@
+-- The laws that stand by themselves, and what a reader may rely on.
 pub mod Rearrange
 pub mod Witness
 pub mod Exchange

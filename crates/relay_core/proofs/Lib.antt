@@ -1,3 +1,4 @@
+-- The laws that stand by themselves, for the proofs of this crate and of those above it.
 pub mod Parts
 pub mod Variables
 pub mod Passes

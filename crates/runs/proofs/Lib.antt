@@ -1,1 +1,2 @@
+-- The proof of the table of runs.
 pub mod Theorems

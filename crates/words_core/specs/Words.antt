@@ -14,6 +14,7 @@ use Rattle.codes_core.specs.Codes.{bitOf, byteOf, settingsOf, floatsIn}
 
 -- ---- a reader: eight words, in the order of its fields
 
+-- a reader out of its words
 abbrev pub readerOf : List ℕ → Reader
 readerOf w =
     record {
@@ -27,6 +28,7 @@ readerOf w =
       degrees = getD w 7 0;
     }
 
+-- a reader's words
 abbrev pub readerWords : Reader → List ℕ
 readerWords r = r .offset ∷ (r .taken ∷ (r .length ∷ (r .kind ∷ (r .checks ∷ (r .mechanisms ∷ (r .edges ∷ (r .degrees ∷ [])))))))
 
@@ -47,11 +49,13 @@ abbrev pub setsWord : GammaSource → ℕ
 setsWord Seeded = 0
 setsWord (Explicit sets) = sets
 
+-- a session out of its words and its settings' floats
 abbrev pub sessionOf : List ℕ → List Float → Session
 sessionOf w f =
     let settings = settingsOf (getD w 14 0) (getD f 0 nan) (getD f 1 nan) (getD w 15 0) (getD w 16 0) (getD w 17 0) (getD f 2 nan) (getD f 3 nan) (getD w 18 0) (getD w 19 0) (getD w 20 0) in
     session (readerOf w) (known (getD w 8 0) (isSet (getD w 9 0)) settings (isSet (getD w 10 0))) (getD w 11 0) (isSet (getD w 12 0)) (getD w 13 0)
 
+-- a session's words
 abbrev pub sessionWords : Session → List ℕ
 sessionWords s =
     let r = s .reader in
