@@ -119,7 +119,7 @@ fn main() -> ExitCode {
     if word == Some("--write")
         && let Err(why) = write(&rows, &stack, &machine)
     {
-        eprintln!("bench: nothing written: {why}");
+        eprintln!("bench: not all was written: {why}");
         return ExitCode::FAILURE;
     }
     ExitCode::SUCCESS

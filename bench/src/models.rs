@@ -144,7 +144,7 @@ impl Sized {
         order
     }
 
-    /// An order that CheckSerial refuses at the last check: the last two exchanged.
+    /// An order that CheckSerial refuses at its last place: the highest check that shares a mechanism with the last one is moved behind all.
     pub fn late_order(&self, lists: &Lists) -> Vec<u32> {
         let mut order = self.index_order();
         let last = order.len() - 1;

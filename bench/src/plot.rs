@@ -106,14 +106,6 @@ fn across(edges: f64) -> f64 {
     WIDE * (0.04 + 0.92 * (edges / first).ln() / (last / first).ln())
 }
 
-fn edges_told(edges: usize) -> String {
-    match edges {
-        1_048_576 => "1,048,576".into(),
-        _ if edges >= 1000 => format!("{},{:03}", edges / 1000, edges % 1000),
-        _ => edges.to_string(),
-    }
-}
-
 fn panel(out: &mut String, panel: &Panel, rows: &[Row], left: f64, top: f64) -> std::fmt::Result {
     let mut lines: Vec<(Points, &str, bool)> = Vec::new();
     for &(call, way, dashed) in panel.lines {
@@ -163,7 +155,7 @@ fn panel(out: &mut String, panel: &Panel, rows: &[Row], left: f64, top: f64) -> 
              <text class=\"small\" x=\"{x:.1}\" y=\"{:.1}\" text-anchor=\"middle\">{}</text>",
             HIGH + 5.0,
             HIGH + 18.0,
-            edges_told(edges)
+            grouped(edges)
         )?;
     }
     writeln!(

@@ -1,8 +1,8 @@
 //! How much stack a call takes: of a thread whose stack is painted before it starts, how far down the paint is gone. Linux.
 
 use crate::models::sized;
-use proved::streams;
 use crate::refused::{GOOD, Lent};
+use proved::streams::{self, MAX_PAYLOAD};
 use std::ffi::{c_int, c_void};
 
 const PAINT: u64 = 0x5AC3_5AC3_5AC3_5AC3;
@@ -71,10 +71,10 @@ pub fn run() -> Vec<(&'static str, usize)> {
 /// A session over a stream with a surface code's shots.
 fn read() {
     let mut session = streams::session_new();
-    let mut lists = vec![0; 3 * 8192];
-    let (payload, rest) = lists.split_at_mut(8192);
-    let (model, line) = rest.split_at_mut(8192);
-    let line = (&mut line[..512]).try_into().expect("512 bytes");
+    let mut lists = vec![0; 2 * MAX_PAYLOAD + 512];
+    let (payload, rest) = lists.split_at_mut(MAX_PAYLOAD);
+    let (model, line) = rest.split_at_mut(MAX_PAYLOAD);
+    let line = line.try_into().expect("512 bytes");
     for &byte in include_bytes!("../../examples/surface.stream") {
         streams::take(&mut session, byte, payload, model, line);
     }

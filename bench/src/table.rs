@@ -5,7 +5,7 @@ use crate::timing::Row;
 use std::fmt::Write;
 
 /// A number with commas between thousands.
-fn grouped(number: usize) -> String {
+pub fn grouped(number: usize) -> String {
     let digits = number.to_string();
     let mut text = String::new();
     for (place, digit) in digits.chars().enumerate() {

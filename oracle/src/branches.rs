@@ -1,5 +1,5 @@
-//! Shows that the listed cases take every branch of the published files: replays them through the
-//! counted copy, checks that it answers as the lists say, and prints a count for each branch.
+//! Shows which branches of the published files the listed cases take: replays them through the counted copy, checks that it answers
+//! as the lists say, prints a count for each branch, and fails on one that nothing takes and no reason explains.
 
 use crate::counted::bp::count::{self, Site};
 use crate::counted::bp::{BpScratch, RelayBp, RelayConfig, SITES, min_sum_bp_into};

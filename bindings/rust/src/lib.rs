@@ -3,8 +3,8 @@
 //!
 //! Min-sum beliefs and Relay-BP, in the shape of PECOS's `pecos-bp`, over code that is proved equal to one definition over IEEE
 //! 754 binary64, bit for bit, on every input. This crate makes lists that fit, calls the proved code, and passes on what it
-//! answers: it computes and refuses nothing itself. Plain Rust, tested and not proved, are this passing on, and how
-//! [`RelayState`] starts a leg and [`GammaSource::drawn`] repeats a shot's draws.
+//! answers: it computes and refuses nothing itself. Plain Rust, tested and not proved, are this passing on, how [`RelayState`]
+//! starts a leg, how [`GammaSource::drawn`] repeats a shot's draws, and how [`Shots`] gathers lines.
 //!
 //! "Document 01" is the project's scope, which decides behaviour; the numbers from 1 to 30 below are its refusals.
 //!

@@ -1,11 +1,6 @@
 //! Record streams.
 
-use chowderkite_sys::streams::{self, Line};
-
-/// Where a session's word stands that says how long the line is.
-const SAID: usize = 13;
-/// The longest payload within the room: 256 mechanisms and 512 edges.
-const MAX_PAYLOAD: usize = 12 + 12 * 256 + 4 * 512;
+use chowderkite_sys::streams::{self, Line, MAX_PAYLOAD};
 
 /// A run of the program `shots` over a record stream that is fed in pieces of any size: the proved session, with its lists.
 ///
@@ -49,7 +44,8 @@ impl Shots {
         }
     }
 
-    /// The next bytes of the stream, and the lines that are to be written now.
+    /// The next bytes of the stream, and the lines that are to be written now. After a refusal that ended the run it says nothing more.
+    #[must_use = "a line is handed out once"]
     pub fn feed(&mut self, bytes: &[u8]) -> Vec<u8> {
         let mut text = Vec::new();
         for &byte in bytes {
@@ -60,7 +56,7 @@ impl Shots {
                 &mut self.model,
                 &mut self.line,
             );
-            text.extend_from_slice(&self.line[..self.session.words[SAID]]);
+            text.extend_from_slice(&self.line[..self.session.said()]);
         }
         text
     }

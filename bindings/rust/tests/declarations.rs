@@ -8,5 +8,6 @@ fn declarations_agree() {
     let agree = Path::new(env!("CARGO_MANIFEST_DIR")).join("../agree");
     let output = Command::new(agree).output().unwrap();
     let told = String::from_utf8_lossy(&output.stdout);
-    assert!(output.status.success(), "{told}");
+    let why = String::from_utf8_lossy(&output.stderr);
+    assert!(output.status.success(), "{told}{why}");
 }

@@ -10,6 +10,7 @@ use crate::table::wanted_lists;
 use oracle::answers::Refusal;
 use oracle::belief_cases::{BeliefCase, SCALES, nan_sign_decides, random_syndrome};
 use oracle::counted;
+use oracle::counted::bp::count::{NanSign, read_nan_sign};
 use oracle::exact;
 use oracle::graph_cases::GraphCase;
 use oracle::model::random_model;
@@ -58,6 +59,14 @@ fn told(answer: Result<Vec<f64>, Refusal>) -> Told {
     }
 }
 
+/// The answer of the counted copy where it reads a NaN's sign so; it reads it as positive before and after.
+fn told_by(sign: NanSign, case: &BeliefCase) -> Told {
+    read_nan_sign(sign);
+    let answer = told(counted::drive::beliefs(case));
+    read_nan_sign(NanSign::Positive);
+    answer
+}
+
 /// One run, both ways. Tells whether a NaN's sign decides it.
 fn compare(
     name: &'static str,
@@ -76,7 +85,10 @@ fn compare(
     };
     let answer = proved::beliefs(given.size, &given.priors, &given.lists, run, &mut lists);
     let wanted = told(counted::drive::beliefs(case));
-    let decided = told(exact::drive::beliefs(case)) != wanted;
+    let published = told(exact::drive::beliefs(case));
+    let decided = published != wanted;
+    // Only a NaN's sign may do that: read as the processor leaves it, the copy answers as published.
+    let explained = !decided || told_by(NanSign::AsItIs, case) == published;
     let same = match (answer, &wanted) {
         (Ok(()), Ok(posterior)) => bits(&lists.posterior) == *posterior,
         (Err(refusal), Err(other)) => refusal == *other && is_zero(&lists.posterior),
@@ -86,7 +98,7 @@ fn compare(
     counts.check(
         name,
         wanted.as_ref().map(|_| ()).map_err(|refusal| *refusal),
-        built == Ok(()) && same && cleared,
+        built == Ok(()) && same && cleared && explained,
         || format!("{answer:?}, {:?} for {wanted:?}: {case:?}", lists.posterior),
     );
     decided
@@ -146,12 +158,18 @@ fn large(case: u64, random: &mut SplitMix64, counts: &mut Counts) {
     counts.note(DECIDED, u64::from(decided));
 }
 
-/// The case made for a NaN's sign: there it decides.
+/// The case made for a NaN's sign: read as negative it comes out otherwise, whatever this processor leaves there.
 fn made(_: u64, random: &mut SplitMix64, counts: &mut Counts) {
     let name = "beliefs, the case made for a NaN's sign";
-    let decided = compare(name, &nan_sign_decides(), random, counts);
-    counts.check(name, Ok(()), decided, || {
-        "the Rust reads a NaN's sign as positive here".into()
+    let case = nan_sign_decides();
+    let decided = compare(name, &case, random, counts);
+    counts.note(DECIDED, u64::from(decided));
+    let (positive, negative) = (
+        told_by(NanSign::Positive, &case),
+        told_by(NanSign::Negative, &case),
+    );
+    counts.check(name, Ok(()), positive != negative, || {
+        format!("{positive:?} with either sign")
     });
 }
 
@@ -213,7 +231,8 @@ fn damaged(_: u64, random: &mut SplitMix64, counts: &mut Counts) {
         .zip(before.each())
         .all(|(now, before)| bits(now) == bits(before));
     // Past the tests these runs stay finite: that they are right is what the others show.
-    let good = answer == wanted && (kept || wanted == Ok(()));
+    let cleared = is_zero(&lists.ewa_posterior) && is_zero(&lists.c_to_v) && is_zero(&lists.v_to_c);
+    let good = answer == wanted && if wanted == Ok(()) { cleared } else { kept };
     counts.check("beliefs, damaged", wanted, good && built == Ok(()), || {
         format!("{answer:?} for {wanted:?}: {given:?}, {run:?}, {lists:?}")
     });

@@ -464,7 +464,7 @@ fn damaged(_: u64, random: &mut SplitMix64, counts: &mut Counts) {
     if wanted.is_ok() && settings.pre_iterations + settings.leg_iterations > 1000 {
         return;
     }
-    let before = left.bits();
+    let before = left.clone();
     let answer = proved::decode(
         given.size,
         &given.priors,
@@ -474,12 +474,18 @@ fn damaged(_: u64, random: &mut SplitMix64, counts: &mut Counts) {
         &mut left,
     );
     let good = match wanted {
-        // What the legs leave is what the others show.
-        Ok(()) => {
-            is_zero(&left.c_to_v)
-                && (answer.is_ok() || answer.is_err_and(|(number, _)| number == 30))
-        }
-        Err(_) => answer == wanted && left.bits() == before,
+        // What the legs leave is what the others show, but for zeroes.
+        Ok(()) => match answer {
+            Ok(()) => {
+                let work = [&left.gamma, &left.bias, &left.c_to_v, &left.v_to_c];
+                work.iter().all(|list| is_zero(list))
+            }
+            Err((number, _)) => {
+                let zeroed = wanted_left(given.size, settings.num_legs + 1, &before, None);
+                number == 30 && left.bits() == zeroed.bits()
+            }
+        },
+        Err(_) => answer == wanted && left.bits() == before.bits(),
     };
     counts.check("decodes, damaged", wanted, good && built == Ok(()), || {
         format!("{answer:?} for {wanted:?}: {settings:?}, {shot:?}, {given:?}")

@@ -1,5 +1,5 @@
 //! The proved code against the Rust, in one process, on fresh random inputs: what `oracle/beside` runs. Every float is compared by its
-//! bits, but a NaN with any NaN. The last line says 'N passed, M failed'.
+//! bits, where a NaN is a value that is compared as it is read (`numbers`, `streams`) with any NaN. The last line says 'N passed, M failed'.
 
 mod beliefs;
 mod counts;
@@ -121,7 +121,7 @@ fn main() -> ExitCode {
     let passed: u64 = counts.iter().map(Counts::passed).sum();
     let failed: u64 = counts.iter().map(Counts::failed).sum();
     println!("{passed} passed, {failed} failed");
-    if failed == 0 {
+    if failed == 0 && passed > 0 {
         ExitCode::SUCCESS
     } else {
         ExitCode::FAILURE

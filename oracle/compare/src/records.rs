@@ -4,7 +4,7 @@
 use crate::counts::Counts;
 use crate::rounds::{Part, Rate};
 use oracle::splitmix::SplitMix64;
-use proved::streams::{self as calls, Line};
+use proved::streams::{self as calls, Line, MAX_PAYLOAD};
 use streams::{expect, random};
 
 pub const PARTS: &[Part] = &[
@@ -17,11 +17,6 @@ pub const PARTS: &[Part] = &[
         case: lines,
     },
 ];
-
-/// The longest payload within the room.
-const ROOM: usize = 12 + 12 * 256 + 4 * 512;
-/// Where a session's word stands that says how long the line is.
-const SAID: usize = 13;
 
 fn stream(_: u64, g: &mut SplitMix64, counts: &mut Counts) {
     let stream = random::stream(g);
@@ -40,11 +35,11 @@ fn stream(_: u64, g: &mut SplitMix64, counts: &mut Counts) {
 /// What a session says of a stream.
 fn said(stream: &[u8]) -> Vec<u8> {
     let mut session = calls::session_new();
-    let (mut payload, mut model, mut line) = (vec![9; ROOM], vec![9; ROOM], [9; 512]);
+    let (mut payload, mut model, mut line) = (vec![9; MAX_PAYLOAD], vec![9; MAX_PAYLOAD], [9; 512]);
     let mut text = Vec::new();
     for &byte in stream {
         calls::take(&mut session, byte, &mut payload, &mut model, &mut line);
-        text.extend_from_slice(&line[..session.words[SAID]]);
+        text.extend_from_slice(&line[..session.said()]);
     }
     let length = calls::finish(&session, &mut line);
     text.extend_from_slice(&line[..length]);
@@ -52,13 +47,16 @@ fn said(stream: &[u8]) -> Vec<u8> {
 }
 
 fn number(bytes: &[u8]) -> u64 {
-    bytes.iter().rev().fold(0, |sum, &byte| sum << 8 | u64::from(byte))
+    bytes
+        .iter()
+        .rev()
+        .fold(0, |sum, &byte| sum << 8 | u64::from(byte))
 }
 
 /// Whether a reader meets the records of a stream, each at its offset with its payload, and what is left over.
 fn meets(stream: &[u8]) -> bool {
     let mut reader = calls::reader_new(0);
-    let mut payload = vec![9; ROOM];
+    let mut payload = vec![9; MAX_PAYLOAD];
     let mut start = 0;
     for (at, &byte) in stream.iter().enumerate() {
         calls::push(&mut reader, byte, &mut payload);
@@ -81,18 +79,80 @@ fn meets(stream: &[u8]) -> bool {
 /// Whether a reader at a record's end, and the payload that is kept, say what the record does.
 fn is_read(reader: &calls::Reader, payload: &[u8], record: &[u8]) -> bool {
     let bytes = &record[6..];
-    let kept = bytes.len().min(ROOM);
+    let kept = bytes.len().min(MAX_PAYLOAD);
     let kind = number(&record[4..6]) as usize;
-    let counts = (kind == 1 && bytes.len() >= 12)
-        .then(|| [0, 4, 8].map(|place| number(&bytes[place..place + 4]) as usize));
-    let seed = (kind == 3 && bytes.len() >= 8).then(|| number(&bytes[..8]));
+    let pairs = [(false, false), (false, true), (true, false), (true, true)];
+    let judged = pairs.iter().all(|&(model, settings)| {
+        let wanted = expect::verdict(kind as u16, bytes, model && settings).unwrap_or(0);
+        calls::verdict(reader, payload, model, settings) == u64::from(wanted)
+    });
     reader[1] == record.len()
         && reader[2] == bytes.len()
         && reader[3] == kind
         && payload[..kept] == bytes[..kept]
-        && counts.is_none_or(|counts| calls::read_counts(payload) == counts && reader[4..7] == counts)
-        && seed.is_none_or(|seed| calls::read_seed(payload) == seed)
-        && (calls::verdict(reader, payload, true, true) == 41) == !(1..=3).contains(&kind)
+        && judged
+        && (expect::verdict(kind as u16, bytes, true).is_some()
+            || match kind {
+                1 => is_model(reader, payload, bytes),
+                2 => is_settings(payload, bytes),
+                _ => calls::read_seed(payload) == number(&bytes[..8]),
+            })
+}
+
+fn float(bytes: &[u8]) -> f64 {
+    f64::from_bits(number(bytes))
+}
+
+/// The same bits, or a NaN for any NaN.
+fn same(a: f64, b: f64) -> bool {
+    a.to_bits() == b.to_bits() || a.is_nan() && b.is_nan()
+}
+
+/// Whether a model that 41 to 45 let through is read as its bytes lie.
+fn is_model(reader: &calls::Reader, payload: &[u8], bytes: &[u8]) -> bool {
+    let counts = [0, 4, 8].map(|place| number(&bytes[place..place + 4]) as usize);
+    let [_, mechanisms, edges] = counts;
+    let (heads, detectors) = bytes[12..].split_at(12 * mechanisms);
+    let heads: Vec<(f64, u32)> = heads
+        .chunks(12)
+        .map(|head| (float(&head[..8]), number(&head[8..]) as u32))
+        .collect();
+    let mut sums = vec![0];
+    sums.extend(heads.iter().scan(0, |sum, (_, degree)| {
+        *sum += degree;
+        Some(*sum)
+    }));
+    let detectors: Vec<u32> = detectors
+        .chunks(4)
+        .map(|word| number(word) as u32)
+        .collect();
+    let mut lists = (
+        vec![9.0; mechanisms],
+        vec![9; mechanisms + 1],
+        vec![9; edges],
+    );
+    calls::read_model(payload, &mut lists.0, &mut lists.1, &mut lists.2);
+    calls::read_counts(payload) == counts
+        && reader[4..7] == counts
+        && lists
+            .0
+            .iter()
+            .zip(&heads)
+            .all(|(found, (prior, _))| same(*found, *prior))
+        && lists.1 == sums
+        && lists.2 == detectors
+}
+
+/// Whether settings that 41 to 45 let through are read as their bytes lie.
+fn is_settings(payload: &[u8], bytes: &[u8]) -> bool {
+    let (schedule, floats, counts) = calls::read_settings(payload);
+    let wanted = [1, 9, 29, 37].map(|place| float(&bytes[place..place + 8]));
+    schedule == bytes[0]
+        && floats
+            .iter()
+            .zip(wanted)
+            .all(|(found, wanted)| same(*found, wanted))
+        && counts == [17, 21, 25, 45].map(|place| number(&bytes[place..place + 4]))
 }
 
 /// A line over the front of a list whose surplus is kept.
@@ -111,6 +171,8 @@ fn lines(_: u64, g: &mut SplitMix64, counts: &mut Counts) {
     let mut line = [9; 512];
     let said = calls::shot_line(a, converged, b, c, &bits, &mut line);
     let mut good = is_written(&line, said, &of_shot);
+    good &= calls::shot_line(a, converged, b, c, &[1; 257], &mut line) == 0
+        && is_written(&line, said, &of_shot);
     line = [9; 512];
     let said = calls::refused_line(a, b, &mut line);
     good &= is_written(&line, said, &format!("shot {a} refused {b}\n"));
@@ -120,5 +182,7 @@ fn lines(_: u64, g: &mut SplitMix64, counts: &mut Counts) {
     line = [9; 512];
     let said = calls::end_line(a, &mut line);
     good &= is_written(&line, said, &format!("end {a}\n"));
-    counts.check("lines", Ok(()), good, || format!("{a} {b} {c} {converged} {bits:?}"));
+    counts.check("lines", Ok(()), good, || {
+        format!("{a} {b} {c} {converged} {bits:?}")
+    });
 }

@@ -15,7 +15,7 @@ pub struct Kind {
     pub parts: &'static [Part],
 }
 
-/// A stream of cases.
+/// A sequence of cases.
 pub struct Part {
     pub rate: Rate,
     /// One case, by its number and its own source of random numbers.

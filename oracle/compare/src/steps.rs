@@ -335,8 +335,16 @@ fn damaged(_: u64, random: &mut SplitMix64, counts: &mut Counts) {
         .zip(case.step.each())
         .all(|(now, before)| bits(now) == bits(before));
     let good = match wanted {
-        // What the step leaves is what the others show.
-        Ok(()) => answer.is_ok() || answer.is_err_and(|(number, _)| number == 30),
+        // What the step leaves is what the others show, but for zeroes.
+        Ok(()) => {
+            is_zero(&left.bias)
+                && match answer {
+                    Ok(()) => true,
+                    Err((number, _)) => {
+                        number == 30 && left.each().iter().all(|list| is_zero(list))
+                    }
+                }
+        }
         Err(_) => answer == wanted && kept,
     };
     counts.check(

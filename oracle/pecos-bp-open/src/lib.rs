@@ -1,5 +1,5 @@
-//! The published files with one module more within each. In `relay`: the published updates of checks and variables, in any order
-//! of checks; in index order it runs the published iteration itself. In `min_sum`: log ratios that no probability need have.
+//! The published files with one module more within each. In `relay`: the published iterations, and the same
+//! in any order of checks. In `min_sum`: log ratios that no probability need have.
 
 include!(concat!(env!("OUT_DIR"), "/modules.rs"));
 

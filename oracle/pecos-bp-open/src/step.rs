@@ -1,6 +1,6 @@
-    use super::{
-        RelayBp, Schedule, update_check, update_variable_flooding, update_variable_serial,
-    };
+    //! Put at the end of the published relay.rs by build.rs, as a module of it: `super` is that file.
+
+    use super::{RelayBp, Schedule};
 
     /// What an iteration starts from, and what it leaves.
     #[derive(Clone, Debug)]
@@ -39,57 +39,12 @@
         state.posterior.copy_from_slice(&decoder.posterior);
     }
 
-    /// One iteration on the decoder's own state: the published one, or the published updates in an order of checks.
+    /// One iteration on the decoder's own state: the published one, or the same with its checks in an order.
     pub fn step(decoder: &mut RelayBp, syndrome: &[u8], order: Option<&[u32]>) {
         match (decoder.config.schedule, order) {
             (Schedule::Flooding, None) => decoder.flooding_iteration(syndrome),
             (Schedule::CheckSerial, None) => decoder.check_serial_iteration(syndrome),
-            (Schedule::Flooding, Some(order)) => flooding(decoder, syndrome, order),
-            (Schedule::CheckSerial, Some(order)) => serial(decoder, syndrome, order),
-        }
-    }
-
-    fn check(decoder: &mut RelayBp, syndrome: &[u8], check: u32) {
-        update_check(
-            &decoder.graph,
-            syndrome,
-            decoder.config.alpha,
-            check as usize,
-            &decoder.v_to_c,
-            &mut decoder.c_to_v,
-        );
-    }
-
-    fn flooding(decoder: &mut RelayBp, syndrome: &[u8], order: &[u32]) {
-        for &at in order {
-            check(decoder, syndrome, at);
-        }
-        decoder.compute_bias();
-        for variable in 0..decoder.graph.mechanism_count() {
-            update_variable_flooding(
-                &decoder.graph,
-                variable,
-                &decoder.bias,
-                &decoder.c_to_v,
-                &mut decoder.v_to_c,
-                &mut decoder.posterior,
-            );
-        }
-    }
-
-    fn serial(decoder: &mut RelayBp, syndrome: &[u8], order: &[u32]) {
-        decoder.compute_bias();
-        for &at in order {
-            check(decoder, syndrome, at);
-            for &(variable, _) in decoder.graph.check_entries(at as usize) {
-                update_variable_serial(
-                    &decoder.graph,
-                    variable as usize,
-                    &decoder.bias,
-                    &decoder.c_to_v,
-                    &mut decoder.v_to_c,
-                    &mut decoder.posterior,
-                );
-            }
+            (Schedule::Flooding, Some(order)) => decoder.flooding_iteration_in_order(syndrome, order),
+            (Schedule::CheckSerial, Some(order)) => decoder.check_serial_iteration_in_order(syndrome, order),
         }
     }

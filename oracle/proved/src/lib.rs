@@ -408,6 +408,7 @@ impl Decode {
             all.push(list.len() as u64);
             all.extend(list.iter().map(|&byte| u64::from(byte)));
         }
+        all.push(self.leg_steps.len() as u64);
         all.extend(self.leg_steps.iter().map(|&count| u64::from(count)));
         for list in floats {
             all.push(list.len() as u64);

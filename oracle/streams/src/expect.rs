@@ -43,6 +43,19 @@ fn test(good: bool, code: Code) -> Result<(), Code> {
     if good { Ok(()) } else { Err(code) }
 }
 
+/// 41 to 45 of a whole record, or none: the table's numbers come after these.
+pub fn verdict(kind: u16, payload: &[u8], has_both: bool) -> Option<Code> {
+    let answer = match kind {
+        MODEL => read_model(payload).err(),
+        SETTINGS => read_settings(payload).err(),
+        SHOT if payload.len() < 8 => Some(42),
+        SHOT if !has_both => Some(43),
+        SHOT => (payload.len() > 136).then_some(44),
+        _ => Some(41),
+    };
+    answer.filter(|code| *code >= 40)
+}
+
 impl Run {
     /// The record at the front of what is left, and how long it is; or the number that ends the run.
     fn take_record(&mut self, left: &[u8]) -> Result<usize, Code> {

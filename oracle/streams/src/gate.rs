@@ -1,5 +1,5 @@
-//! The gate's streams: fixed cases for the program `replay_shots`, which writes of each what `shots` would. Every case names what it
-//! is to come to, so that the expectation is held to the case and not to itself.
+//! The gate's streams: fixed cases for the program `replay_shots`, which writes of each what `shots` would. Every case but the drawn
+//! ones names what it is to come to, so that the expectation is held to the case and not to itself.
 
 use crate::counts::Counts;
 use crate::expect::{self, Code};
@@ -7,6 +7,7 @@ use crate::random;
 use crate::stream::{MODEL, Mechanism, Model, SETTINGS, SHOT, Settings, Stream};
 use oracle::splitmix::SplitMix64;
 use oracle::tally::Tally;
+use std::collections::BTreeMap;
 use std::path::{Path, PathBuf};
 
 /// The cases are committed, so they stay below this many bytes.
@@ -953,23 +954,23 @@ fn both_twice() -> Stream {
 /// That stream, and it cut at every byte.
 fn every_cut(cases: &mut Cases) {
     let whole = both_twice();
-    cases.runs(
-        &[0, 20, 21, 0, 0, 20, 0],
-        "two models, two settings",
-        whole.clone(),
-    );
-    let mut ends = vec![0];
-    while let Some(&at) = ends.last().filter(|at| **at < whole.bytes.len()) {
+    let codes = [0, 20, 21, 0, 0, 20, 0];
+    cases.runs(&codes, "two models, two settings", whole.clone());
+    // Where each record begins, with the shots before it.
+    let mut starts = BTreeMap::new();
+    let (mut at, mut shots) = (0, 0);
+    while at < whole.bytes.len() {
+        starts.insert(at, shots);
         let length = u32::from_le_bytes(whole.bytes[at..at + 4].try_into().expect("4 bytes"));
-        ends.push(at + 6 + length as usize);
+        shots += usize::from(whole.bytes[at + 4] == SHOT as u8);
+        at += 6 + length as usize;
     }
     for length in 0..whole.bytes.len() {
         let part = Stream::new().raw(&whole.bytes[..length]);
         let name = format!("two models, two settings, cut after {length} bytes");
-        if ends.contains(&length) {
-            cases.add(&name, part, ComesTo::Either);
-        } else {
-            cases.stops(40, &name, part);
+        match starts.get(&length) {
+            Some(&shots) => cases.runs(&codes[..shots], &name, part),
+            None => cases.stops(40, &name, part),
         }
     }
 }
@@ -996,19 +997,8 @@ fn path(program: &str, part: &str) -> PathBuf {
 
 /// Writes one file; it fails where a file that stood there was another one.
 fn write(tally: &mut Tally, program: &str, part: &str, bytes: &[u8]) {
-    let path = path(program, part);
-    let (holds, seen) = match std::fs::read(&path) {
-        Err(_) => (true, "new"),
-        Ok(before) if before == bytes => (true, "as it stood"),
-        Ok(_) => (false, "CHANGED against what stood there"),
-    };
     let name = format!("crates/{program}/{part}");
-    let written = std::fs::create_dir_all(path.parent().expect("a folder"))
-        .and_then(|()| std::fs::write(&path, bytes));
-    match written {
-        Ok(()) => tally.check(&name, holds, &format!("{} bytes, {seen}", bytes.len())),
-        Err(error) => tally.check(&name, false, &error.to_string()),
-    }
+    tally.write_committed(&name, &path(program, part), bytes, "");
 }
 
 /// Writes the standard inputs of `shots` and `replay_shots` and what they must write. With `list` every case has a line.

@@ -1,4 +1,4 @@
-//! Record streams apart from the proved code: what `shots` must write for one, random ones, and the program itself.
+//! Record streams apart from the proved code: what `shots` must write for one, random ones, the gate's, and the program itself.
 
 pub mod compare;
 mod counts;

@@ -67,7 +67,7 @@ fn compare(count: u64, seed: u64, path: Option<&str>) -> Result<bool, String> {
     println!("streams: {count} from seed {seed}, each through a file, a pipe and packets");
     let score = compare::run(&program, count, seed).map_err(|error| error.to_string())?;
     println!("{} passed, {} failed", score.passed, score.failed);
-    Ok(score.failed == 0)
+    Ok(score.failed == 0 && score.passed > 0)
 }
 
 fn write_gate(list: bool) -> bool {

@@ -432,10 +432,18 @@ unsafe extern "C" {
     ) -> usize;
 
     /// The line of a shot that was refused.
-    pub unsafe fn chowderkite_refused_line(number: usize, code: usize, line: *mut [u8; 512]) -> usize;
+    pub unsafe fn chowderkite_refused_line(
+        number: usize,
+        code: usize,
+        line: *mut [u8; 512],
+    ) -> usize;
 
     /// The line of a refusal that ends the run.
-    pub unsafe fn chowderkite_stopped_line(code: usize, offset: usize, line: *mut [u8; 512]) -> usize;
+    pub unsafe fn chowderkite_stopped_line(
+        code: usize,
+        offset: usize,
+        line: *mut [u8; 512],
+    ) -> usize;
 
     /// The line at the end of a run without one.
     pub unsafe fn chowderkite_end_line(shots: usize, line: *mut [u8; 512]) -> usize;

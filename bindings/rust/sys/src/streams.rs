@@ -7,6 +7,9 @@ pub type Reader = [usize; 8];
 /// A line of `shots`, at the front.
 pub type Line = [u8; 512];
 
+/// What the payload of a record within the room has at most: 256 mechanisms and 512 edges.
+pub const MAX_PAYLOAD: usize = 12 + 12 * 256 + 4 * 512;
+
 /// A session: its words, as `bindings/c/chowderkite.h` names them, and its settings' floats.
 #[derive(Clone, Debug, PartialEq)]
 pub struct Session {
@@ -14,6 +17,15 @@ pub struct Session {
     pub words: [usize; 21],
     /// Alpha, gamma0, gamma_low and gamma_high.
     pub floats: [f64; 4],
+}
+
+impl Session {
+    /// How long the line is that is to be written now.
+    #[inline]
+    #[must_use]
+    pub const fn said(&self) -> usize {
+        self.words[13]
+    }
 }
 
 /// A reader before the first byte of the record at an offset.
