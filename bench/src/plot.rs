@@ -2,6 +2,7 @@
 //! light on dark where the reader's screen asks for that.
 
 use crate::models::EDGES;
+use crate::table::grouped;
 use crate::timing::Row;
 use std::fmt::Write;
 

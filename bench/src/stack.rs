@@ -2,7 +2,7 @@
 
 use crate::models::sized;
 use crate::refused::{GOOD, Lent};
-use proved::streams::{self, MAX_PAYLOAD};
+use proved::streams::{self, Line, MAX_PAYLOAD};
 use std::ffi::{c_int, c_void};
 
 const PAINT: u64 = 0x5AC3_5AC3_5AC3_5AC3;
@@ -74,7 +74,7 @@ fn read() {
     let mut lists = vec![0; 2 * MAX_PAYLOAD + 512];
     let (payload, rest) = lists.split_at_mut(MAX_PAYLOAD);
     let (model, line) = rest.split_at_mut(MAX_PAYLOAD);
-    let line = line.try_into().expect("512 bytes");
+    let line: &mut Line = line.try_into().expect("512 bytes");
     for &byte in include_bytes!("../../examples/surface.stream") {
         streams::take(&mut session, byte, payload, model, line);
     }

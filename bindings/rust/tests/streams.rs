@@ -18,8 +18,8 @@ fn said(stream: &[u8], lengths: &[usize]) -> Vec<u8> {
     let mut text = Vec::new();
     let (mut left, mut lengths) = (stream, lengths.iter().cycle());
     while !left.is_empty() {
-        let length = lengths.next().unwrap().min(&left.len());
-        let (piece, rest) = left.split_at(*length);
+        let length = *lengths.next().unwrap();
+        let (piece, rest) = left.split_at(length.min(left.len()));
         text.extend(shots.feed(piece));
         left = rest;
     }
