@@ -1,5 +1,6 @@
 // The public calls with the C calling convention: numbers and slices only, each one call with its contract. A slice passes as a pointer and then a length, a list of fixed
-// length as a pointer alone, a bool as 1 or 0, an answer as its code. No call has a proof of its own, so an edit of must-fail/ leaves in one call and comments the others out.
+// length as a pointer alone, a bool as 1 or 0, an answer as its code. No call has a proof of its own, so an edit of must-fail/ can comment out
+// those that it does not try.
 ghost use mathlib.Core.Path.{_≡_};
 ghost use mathlib.Core.Bool.{false, not};
 ghost use mathlib.Core.List.{[], _∷_};
