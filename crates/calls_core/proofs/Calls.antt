@@ -17,10 +17,10 @@ use Rattle.refusals.specs.declared.Answer.{Answer}
 use Rattle.refusals.specs.declared.Answer.the-variants.{Done, Refused}
 use Rattle.refusals.specs.Tests.{isDone, unless, orElse, firstOf, unlessRefused}
 use Rattle.refusals.proofs.Tests.{done-is, or-done, unless-done}
-use Rattle.graph.specs.Graph.{Graph, graph}
-use Rattle.graph.specs.Model.{graphFault}
-use Rattle.graph.proofs.GraphTests.{graph-told}
-use Rattle.graph.specs.Sound.{Keys}
+use Rattle.graph_core.specs.Graph.{Graph, graph}
+use Rattle.graph_core.specs.Model.{graphFault}
+use Rattle.graph_core.proofs.GraphTests.{graph-told}
+use Rattle.graph_core.specs.Sound.{Keys}
 use Rattle.messages_core.specs.Needs.{Walks, walked, ofVariables}
 use Rattle.messages_core.proofs.Parts.{walks-both, entries-along}
 use Rattle.messages_core.proofs.Walks.{graph-walks}

@@ -6,8 +6,8 @@ use Rattle.refusals.specs.declared.Answer.the-variants.{Done}
 use Rattle.refusals.specs.Tests.{unless, orElse}
 use Rattle.refusals.proofs.Tests.{unless-done}
 use Rattle.numbers.specs.Loops.{upto}
-use Rattle.graph.specs.Graph.{Graph}
-use Rattle.graph.specs.Sound.{Keys}
+use Rattle.graph_core.specs.Graph.{Graph}
+use Rattle.graph_core.specs.Sound.{Keys}
 use Rattle.settings.specs.declared.Schedule.{Schedule}
 use Rattle.orders_core.specs.Order.{NamesOnce, namesFault, exchangeFault}
 use Rattle.orders_core.proofs.All.{all-at}

@@ -13,8 +13,8 @@ use Rattle.refusals.specs.declared.Refusal.the-variants.{BadAlpha, SyndromeLeng
 use Rattle.refusals.specs.declared.Answer.{Answer}
 use Rattle.refusals.specs.declared.Answer.the-variants.{Done, Refused}
 use Rattle.refusals.specs.Tests.{unless, orElse, firstOf, unlessRefused}
-use Rattle.graph.specs.Graph.{Graph, varEntries}
-use Rattle.graph.specs.Model.{graphFault}
+use Rattle.graph_core.specs.Graph.{Graph, varEntries}
+use Rattle.graph_core.specs.Model.{graphFault}
 use Rattle.settings.specs.declared.Schedule.{Schedule}
 use Rattle.calls_core.specs.declared.Decoded.{Decoded}
 use Rattle.calls_core.specs.declared.Decoded.the-variants as Decoded

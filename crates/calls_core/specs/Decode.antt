@@ -11,12 +11,12 @@ use Rattle.numbers.specs.Loops.{spliced}
 use Rattle.refusals.specs.declared.Refusal.{Refusal}
 use Rattle.refusals.specs.declared.Answer.{Answer}
 use Rattle.refusals.specs.declared.Answer.the-variants.{Done, Refused}
-use Rattle.graph.specs.Graph.{Graph}
-use Rattle.graph.specs.Messages.{posteriorFault}
+use Rattle.graph_core.specs.Graph.{Graph}
+use Rattle.graph_core.specs.Messages.{posteriorFault}
 use Rattle.settings.specs.declared.Settings.{Settings}
 use Rattle.relay_core.specs.Step.{State, iteration}
 use Rattle.relay_core.specs.Leg.{Leg, startLeg, runLeg, satisfied, hardDecision, correctionWeight}
-use Rattle.relay_core.specs.Gammas.{gammaOf}
+use Rattle.gammas_core.specs.Gammas.{gammaOf}
 
 -- what one decode is of: a model, its settings with the flat list of gammas, an order of the checks, a syndrome and a seed
 pub record Shot : Type 0 where

@@ -6,7 +6,7 @@ ghost use lib.ListN.{length, replicate};
 ghost use Rattle.numbers.specs.Floats.{zero⁺};
 ghost use Rattle.numbers.specs.Loops.{every};
 ghost use Rattle.refusals.specs.Tests.{unlessRefused};
-ghost use Rattle.graph.specs.Sound.{Keys};
+ghost use Rattle.graph_core.specs.Sound.{Keys};
 ghost use Rattle.messages_core.specs.Needs.{Walks, walked, ofVariables};
 ghost use Rattle.relay_core.specs.Step.{state, iteration};
 ghost use Rattle.calls_core.specs.Calls.{messageFinite, mechanismFinite, stepEnd, stepLists, stepOutcome, stepped as steppedOf};

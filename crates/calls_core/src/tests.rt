@@ -6,7 +6,7 @@ ghost use lib.Dec.{leb};
 ghost use lib.ListN.{length};
 ghost use Rattle.refusals.specs.declared.Refusal.the-variants.{BadAlpha, LentListLength, StateNotFinite};
 ghost use Rattle.refusals.specs.Tests.{unless as unlessOf, orElse, firstOf};
-ghost use Rattle.graph.specs.Graph.{graph};
+ghost use Rattle.graph_core.specs.Graph.{graph};
 ghost use Rattle.messages_core.specs.Needs.{ofVariables};
 ghost use Rattle.settings.specs.Settings.{alphaGood};
 ghost use Rattle.relay_core.specs.Step.{state};

@@ -13,7 +13,7 @@ use lib.ListN.{length, getD, replicate}
 use Rattle.refusals.specs.declared.Answer.{Answer}
 use Rattle.refusals.specs.declared.Answer.the-variants.{Done, Refused}
 use Rattle.refusals.specs.Tests.{isDone, firstOf}
-use Rattle.graph.specs.Messages.{valueFault, posteriorFault}
+use Rattle.graph_core.specs.Messages.{valueFault, posteriorFault}
 use Rattle.calls_core.specs.declared.Decoded.{Decoded}
 use Rattle.relay_core.specs.Leg.{Leg, hardDecision, correctionWeight}
 use Rattle.calls_core.specs.Decode.{Shot, Run, Ended, decoded, refused, Progress, running, finished, isNoneOr, executedLeg, startRun, recorded, judged, afterLeg, legs, decodeLegs, correctionOf}

@@ -5,11 +5,11 @@ use mathlib.Core.List.{List}
 use Prim.Native.Nat.{ℕ, suc}
 use lib.Ieee.{Float}
 use lib.ListN.{length}
-use Rattle.graph.specs.Graph.{graph}
-use Rattle.graph.specs.Messages.{fromVariables, cleared, posteriorFault}
+use Rattle.graph_core.specs.Graph.{graph}
+use Rattle.graph_core.specs.Messages.{fromVariables, cleared, posteriorFault}
 use Rattle.messages_core.specs.Needs.{walked}
 use Rattle.settings.specs.declared.Settings.{Settings}
-use Rattle.relay_core.specs.Gammas.{gammaOf}
+use Rattle.gammas_core.specs.Gammas.{gammaOf}
 use Rattle.relay_core.specs.Leg.{startLeg, runLeg, matches, satisfied}
 use Rattle.calls_core.specs.Decode.{Shot, Run, Ended, decoded, refused, running, iterationLimit, stepOf, executedLeg, startRun, recorded, afterLeg, decodeLegs}
 use Rattle.calls_core.specs.Calls.{Lists, Outcome, leftBy, zeroed, afterLegs}

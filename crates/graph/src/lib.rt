@@ -1,34 +1,24 @@
 // The Tanner graph of a model: its sizes, its six lists from a sparse or a dense model, and the test of lists that a caller lends.
 // Every call takes every input; a refusal writes nothing.
-mod buckets;
-mod build;
-mod dense;
-mod model;
-mod seven;
-
 ghost use mathlib.Core.Path.{_≡_};
-ghost use Rattle.graph.specs.Graph.{graph};
-ghost use Rattle.graph.specs.Model.{outcome, buildSparse, countEdges, buildDense, graphFault};
-use build::from_detectors;
-use dense::from_matrix;
-use model::dense_fault;
-use model::lists_fit;
-use model::priors_fault;
-use model::sizes_good;
-use model::sparse_fault;
+ghost use Rattle.graph_core.specs.Graph.{graph};
+ghost use Rattle.graph_core.specs.Model.{outcome, buildSparse, countEdges, buildDense, graphFault};
+use graph_core::build::from_detectors;
+use graph_core::dense::from_matrix;
+use model_core::dense_fault;
+use model_core::lists_fit;
+use model_core::priors_fault;
+use model_core::seven::is_graph;
+use model_core::sizes_good;
+use model_core::sparse_fault;
 use refusals::Answer;
 use refusals::Refusal;
-use seven::is_graph;
 use tests_core::both;
 use tests_core::is_done;
 use tests_core::same_number;
 
 // How many checks, mechanisms and edges a model has.
-pub struct Size {
-    pub checks: usize,
-    pub mechanisms: usize,
-    pub edges: usize,
-}
+pub type Size = graph_core::Size;
 
 // The graph of a sparse model, in the caller's lists: mechanism m's detectors stand in `detectors` from offset m to offset m + 1.
 pub fn build_sparse(

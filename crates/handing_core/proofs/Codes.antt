@@ -4,8 +4,8 @@ use mathlib.Core.Path.{_≡_, _∙_, ap}
 use mathlib.Core.List.{List}
 use lib.Ieee.{Float}
 use Rattle.refusals.specs.declared.Answer.{Answer}
-use Rattle.graph.specs.Graph.{Graph}
-use Rattle.graph.specs.Model.{Outcome, outcome}
+use Rattle.graph_core.specs.Graph.{Graph}
+use Rattle.graph_core.specs.Model.{Outcome, outcome}
 use Rattle.min_sum.specs.Beliefs.{Lists, Outcome as BeliefsOutcome, outcome as beliefsOutcome}
 use Rattle.calls_core.specs.declared.Decoded.{Decoded}
 use Rattle.calls_core.specs.Calls.{StepLists, StepOutcome, stepOutcome, Lists as DecodeLists, Outcome as DecodeOutcome, outcome as decodeOutcome}

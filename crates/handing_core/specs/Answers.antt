@@ -2,8 +2,8 @@
 use Prim.Native.Nat.{ℕ}
 use mathlib.Core.List.{List}
 use lib.Ieee.{Float}
-use Rattle.graph.specs.Graph.{Graph}
-use Rattle.graph.specs.Model.{Outcome}
+use Rattle.graph_core.specs.Graph.{Graph}
+use Rattle.graph_core.specs.Model.{Outcome}
 use Rattle.calls_core.specs.Calls.{StepLists, StepOutcome, Lists as DecodeLists, Outcome as DecodeOutcome}
 use Rattle.min_sum.specs.Beliefs.{Lists, Outcome as BeliefsOutcome}
 use Rattle.codes_core.specs.Codes.{codeOf, decodedCode, countsOf, weightOf}

@@ -2,7 +2,7 @@
 ghost use mathlib.Core.Path.{_≡_};
 ghost use mathlib.Core.Bool.{not};
 ghost use lib.Dec.{eqb};
-ghost use Rattle.graph.specs.Graph.{graph as graphOf};
+ghost use Rattle.graph_core.specs.Graph.{graph as graphOf};
 ghost use Rattle.min_sum.specs.Beliefs.{lists, beliefs as beliefsOf};
 ghost use Rattle.handing_core.specs.Answers.{left, leftBy};
 use codes_core::answers::code;

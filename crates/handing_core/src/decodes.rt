@@ -2,7 +2,7 @@
 // fixed length, which pass as a pointer alone.
 ghost use mathlib.Core.Path.{_≡_};
 ghost use mathlib.Core.List.{[]};
-ghost use Rattle.graph.specs.Graph.{graph as graphOf};
+ghost use Rattle.graph_core.specs.Graph.{graph as graphOf};
 ghost use Rattle.settings.specs.Settings.{settingsFault};
 ghost use Rattle.calls_core.specs.Calls.{decode as decodeOf, decodeInOrder};
 ghost use Rattle.codes_core.specs.Codes.{settingsOf, codeOf};

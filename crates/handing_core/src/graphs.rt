@@ -1,7 +1,7 @@
 // The calls of `graph`. An answer passes as its code, and sizes as numbers.
 ghost use mathlib.Core.Path.{_≡_};
-ghost use Rattle.graph.specs.Graph.{graph as graphOf};
-ghost use Rattle.graph.specs.Model.{buildSparse, countEdges, buildDense, graphFault};
+ghost use Rattle.graph_core.specs.Graph.{graph as graphOf};
+ghost use Rattle.graph_core.specs.Model.{buildSparse, countEdges, buildDense, graphFault};
 ghost use Rattle.codes_core.specs.Codes.{codeOf};
 ghost use Rattle.handing_core.specs.Answers.{sent, sentOf};
 use codes_core::answers::code;

@@ -2,8 +2,8 @@
 ghost use mathlib.Core.Path.{_≡_};
 ghost use mathlib.Core.List.{[], _∷_};
 ghost use Rattle.records.specs.Reading.{fresh, isWhole, held, pushed, verdict as verdictOf, atEnd};
-ghost use Rattle.records.specs.Stream.{isOfShot};
-ghost use Rattle.records.specs.Fields.{countsOf, settingsOf};
+ghost use Rattle.records_core.specs.Stream.{isOfShot};
+ghost use Rattle.records_core.specs.Fields.{countsOf, settingsOf};
 ghost use Rattle.codes_core.specs.Codes.{bitOf, codeOf, byteOf, floatsIn, countsIn};
 ghost use Rattle.words_core.specs.Words.{readerOf, readerWords, isSet};
 use codes_core::answers::bit;

@@ -1,6 +1,6 @@
 // The single iteration of `relay`. A schedule passes as a byte: 0 is Flooding, and any other is CheckSerial.
 ghost use mathlib.Core.Path.{_≡_};
-ghost use Rattle.graph.specs.Graph.{graph as graphOf};
+ghost use Rattle.graph_core.specs.Graph.{graph as graphOf};
 ghost use Rattle.relay_core.specs.Step.{state};
 ghost use Rattle.calls_core.specs.Calls.{stepLists, iterationCall};
 ghost use Rattle.codes_core.specs.Codes.{scheduleOf};

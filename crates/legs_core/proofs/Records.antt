@@ -13,12 +13,12 @@ use lib.Seq.{ext-getD}
 use Rattle.numbers.specs.Floats.{zero⁺}
 use Rattle.numbers.specs.Loops.{spliced}
 use Rattle.numbers.proofs.Loops.{length-spliced, spliced-out, spliced-in}
-use Rattle.graph.specs.Messages.{fromVariables, cleared}
+use Rattle.graph_core.specs.Messages.{fromVariables, cleared}
 use Rattle.messages_core.specs.Needs.{walked, ofChecks}
 use Rattle.settings.specs.declared.Settings.{Settings}
 use Rattle.settings.specs.declared.GammaSource.the-variants.{Explicit}
 use Rattle.relay_core.specs.Step.{State, state, iteration}
-use Rattle.relay_core.specs.Gammas.{gammaOf}
+use Rattle.gammas_core.specs.Gammas.{gammaOf}
 use Rattle.relay_core.specs.Leg.{Leg, leg, startLeg, hardDecision, matches, satisfied, runLeg, correctionWeight}
 use Rattle.calls_core.specs.Decode.{Shot, isNoneOr, iterationLimit, stepOf, executedLeg}
 use Rattle.legs_core.specs.Kept.{shotOf, Reads, bestOf, Kept, kept, bestAfter, corrected, keptWith, rowAfter, keptAfter, Blank}

@@ -13,8 +13,8 @@ use Rattle.refusals.specs.declared.Answer.{Answer}
 use Rattle.refusals.specs.declared.Answer.the-variants.{Done, Refused}
 use Rattle.refusals.specs.declared.Refusal.the-variants.{LentListLength}
 use Rattle.refusals.specs.Tests.{unless, orElse}
-use Rattle.graph.specs.Model.{graphFault}
-use Rattle.graph.specs.Sound.{Keys}
+use Rattle.graph_core.specs.Model.{graphFault}
+use Rattle.graph_core.specs.Sound.{Keys}
 use Rattle.messages_core.specs.Needs.{Walks, walked}
 use Rattle.settings.specs.declared.Settings.{Settings}
 use Rattle.settings.specs.declared.GammaSource.the-variants.{Explicit}

@@ -6,7 +6,7 @@ use lib.Ieee.{Float, nan, inf, fin, lt}
 use Rattle.numbers.specs.Floats.{abs}
 use Rattle.numbers.proofs.Bits.{abs-number}
 use Rattle.numbers.proofs.Order.{lt-one-way, lt-number, number-lt, below-what-is-not}
-use Rattle.graph.specs.Messages.{Scan, scanOf, startScan}
+use Rattle.graph_core.specs.Messages.{Scan, scanOf, startScan}
 use Rattle.messages_core.specs.Needs.{Ordered}
 
 -- the magnitude of a magnitude

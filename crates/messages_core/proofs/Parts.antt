@@ -7,7 +7,7 @@ use native.Mathlib.Omega.{arith}
 use lib.ListN.{length, getD}
 use Rattle.numbers.specs.Loops.{part}
 use Rattle.numbers.proofs.Loops.{length-part, getD-part}
-use Rattle.graph.specs.Sound.{Keys}
+use Rattle.graph_core.specs.Sound.{Keys}
 use Rattle.messages_core.specs.Needs.{Rises, RowsRise, Walks}
 
 -- each entry of a part names something

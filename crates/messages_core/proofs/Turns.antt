@@ -10,7 +10,7 @@ use lib.ListN.{length, getD, take, set, replicate}
 use lib.Seq.{take-suc, take-suc-set, take-all}
 use Rattle.numbers.specs.Floats.{_+ᶠ_}
 use Rattle.numbers.proofs.Loops.{foldl-take}
-use Rattle.graph.specs.Messages.{total}
+use Rattle.graph_core.specs.Messages.{total}
 
 -- the sum, one entry further
 pub total-turn : (cToV : List Float) (xs : List ℕ) (i : ℕ) (sum : Float) (m : ℕ) → i < length xs → sum ≡ total cToV (take i xs) → m ≡ getD xs i 0

@@ -6,13 +6,13 @@ use Prim.Native.Nat.{ℕ, _+_, _-_, _<_}
 use native.Mathlib.Omega.{arith}
 use lib.ListN.{length, getD}
 use Rattle.numbers.specs.Loops.{row}
-use Rattle.graph.specs.Graph.{Graph}
-use Rattle.graph.specs.Model.{isGraph}
-use Rattle.graph.specs.Sound.{Offsets, Rising}
-use Rattle.graph.specs.Steps.{rowOf}
-use Rattle.graph.proofs.Cuts.{row-is}
-use Rattle.graph.proofs.Passes.{row-length, row-at}
-use Rattle.graph.proofs.Sound.{passes-sound}
+use Rattle.graph_core.specs.Graph.{Graph}
+use Rattle.graph_core.specs.Model.{isGraph}
+use Rattle.graph_core.specs.Sound.{Offsets, Rising}
+use Rattle.graph_core.specs.Steps.{rowOf}
+use Rattle.graph_core.proofs.Cuts.{row-is}
+use Rattle.graph_core.proofs.Passes.{row-length, row-at}
+use Rattle.graph_core.proofs.Sound.{passes-sound}
 use Rattle.messages_core.specs.Needs.{Walks}
 
 -- a list cut into parts, whose entries rise within each part and name one of n

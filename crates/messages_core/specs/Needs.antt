@@ -8,8 +8,8 @@ use lib.Ieee.{Float, lt}
 use lib.ListN.{length, getD}
 use Rattle.numbers.specs.Floats.{abs}
 use Rattle.numbers.specs.Loops.{row}
-use Rattle.graph.specs.Graph.{Graph, graph}
-use Rattle.graph.specs.Sound.{Offsets, Keys}
+use Rattle.graph_core.specs.Graph.{Graph, graph}
+use Rattle.graph_core.specs.Sound.{Offsets, Keys}
 
 -- entries that rise, so that no two are the same
 pub record Rises (xs : List ℕ) : Type 0 where

@@ -1,12 +1,9 @@
 // Min-sum beliefs over a Tanner graph: `min_sum_bp_into` of min_sum.rs, with the tests of document 01 before it.
-mod check;
-mod pass;
 mod run;
 mod tests;
-mod variable;
 
 ghost use mathlib.Core.Path.{_≡_};
-ghost use Rattle.graph.specs.Graph.{graph};
+ghost use Rattle.graph_core.specs.Graph.{graph};
 ghost use Rattle.min_sum.specs.Beliefs.{lists, outcome, beliefs as beliefsOf};
 use refusals::Answer;
 use tests_core::is_done;

@@ -4,7 +4,7 @@ ghost use mathlib.Core.Bool.{true, false};
 ghost use mathlib.Core.List.{[]};
 ghost use lib.ListN.{length};
 ghost use Rattle.messages_core.specs.Needs.{Walks, walked, ofVariables};
-ghost use Rattle.min_sum.specs.MinSum.{messages, belief, weightOf, turned, round as roundOf, rounds as roundsOf, chosen as chosenOf, chosenTo, minSumBp};
+ghost use Rattle.min_sum_core.specs.MinSum.{messages, belief, weightOf, turned, round as roundOf, rounds as roundsOf, chosen as chosenOf, chosenTo, minSumBp};
 ghost use Rattle.min_sum.specs.Beliefs.{lists, outcome, ran as ranOf};
 use refusals::Answer;
 use tests_core::both;
@@ -40,8 +40,8 @@ fn parallel_turn(
     requires { ⌜ (length (now «c_to_v») ≡ length (now «check_var»)) × (length (now «v_to_c») ≡ length (now «check_var»)) × (length (now «ewa_posterior») ≡ length (now priors)) ⌝ }
     ensures { λ _. ⌜ belief (messages (now («c_to_v» .exit)) (now («v_to_c» .exit))) (now («ewa_posterior» .exit)) ≡ turned (walked (length (now (syndrome .entry))) (length (now (priors .entry))) (now («check_var» .entry)) (now («check_offset» .entry)) (now («var_message» .entry)) (now («var_offset» .entry))) false scale (now (syndrome .entry)) (now (priors .entry)) weight (belief (messages (now («c_to_v» .entry)) (now («v_to_c» .entry))) (now («ewa_posterior» .entry))) ⌝ }
 {
-    crate::pass::parallel_checks(scale, syndrome, check_var, check_offset, v_to_c, c_to_v);
-    crate::pass::update_and_average(
+    min_sum_core::pass::parallel_checks(scale, syndrome, check_var, check_offset, v_to_c, c_to_v);
+    min_sum_core::pass::update_and_average(
         weight,
         priors,
         var_message,
@@ -71,7 +71,7 @@ fn serial_turn(
     requires { ⌜ (length (now «c_to_v») ≡ length (now «check_var»)) × (length (now «v_to_c») ≡ length (now «check_var»)) × (length (now «ewa_posterior») ≡ length (now priors)) ⌝ }
     ensures { λ _. ⌜ belief (messages (now («c_to_v» .exit)) (now («v_to_c» .exit))) (now («ewa_posterior» .exit)) ≡ turned (walked (length (now (syndrome .entry))) (length (now (priors .entry))) (now («check_var» .entry)) (now («check_offset» .entry)) (now («var_message» .entry)) (now («var_offset» .entry))) true scale (now (syndrome .entry)) (now (priors .entry)) weight (belief (messages (now («c_to_v» .entry)) (now («v_to_c» .entry))) (now («ewa_posterior» .entry))) ⌝ }
 {
-    crate::pass::serial_checks(
+    min_sum_core::pass::serial_checks(
         scale,
         syndrome,
         priors,
@@ -82,7 +82,7 @@ fn serial_turn(
         c_to_v,
         v_to_c,
     );
-    crate::pass::average(
+    min_sum_core::pass::average(
         weight,
         priors,
         var_message,
@@ -321,7 +321,7 @@ fn choose(
 {
     let mut v = 0;
     while v < priors.len() {
-        let raw = crate::variable::raw_posterior(v, priors, var_message, var_offset, c_to_v);
+        let raw = min_sum_core::variable::raw_posterior(v, priors, var_message, var_offset, c_to_v);
         posterior[v] = chosen(ewa_posterior[v], raw);
         v += 1;
     }

@@ -6,7 +6,7 @@ use Prim.Native.Nat.{ℕ, zero, suc, _+_, _<_, _≤_}
 use native.Mathlib.Omega.{arith}
 use native.Mathlib.Numerals.{add-one}
 use lib.Dec.{eqb, ltb}
-use borrow.Author.Tests.{not-true, not-false, ltb-true, ltb-false, eqb-true, eqb-false}
+use borrow.Author.Tests.{not-true, not-false, ltb-true, ltb-false, eqb-true, eqb-false, eq-eqb, ne-eqb}
 use Rattle.numbers.specs.Loops.{every}
 
 -- ---- cases
@@ -34,6 +34,14 @@ last-or-before i n h = ⊎-elim (λ e. inl e) (λ e. inr (omega arith)) (equal-o
 pub and-both : (a b : Bool) → (a && b) ≡ true → (a ≡ true) × (b ≡ true)
 and-both true b h = (refl, h)
 and-both false b h = absurd (false≢true h)
+
+-- two tests of equality that follow from one another
+pub same-test : (a b x y : ℕ) → (a ≡ b → x ≡ y) → (x ≡ y → a ≡ b) → eqb a b ≡ eqb x y
+same-test a b x y f g =
+    ⊎-elim
+    (λ (e : a ≡ b). eq-eqb a b e ∙ sym (eq-eqb x y (f e)))
+    (λ (n : a ≡ b → ⊥). ne-eqb a b n ∙ sym (ne-eqb x y (λ e. n (g e))))
+    (equal-or-not a b)
 
 -- both choices alike
 pub either-way {ℓ} : {A : Type ℓ} (b : Bool) (x : A) → cond b x x ≡ x

@@ -16,8 +16,8 @@ use Rattle.numbers.proofs.Cases.{either-way}
 use Rattle.numbers.proofs.Loops.{foldl-take}
 use Rattle.refusals.specs.declared.Refusal.the-variants.{OrderExchanged}
 use Rattle.refusals.specs.declared.Answer.the-variants.{Done, Refused}
-use Rattle.graph.specs.Lists.{has}
-use Rattle.graph.specs.Sound.{Keys}
+use Rattle.graph_core.specs.Lists.{has}
+use Rattle.graph_core.specs.Sound.{Keys}
 use Rattle.orders_core.specs.Order.{count, namesOnce, anyOf, shares, above, late, exchanged}
 use Rattle.orders_core.specs.Marks.{highest, marked, overtaken}
 use Rattle.orders_core.proofs.All.{All, nil, cons, all-map, all-always, all-places, all-at, all-append, not-so, any-none}

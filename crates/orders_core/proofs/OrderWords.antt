@@ -16,8 +16,8 @@ use Rattle.numbers.proofs.Loops.{length-table, getD-table}
 use Rattle.refusals.specs.declared.Refusal.the-variants.{OrderExchanged}
 use Rattle.refusals.specs.declared.Answer.{Answer}
 use Rattle.refusals.specs.declared.Answer.the-variants.{Done, Refused}
-use Rattle.graph.specs.Lists.{has}
-use Rattle.graph.specs.Graph.{Graph, checkEntries}
+use Rattle.graph_core.specs.Lists.{has}
+use Rattle.graph_core.specs.Graph.{Graph, checkEntries}
 use Rattle.settings.specs.declared.Schedule.{Schedule}
 use Rattle.settings.specs.declared.Schedule.the-variants.{Flooding, CheckSerial}
 use Rattle.orders_core.specs.Order.{count, NamesOnce, anyOf, shares, above, late, exchanged, exchangeFault, KeepsOrder, FirstLate}

@@ -5,7 +5,7 @@ use mathlib.Core.Bool.{Bool, cond}
 use mathlib.Core.List.{List, foldl}
 use lib.Dec.{ltb}
 use lib.ListN.{getD, set}
-use Rattle.graph.specs.Lists.{has}
+use Rattle.graph_core.specs.Lists.{has}
 use Rattle.orders_core.specs.Order.{anyOf}
 
 -- the highest check of those named that has the mechanism v; 0 if none has it

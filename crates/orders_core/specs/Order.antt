@@ -10,8 +10,8 @@ use Rattle.refusals.specs.declared.Refusal.the-variants.{OrderNotEachOnce, Orde
 use Rattle.refusals.specs.declared.Answer.{Answer}
 use Rattle.refusals.specs.declared.Answer.the-variants.{Done, Refused}
 use Rattle.refusals.specs.Tests.{unless}
-use Rattle.graph.specs.Lists.{has}
-use Rattle.graph.specs.Graph.{Graph, checkEntries}
+use Rattle.graph_core.specs.Lists.{has}
+use Rattle.graph_core.specs.Graph.{Graph, checkEntries}
 use Rattle.settings.specs.declared.Schedule.{Schedule}
 use Rattle.settings.specs.declared.Schedule.the-variants.{Flooding, CheckSerial}
 

@@ -5,7 +5,7 @@ ghost use mathlib.Core.List.{[]};
 ghost use Prim.Native.Nat.{_≤_};
 ghost use lib.ListN.{length};
 ghost use Rattle.numbers.specs.Loops.{row, upto};
-ghost use Rattle.graph.specs.Sound.{Offsets, Keys};
+ghost use Rattle.graph_core.specs.Sound.{Offsets, Keys};
 ghost use Rattle.messages_core.specs.Needs.{ofChecks};
 ghost use Rattle.orders_core.specs.Order.{namesOnce, exchanged, namesFault, exchangeFault};
 ghost use Rattle.orders_core.specs.Marks.{marked, overtaken};

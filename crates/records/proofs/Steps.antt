@@ -1,25 +1,15 @@
--- What the code of one step and of one test computes is what the definition says, over plain numbers. Assumes nothing.
-use mathlib.Core.Path.{_≡_, sym, _∙_}
+-- What the code of one step computes is what the definition says, over plain numbers. Assumes nothing.
+use mathlib.Core.Path.{_≡_, sym}
 use mathlib.Core.Bool.{false}
 use mathlib.Core.List.{List}
-use mathlib.Core.Logic.{⊎-elim}
 use Prim.Native.Nat.{ℕ, _+_, _*_, _-_, _/_, _%_, _^_, _<_, _≤_}
 use native.Mathlib.Omega.{arith}
 use lib.Dec.{eqb}
 use lib.ListN.{length, set}
 use lib.Seq.{set-out}
-use borrow.Author.Tests.{lt-ltb, le-ltb, le-leb, lt-leb, eq-eqb, ne-eqb}
-use Rattle.numbers.proofs.Cases.{equal-or-not}
-use Rattle.records.specs.Stream.{countsFit}
+use borrow.Author.Tests.{lt-ltb, le-ltb, le-leb, lt-leb, ne-eqb}
+use Rattle.numbers.proofs.Cases.{same-test}
 use Rattle.records.specs.Reading.{grown, summed, keptWith}
-
--- two tests of equality that follow from one another
-same-test : (a b x y : ℕ) → (a ≡ b → x ≡ y) → (x ≡ y → a ≡ b) → eqb a b ≡ eqb x y
-same-test a b x y f g =
-    ⊎-elim
-    (λ (e : a ≡ b). eq-eqb a b e ∙ sym (eq-eqb x y (f e)))
-    (λ (n : a ≡ b → ⊥). ne-eqb a b n ∙ sym (ne-eqb x y (λ e. n (g e))))
-    (equal-or-not a b)
 
 -- ---- the end of a record
 
@@ -73,23 +63,3 @@ module _ (at b : ℕ) (kept : List ℕ) where
   pub keep-in : 6 ≤ at → set kept (at - 6) b ≡ keptWith at b kept
   unfolding keptWith
   keep-in h = rw (le-leb 6 at h)
-
--- ---- a model's length
-
-module _ (size mechanisms edges : ℕ) where
-  pub counts-small : size < 12 → false ≡ countsFit size mechanisms edges
-  unfolding countsFit
-  counts-small h = sym (ne-eqb size _ (λ e. omega arith))
-
-  pub counts-mechanisms : 12 ≤ size → (size - 12) / 12 < mechanisms → false ≡ countsFit size mechanisms edges
-  unfolding countsFit
-  counts-mechanisms h k = sym (ne-eqb size _ (λ e. omega arith))
-
-  pub counts-edges : 12 ≤ size → mechanisms ≤ (size - 12) / 12 → (size - 12 - 12 * mechanisms) / 4 < edges → false ≡ countsFit size mechanisms edges
-  unfolding countsFit
-  counts-edges h k l = sym (ne-eqb size _ (λ e. omega arith))
-
-  pub counts-last : 12 ≤ size → mechanisms ≤ (size - 12) / 12 → eqb (size - 12 - 12 * mechanisms) (4 * edges) ≡ countsFit size mechanisms edges
-  unfolding countsFit
-  counts-last h k =
-      same-test (size - 12 - 12 * mechanisms) (4 * edges) size (12 + (12 * mechanisms + 4 * edges)) (λ e. omega arith) (λ e. omega arith)

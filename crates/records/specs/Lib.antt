@@ -1,5 +1,2 @@
 -- The definitions that the contracts of this crate and of those above it cite.
-pub mod Stream
 pub mod Reading
-pub mod Fields
-pub mod Payloads

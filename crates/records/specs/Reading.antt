@@ -9,7 +9,7 @@ use Rattle.refusals.specs.declared.Refusal.the-variants.{CutRecord}
 use Rattle.refusals.specs.declared.Answer.{Answer}
 use Rattle.refusals.specs.Tests.{unless}
 use Rattle.records.specs.declared.Reader.{Reader}
-use Rattle.records.specs.Stream.{Rec, encode, lengthSaid, kindSaid, checks, mechanisms, edges, degrees, legs, scheduleByte, tested}
+use Rattle.records_core.specs.Stream.{Rec, encode, lengthSaid, kindSaid, checks, mechanisms, edges, degrees, legs, scheduleByte, tested}
 
 -- a reader before the first byte of the record at an offset
 abbrev pub fresh : ℕ → Reader

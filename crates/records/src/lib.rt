@@ -1,13 +1,13 @@
 // The record stream of document 01, judged record by record. It is read byte by byte, in pieces of any size: what a record says is kept in a small struct, its
 // payload in a lent list, and no record's length makes the reading fail or stop. Every call takes every input.
-mod fields;
-mod rules;
 mod step;
 
 ghost use mathlib.Core.Path.{_≡_};
 ghost use Rattle.records.specs.Reading.{fresh, isWhole, held, pushed, verdict as verdictOf, atEnd};
-ghost use Rattle.records.specs.Stream.{seed, isOfShot};
-ghost use Rattle.records.specs.Fields.{countsOf, modelLists, modelRead, settingsOf};
+ghost use Rattle.records_core.specs.Stream.{seed, isOfShot};
+ghost use Rattle.records_core.specs.Fields.{countsOf, modelLists, modelRead, settingsOf};
+use records_core::fields;
+use records_core::rules;
 use refusals::Answer;
 use refusals::Refusal;
 use settings::GammaSource;
@@ -95,11 +95,7 @@ pub fn at_end(r: Reader) -> Answer
 }
 
 // A model's counts.
-pub struct Counts {
-    pub checks: usize,
-    pub mechanisms: usize,
-    pub edges: usize,
-}
+pub type Counts = records_core::Counts;
 
 // The counts of a model's payload.
 pub fn read_counts(payload: &[u8]) -> Counts

@@ -6,9 +6,9 @@ use mathlib.Core.Logic.{_↔_}
 use Rattle.refusals.specs.declared.Answer.{Answer}
 use Rattle.refusals.specs.declared.Answer.the-variants.{Done, Refused}
 use Rattle.refusals.proofs.Tests.{or-done}
-use Rattle.graph.specs.Graph.{Graph}
-use Rattle.graph.proofs.Sound.{Sound, passes-sound}
-use Rattle.graph.proofs.GraphTests.{graph-told}
+use Rattle.graph_core.specs.Graph.{Graph}
+use Rattle.graph_core.proofs.Sound.{Sound, passes-sound}
+use Rattle.graph_core.proofs.GraphTests.{graph-told}
 use Rattle.settings.specs.declared.Schedule.the-variants.{Flooding, CheckSerial}
 use Rattle.numbers.specs.Loops.{upto}
 use Rattle.orders_core.specs.Order.{NamesOnce, KeepsOrder, namesFault, exchangeFault}

@@ -12,11 +12,11 @@ use borrow.Author.Tests.{eqb-false}
 use Rattle.numbers.specs.Floats.{_+ᶠ_, _-ᶠ_, zero⁻}
 use Rattle.numbers.specs.Loops.{part, row, spliced}
 use Rattle.numbers.proofs.Loops.{length-table, Outside, length-part, getD-part, length-spliced, spliced-out}
-use Rattle.graph.specs.Lists.{has}
-use Rattle.graph.specs.Graph.{Graph, checkEntries, varEntries}
-use Rattle.graph.specs.Messages.{total}
-use Rattle.graph.proofs.Sound.{Sound}
-use Rattle.graph.proofs.Cuts.{offsets-rise, row-end}
+use Rattle.graph_core.specs.Lists.{has}
+use Rattle.graph_core.specs.Graph.{Graph, checkEntries, varEntries}
+use Rattle.graph_core.specs.Messages.{total}
+use Rattle.graph_core.proofs.Sound.{Sound}
+use Rattle.graph_core.proofs.Cuts.{offsets-rise, row-end}
 use Rattle.relay_core.specs.Step.{State, state, sentTo, checkMessages, updateCheck, written, updateVariable, serialCheck}
 use Rattle.orders_core.specs.Order.{shares}
 use Rattle.orders_core.proofs.All.{All, nil, cons, all-map, all-places, all-at, all-head, all-tail, any-none, or-left, or-right}

@@ -7,16 +7,16 @@ use native.Mathlib.Omega.{arith}
 use lib.Ieee.{Float}
 use lib.ListN.{length-replicate, length-map}
 use Rattle.refusals.specs.declared.Answer.the-variants.{Done}
-use Rattle.graph.specs.Graph.{Graph, checkEntries}
-use Rattle.graph.specs.Messages.{fromVariables, cleared}
-use Rattle.graph.proofs.Sound.{Sound}
+use Rattle.graph_core.specs.Graph.{Graph, checkEntries}
+use Rattle.graph_core.specs.Messages.{fromVariables, cleared}
+use Rattle.graph_core.proofs.Sound.{Sound}
 use Rattle.settings.specs.declared.Schedule.{Schedule}
 use Rattle.settings.specs.declared.Schedule.the-variants.{Flooding, CheckSerial}
 use Rattle.relay_core.specs.Step.{State, updateCheck, computeBias, checkPass, variablePass, floodingIteration, serialCheck, serialPass, checkSerialIteration, iteration}
 use Rattle.numbers.specs.Loops.{upto}
 use Rattle.orders_core.specs.Order.{NamesOnce, exchanged, exchangeFault}
 use Rattle.relay_core.specs.Leg.{startLeg, runLeg, satisfied}
-use Rattle.relay_core.specs.Gammas.{gammaOf}
+use Rattle.gammas_core.specs.Gammas.{gammaOf}
 use Rattle.calls_core.specs.Decode.{Shot, Run, running, iterationLimit, stepOf, executedLeg, startRun, recorded, afterLeg, decodeLegs}
 use Rattle.calls_core.specs.Calls.{withOrder}
 use Rattle.calls_core.proofs.Calls.{legs-agree}

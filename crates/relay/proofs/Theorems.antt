@@ -10,7 +10,7 @@ use lib.Ieee.{Float}
 use Rattle.refusals.specs.declared.Refusal.the-variants.{OrderExchanged}
 use Rattle.refusals.specs.declared.Answer.{Answer}
 use Rattle.refusals.specs.declared.Answer.the-variants.{Done, Refused}
-use Rattle.graph.specs.Graph.{Graph, checkEntries}
+use Rattle.graph_core.specs.Graph.{Graph, checkEntries}
 use Rattle.settings.specs.declared.Schedule.{Schedule}
 use Rattle.settings.specs.declared.Schedule.the-variants.{Flooding, CheckSerial}
 use Rattle.calls_core.specs.declared.LegRecord.{LegRecord}
@@ -18,7 +18,7 @@ use Rattle.orders_core.specs.Order.{NamesOnce, KeepsOrder, FirstLate, namesFaul
 use Rattle.calls_core.specs.declared.Decoded.{Decoded}
 use Rattle.relay_core.specs.Step.{State, iteration}
 use Rattle.relay_core.specs.Leg.{startLeg, runLeg, satisfied}
-use Rattle.relay_core.specs.Gammas.{gammaOf}
+use Rattle.gammas_core.specs.Gammas.{gammaOf}
 use Rattle.calls_core.specs.Decode.{Shot, iterationLimit, stepOf, executedLeg}
 use Rattle.calls_core.specs.Calls.{StepLists, StepOutcome, stepOutcome, stepFault, stepped, iterationCall, legRecord, Lists, Outcome, outcome, decodeInOrder, decode}
 use Rattle.orders_core.proofs.OrderWords.{exchanged-is}

@@ -1,7 +1,7 @@
 // Relay-BP over a Tanner graph: one iteration in any order, a decode in index order or another, and the reading of a leg's record. What they mean stands in calls_core/specs.
 ghost use mathlib.Core.Path.{_≡_};
 ghost use mathlib.Core.List.{[]};
-ghost use Rattle.graph.specs.Graph.{graph};
+ghost use Rattle.graph_core.specs.Graph.{graph};
 ghost use Rattle.relay_core.specs.Step.{state};
 ghost use Rattle.calls_core.specs.Calls.{stepLists, stepOutcome, iterationCall, legRecord, outcome, decodeInOrder, decode as decodeOf};
 use messages_core::at;

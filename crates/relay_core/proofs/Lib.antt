@@ -4,4 +4,3 @@ pub mod Variables
 pub mod Passes
 pub mod Sends
 pub mod Legs
-pub mod Draws

@@ -10,7 +10,7 @@ use lib.ListN.{length, getD, take, set}
 use lib.Seq.{take-suc-set, take-all}
 use Rattle.numbers.specs.Loops.{part, spliced}
 use Rattle.numbers.proofs.Loops.{foldl-take}
-use Rattle.graph.specs.Graph.{Graph}
+use Rattle.graph_core.specs.Graph.{Graph}
 use Rattle.messages_core.specs.Needs.{walked, ofChecks, ofVariables}
 use Rattle.relay_core.specs.Step.{State, state, checkMessages, updateCheck, updateVariable, biasOf, biasesTo, computeBias, checkPass, variablePass, floodingIteration, serialCheck, serialPass, checkSerialIteration}
 

@@ -14,7 +14,7 @@ use borrow.Author.Tests.{eq-eqb, ne-eqb}
 use Rattle.numbers.specs.Floats.{_*ᶠ_, zero⁺, one⁺, one⁻, abs, messageSign}
 use Rattle.numbers.proofs.Cases.{less-or-not}
 use Rattle.numbers.proofs.Loops.{tables-agree, but-one}
-use Rattle.graph.specs.Messages.{Scan, scanOf, lowered}
+use Rattle.graph_core.specs.Messages.{Scan, scanOf, lowered}
 use Rattle.messages_core.specs.Needs.{Rises}
 use Rattle.relay_core.specs.Step.{noVariable, scanned, scan, saturated, sent, sentTo, checkMessages}
 use Rattle.relay_core.specs.Places.{scanPlaces, bySigns}

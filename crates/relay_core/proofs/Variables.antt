@@ -8,8 +8,8 @@ use lib.ListN.{length, getD, take, set}
 use Rattle.numbers.specs.Floats.{_+ᶠ_, _-ᶠ_}
 use Rattle.numbers.specs.Loops.{part}
 use Rattle.numbers.proofs.Loops.{foldl-take}
-use Rattle.graph.specs.Graph.{Graph}
-use Rattle.graph.specs.Messages.{total}
+use Rattle.graph_core.specs.Graph.{Graph}
+use Rattle.graph_core.specs.Messages.{total}
 use Rattle.messages_core.specs.Needs.{ofVariables}
 use Rattle.relay_core.specs.Step.{State, state, written, updateVariable}
 

@@ -10,8 +10,8 @@ use lib.Ieee.{Float, nan, binary64, lt, ofInt}
 use lib.ListN.{getD}
 use Rattle.numbers.specs.Floats.{_+ᶠ_, _*ᶠ_, zero⁺, zero⁻}
 use Rattle.numbers.specs.Loops.{turns, every}
-use Rattle.graph.specs.Graph.{Graph, checkEntries}
-use Rattle.graph.specs.Messages.{fromVariables, cleared}
+use Rattle.graph_core.specs.Graph.{Graph, checkEntries}
+use Rattle.graph_core.specs.Messages.{fromVariables, cleared}
 use Rattle.relay_core.specs.Step.{State, state}
 
 -- `start_leg`: check messages cleared, variable messages at the priors, the posterior carried on

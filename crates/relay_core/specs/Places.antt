@@ -6,7 +6,7 @@ use lib.Ieee.{Float, nan, lt}
 use lib.ListN.{getD}
 use Rattle.numbers.specs.Floats.{zero⁺}
 use Rattle.numbers.specs.Loops.{turns, table}
-use Rattle.graph.specs.Messages.{Scan, startScan}
+use Rattle.graph_core.specs.Messages.{Scan, startScan}
 use Rattle.relay_core.specs.Step.{scanned}
 
 -- the scan of the first n messages, with the least by its place

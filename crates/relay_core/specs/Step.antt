@@ -8,8 +8,8 @@ use lib.Ieee.{Float, nan}
 use lib.ListN.{length, getD, set}
 use Rattle.numbers.specs.Floats.{_+ᶠ_, _-ᶠ_, _*ᶠ_, saturation, isFinite, messageSign}
 use Rattle.numbers.specs.Loops.{turns, table, row, spliced}
-use Rattle.graph.specs.Graph.{Graph, checkEntries, varEntries}
-use Rattle.graph.specs.Messages.{Scan, startScan, lowered, total}
+use Rattle.graph_core.specs.Graph.{Graph, checkEntries, varEntries}
+use Rattle.graph_core.specs.Messages.{Scan, startScan, lowered, total}
 use Rattle.settings.specs.declared.Schedule.{Schedule}
 use Rattle.settings.specs.declared.Schedule.the-variants.{Flooding, CheckSerial}
 

@@ -7,7 +7,7 @@ ghost use lib.Ieee.{lt};
 ghost use lib.ListN.{length};
 ghost use Rattle.numbers.specs.Floats.{_*ᶠ_, zero⁺};
 ghost use Rattle.numbers.specs.Loops.{part, spliced};
-ghost use Rattle.graph.specs.Messages.{scanOf};
+ghost use Rattle.graph_core.specs.Messages.{scanOf};
 ghost use Rattle.messages_core.specs.Needs.{Ordered, Rises};
 ghost use Rattle.relay_core.specs.Step.{scanned as scannedOf, saturated as saturatedOf, checkMessages};
 ghost use Rattle.relay_core.specs.Places.{scanPlaces, bySigns};

@@ -4,7 +4,7 @@ ghost use mathlib.Core.Bool.{false};
 ghost use Prim.Native.Nat.{_<_};
 ghost use lib.ListN.{length};
 ghost use Rattle.numbers.specs.Loops.{every};
-ghost use Rattle.graph.specs.Sound.{Keys};
+ghost use Rattle.graph_core.specs.Sound.{Keys};
 ghost use Rattle.messages_core.specs.Needs.{Walks, walked, ofChecks};
 ghost use Rattle.relay_core.specs.Step.{state, iteration};
 ghost use Rattle.relay_core.specs.Leg.{hardBit, hardDecision, parity as parityOf, matches as matchesOf, satisfied as satisfiedBy, leg as legOf, runLeg, cost as costOf, correctionWeight};

@@ -3,7 +3,7 @@ ghost use mathlib.Core.Path.{_≡_};
 ghost use mathlib.Core.List.{[]};
 ghost use Prim.Native.Nat.{_<_};
 ghost use lib.ListN.{length};
-ghost use Rattle.graph.specs.Sound.{Offsets, Keys};
+ghost use Rattle.graph_core.specs.Sound.{Offsets, Keys};
 ghost use Rattle.messages_core.specs.Needs.{Walks, walked, ofChecks, ofVariables, RowsRise};
 ghost use Rattle.relay_core.specs.Step.{state, biasOf, computeBias, updateCheck, checkPass, variablePass, serialCheck, serialPass, floodingIteration, checkSerialIteration, iteration};
 use crate::check::update_part;

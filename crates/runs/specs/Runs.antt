@@ -14,9 +14,9 @@ use Rattle.refusals.specs.declared.Answer.{Answer}
 use Rattle.refusals.specs.declared.Answer.the-variants.{Done, Refused}
 use Rattle.refusals.specs.declared.Place.the-variants.{At}
 use Rattle.refusals.specs.Refusal.{answerNumber, answerPlace}
-use Rattle.graph.specs.Graph.{Graph, graph, varEntries}
-use Rattle.graph.specs.Model as Model
-use Rattle.graph.specs.Model.{buildSparse}
+use Rattle.graph_core.specs.Graph.{Graph, graph, varEntries}
+use Rattle.graph_core.specs.Model as Model
+use Rattle.graph_core.specs.Model.{buildSparse}
 use Rattle.min_sum.specs.Beliefs as Beliefs
 use Rattle.settings.specs.declared.Settings.{Settings}
 use Rattle.settings.specs.declared.Schedule.{Schedule}

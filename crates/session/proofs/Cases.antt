@@ -10,7 +10,7 @@ use Rattle.refusals.specs.declared.Refusal.{Refusal}
 use Rattle.refusals.specs.declared.Answer.{Answer}
 use Rattle.refusals.specs.declared.Answer.the-variants.{Done, Refused}
 use Rattle.refusals.specs.Refusal.{numberOf}
-use Rattle.records.specs.Stream.{isOfShot}
+use Rattle.records_core.specs.Stream.{isOfShot}
 use Rattle.records.specs.declared.Reader.{Reader}
 use Rattle.records.specs.Reading.{Held, held, pushed, isWhole, atEnd}
 use Rattle.lines.specs.Lines.{stoppedLine, endLine}

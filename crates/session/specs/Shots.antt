@@ -15,9 +15,9 @@ use Rattle.settings.specs.Settings.{published}
 use Rattle.calls_core.specs.declared.Decoded.{Decoded}
 use Rattle.calls_core.specs.declared.Decoded.the-variants as Decoded
 use Rattle.records.specs.declared.Reader.{Reader}
-use Rattle.records.specs.Stream.{mechanisms, isOfShot}
+use Rattle.records_core.specs.Stream.{mechanisms, isOfShot}
 use Rattle.records.specs.Reading.{fresh, held, pushed, isWhole, verdict, atEnd, keptOf}
-use Rattle.records.specs.Fields.{settingsOf}
+use Rattle.records_core.specs.Fields.{settingsOf}
 use Rattle.lines.specs.Lines.{shotLine, refusedLine, stoppedLine, endLine, unlessTooLong}
 use Rattle.shots_core.specs.Table.{modelFault, settingsAnswer, Decoding, shotDecoded}
 use Rattle.session.specs.declared.Known.{Known}

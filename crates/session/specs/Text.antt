@@ -4,7 +4,7 @@ use Prim.Native.Nat.{ℕ, _+_, _%_, _^_}
 use mathlib.Core.Bool.{cond}
 use mathlib.Core.List.{List, [], _∷_, _++_}
 use lib.ListN.{length}
-use Rattle.records.specs.Stream.{Rec, encode, judge, leftOver}
+use Rattle.records_core.specs.Stream.{Rec, encode, judge, leftOver}
 use Rattle.records.specs.Reading.{holding}
 use Rattle.session.specs.declared.Session.{Session}
 use Rattle.session.specs.Shots.{Taken, judged, reads, lastText, textOf}

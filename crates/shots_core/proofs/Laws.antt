@@ -10,16 +10,16 @@ use Rattle.refusals.specs.declared.Refusal.the-variants.{BeyondRoom}
 use Rattle.refusals.specs.declared.Answer.{Answer}
 use Rattle.refusals.specs.declared.Answer.the-variants.{Refused}
 use Rattle.refusals.specs.Tests.{unless, orElse}
-use Rattle.graph.specs.Graph.{Graph, graph}
-use Rattle.graph.specs.Model.{outcome, buildSparse}
+use Rattle.graph_core.specs.Graph.{Graph, graph}
+use Rattle.graph_core.specs.Model.{outcome, buildSparse}
 use Rattle.settings.specs.declared.Settings.{Settings}
 use Rattle.calls_core.specs.declared.Decoded.{Decoded}
 use Rattle.calls_core.specs.declared.Decoded.the-variants as Decoded
 use Rattle.calls_core.specs.Calls as Calls
-use Rattle.records.specs.declared.Counts.{Counts}
-use Rattle.records.specs.Stream.{syndrome, seed}
-use Rattle.records.specs.Fields.{countsOf, ModelLists, modelLists, modelRead}
-use Rattle.records.proofs.Fills.{room-parts}
+use Rattle.records_core.specs.declared.Counts.{Counts}
+use Rattle.records_core.specs.Stream.{syndrome, seed}
+use Rattle.records_core.specs.Fields.{countsOf, ModelLists, modelLists, modelRead}
+use Rattle.records_core.proofs.Fills.{room-parts}
 use Rattle.shots_core.specs.Table.{modelRoom, graphRoom, shotRoom, within, builtFrom, modelFault, decodedFrom, Decoding, decoding, found, shotDecoded}
 
 -- ---- lists

@@ -10,16 +10,16 @@ use Rattle.numbers.specs.Floats.{zero⁺}
 use Rattle.refusals.specs.declared.Refusal.the-variants.{BeyondRoom}
 use Rattle.refusals.specs.declared.Answer.{Answer}
 use Rattle.refusals.specs.Tests.{unless, orElse}
-use Rattle.graph.specs.Graph.{Graph, graph}
-use Rattle.graph.specs.Model.{Outcome, buildSparse}
+use Rattle.graph_core.specs.Graph.{Graph, graph}
+use Rattle.graph_core.specs.Model.{Outcome, buildSparse}
 use Rattle.settings.specs.declared.Settings.{Settings}
 use Rattle.settings.specs.Settings.{settingsFault}
 use Rattle.calls_core.specs.declared.Decoded.{Decoded}
 use Rattle.calls_core.specs.declared.Decoded.the-variants as Decoded
 use Rattle.calls_core.specs.Calls as Calls
-use Rattle.records.specs.declared.Counts.{Counts}
-use Rattle.records.specs.Stream.{seed, syndrome}
-use Rattle.records.specs.Fields.{countsOf, ModelLists, modelLists, modelRead, settingsOf}
+use Rattle.records_core.specs.declared.Counts.{Counts}
+use Rattle.records_core.specs.Stream.{seed, syndrome}
+use Rattle.records_core.specs.Fields.{countsOf, ModelLists, modelLists, modelRead, settingsOf}
 
 -- ---- the lists that the program lends: the first n of an array that is filled with one value
 

@@ -3,8 +3,8 @@
 ghost use mathlib.Core.Path.{_≡_};
 ghost use Prim.Native.Nat.{_≤_};
 ghost use lib.ListN.{length, take, drop};
-ghost use Rattle.graph.specs.Graph.{graph};
-ghost use Rattle.records.specs.Fields.{modelLists};
+ghost use Rattle.graph_core.specs.Graph.{graph};
+ghost use Rattle.records_core.specs.Fields.{modelLists};
 ghost use Rattle.shots_core.specs.Table.{builtFrom, modelFault, settingsAnswer, decodedFrom, decoding, found, shotDecoded, modelRoom, graphRoom, shotRoom, within as withinOf};
 use calls_core::Decoded;
 use graph::Size;

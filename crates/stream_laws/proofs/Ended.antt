@@ -6,7 +6,7 @@ use mathlib.Core.List.{List, [], _∷_, _++_}
 use native.Mathlib.Omega.{arith}
 use lib.ListN.{length}
 use Rattle.records.specs.declared.Reader.{Reader}
-use Rattle.records.specs.Stream.{Rec, AllSayable, more, leftOver}
+use Rattle.records_core.specs.Stream.{Rec, AllSayable, more, leftOver}
 use Rattle.records.specs.Reading.{keptOf, toMeet}
 use Rattle.stream_laws.proofs.Whole.{length-kept}
 use Rattle.stream_laws.proofs.Along.{endOf}

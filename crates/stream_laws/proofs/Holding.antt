@@ -8,9 +8,9 @@ use native.Mathlib.Omega.{arith}
 use lib.ListN.{length, getD, set, take, drop, length-append, length-drop, length-take, drop-of-length-le}
 use lib.Seq.{take-all, drop-cons, drop-append-le, take-append-le, set-at, set-out, append-snoc}
 use Rattle.numbers.proofs.Cases.{less-or-not}
-use Rattle.records.specs.Stream.{AreBytes, numberAt, lengthSaid, kindSaid, checks, mechanisms, edges, degrees}
+use Rattle.records_core.specs.Stream.{AreBytes, numberAt, lengthSaid, kindSaid, checks, mechanisms, edges, degrees}
 use Rattle.records.specs.Reading.{holding, grown, summed, added, keptOf}
-use Rattle.records.proofs.Bytes.{bytes-more, bytes-drop, number-bound, number-drop, number-before, number-within, number-after}
+use Rattle.records_core.proofs.Bytes.{bytes-more, bytes-drop, number-bound, number-drop, number-before, number-within, number-after}
 use Rattle.stream_laws.proofs.Degrees.{degrees-none, degrees-same, degrees-more, degrees-small}
 use Rattle.records.proofs.Steps.{grown-before, grown-after, grown-within, summed-before, summed-after, summed-within}
 

@@ -17,7 +17,7 @@ use Rattle.refusals.specs.Refusal.{numberOf}
 use Rattle.calls_core.specs.declared.Decoded.{Decoded}
 use Rattle.calls_core.specs.declared.Decoded.the-variants as Decoded
 use Rattle.records.specs.declared.Reader.{Reader}
-use Rattle.records.specs.Stream.{Rec, Sayable, lengthSaid, mechanisms, isOfShot, lengthGood, roomGood}
+use Rattle.records_core.specs.Stream.{Rec, Sayable, lengthSaid, mechanisms, isOfShot, lengthGood, roomGood}
 use Rattle.records.specs.Reading.{holding, keptOf, verdict}
 use Rattle.stream_laws.proofs.Accepted.{passed, model-within}
 use Rattle.stream_laws.proofs.Kept.{kept-front}

@@ -5,7 +5,7 @@ use mathlib.Core.Bool.{false}
 use mathlib.Core.List.{List, _++_}
 use lib.ListN.{length, take, drop}
 use lib.Seq.{take-append-seam}
-use Rattle.records.specs.Stream.{AreBytes, Rec, AllSayable, stream, isComplete}
+use Rattle.records_core.specs.Stream.{AreBytes, Rec, AllSayable, stream, isComplete}
 use Rattle.records.specs.Reading.{fresh, held, fed, keptOf}
 use Rattle.session.specs.declared.Session.{Session}
 use Rattle.session.specs.Shots.{Left, start, byteTaken, lastText, endText, written}

@@ -7,7 +7,7 @@ use borrow.Author.Needs.{needs}
 use Rattle.refusals.specs.Tests.{firstOf}
 use Rattle.refusals.specs.declared.Answer.the-variants.{Done}
 use Rattle.refusals.proofs.Tests.{first-refuse, first-go}
-use Rattle.graph.specs.Messages.{valueFault}
+use Rattle.graph_core.specs.Messages.{valueFault}
 use Rattle.messages_core.proofs.first_not_finite.Statement.{statement}
 use Rattle.messages_core.proofs.first_not_finite.Tie as tie
 

@@ -1,5 +1,5 @@
 -- `messages_core::lowered` meets its contract. Each field is found by itself, and the two least stay ordered. Assumes nothing.
-use Rattle.graph.specs.Messages.{lowered}
+use Rattle.graph_core.specs.Messages.{lowered}
 use Rattle.messages_core.proofs.Least.{ordered-next}
 use borrow.Author.Needs.{needs}
 use Rattle.messages_core.proofs.lowered.Statement.{statement}

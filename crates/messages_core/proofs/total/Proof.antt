@@ -5,7 +5,7 @@ use native.Mathlib.Omega.{arith}
 use lib.Ieee.{ofBits, neg}
 use lib.ListN.{length, take}
 use lib.Seq.{take-all}
-use Rattle.graph.specs.Messages.{total}
+use Rattle.graph_core.specs.Messages.{total}
 use Rattle.messages_core.proofs.Turns.{total-turn}
 use Rattle.messages_core.proofs.total.Statement.{statement}
 use Rattle.messages_core.proofs.total.Tie as tie

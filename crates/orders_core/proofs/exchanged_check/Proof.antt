@@ -8,8 +8,8 @@ use Rattle.numbers.specs.Loops.{part, row}
 use Rattle.orders_core.proofs.All.{all-at}
 use Rattle.orders_core.proofs.Counts.{names-below, names-once-is}
 use Rattle.orders_core.specs.Order.{exchanged}
-use Rattle.graph.specs.Sound.{Keys}
-use Rattle.graph.proofs.Cuts.{cut-bounds}
+use Rattle.graph_core.specs.Sound.{Keys}
+use Rattle.graph_core.proofs.Cuts.{cut-bounds}
 use Rattle.messages_core.proofs.Parts.{part-names}
 use Rattle.orders_core.proofs.OrderTests.{Tells, tells-start, test-found, test-goes-on, test-tells, exchange-done, length-marked}
 use Rattle.orders_core.proofs.exchanged_check.Statement.{statement}

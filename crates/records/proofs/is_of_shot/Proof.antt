@@ -1,7 +1,7 @@
 -- `records::is_of_shot` meets its contract. Number by number.
 -- Assumes nothing.
 use borrow.Author.Tests.{eq-eqb, ne-eqb}
-use Rattle.records.specs.Stream.{isOfShot}
+use Rattle.records_core.specs.Stream.{isOfShot}
 use Rattle.records.proofs.is_of_shot.Statement.{statement}
 use Rattle.records.proofs.is_of_shot.Tie as tie
 

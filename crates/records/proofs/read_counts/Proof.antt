@@ -1,7 +1,7 @@
 -- `records::read_counts` meets its contract. Count by count.
 -- Assumes nothing.
-use Rattle.records.specs.Stream.{checks, mechanisms, edges}
-use Rattle.records.specs.Fields.{countsOf}
+use Rattle.records_core.specs.Stream.{checks, mechanisms, edges}
+use Rattle.records_core.specs.Fields.{countsOf}
 use borrow.Author.Needs.{needs}
 use Rattle.records.proofs.read_counts.Statement.{statement}
 use Rattle.records.proofs.read_counts.Tie as tie

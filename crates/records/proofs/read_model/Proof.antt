@@ -4,8 +4,8 @@ use mathlib.Core.Path.{_≡_, sym, _∙_}
 use Prim.Native.Nat.{_≤_}
 use lib.ListN.{length}
 use borrow.Author.Tests.{not-true, not-false}
-use Rattle.records.specs.Fields.{modelLists, withinRoom}
-use Rattle.records.proofs.Fills.{room-parts, lists-left, lists-read}
+use Rattle.records_core.specs.Fields.{modelLists, withinRoom}
+use Rattle.records_core.proofs.Fills.{room-parts, lists-left, lists-read}
 use borrow.Author.Needs.{needs}
 use Rattle.records.proofs.read_model.Statement.{statement}
 use Rattle.records.proofs.read_model.Tie as tie

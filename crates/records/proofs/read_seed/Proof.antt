@@ -1,6 +1,6 @@
 -- `records::read_seed` meets its contract. It is the number at its place.
 -- Assumes nothing.
-use Rattle.records.specs.Stream.{seed}
+use Rattle.records_core.specs.Stream.{seed}
 use borrow.Author.Needs.{needs}
 use Rattle.records.proofs.read_seed.Statement.{statement}
 use Rattle.records.proofs.read_seed.Tie as tie

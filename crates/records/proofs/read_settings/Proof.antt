@@ -1,7 +1,7 @@
 -- `records::read_settings` meets its contract. Field by field.
 -- Assumes nothing.
-use Rattle.records.specs.Stream.{alphaBits, gamma0Bits, preIterations, legIterations, lowBits, highBits, stop}
-use Rattle.records.specs.Fields.{settingsOf}
+use Rattle.records_core.specs.Stream.{alphaBits, gamma0Bits, preIterations, legIterations, lowBits, highBits, stop}
+use Rattle.records_core.specs.Fields.{settingsOf}
 use borrow.Author.Needs.{needs}
 use Rattle.records.proofs.read_settings.Statement.{statement}
 use Rattle.records.proofs.read_settings.Tie as tie

@@ -1,6 +1,6 @@
 -- `records::verdict` meets its contract. The tests, each equal to its part of the definition, joined as there.
 -- Assumes nothing.
-use Rattle.records.specs.Stream.{tested}
+use Rattle.records_core.specs.Stream.{tested}
 use Rattle.records.specs.Reading.{verdict}
 use borrow.Author.Needs.{needs}
 use Rattle.records.proofs.verdict.Statement.{statement}

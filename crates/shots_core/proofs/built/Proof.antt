@@ -1,6 +1,6 @@
 -- `shots_core::built` meets its contract. What is read is built. Assumes nothing.
 use mathlib.Core.Path.{ap}
-use Rattle.graph.specs.Model.{Outcome}
+use Rattle.graph_core.specs.Model.{Outcome}
 use Rattle.shots_core.proofs.Laws.{built-read}
 use borrow.Author.Needs.{needs}
 use Rattle.shots_core.proofs.built.Statement.{statement}

@@ -1,7 +1,7 @@
 -- `shots_core::decode_shot` meets its contract. A shot over a model within the room is decoded, over another one refused. Assumes nothing.
 use mathlib.Core.Path.{_∙_}
 use borrow.Rule.Slice.PartAt.{part-to-end}
-use Rattle.records.specs.Stream.{syndrome}
+use Rattle.records_core.specs.Stream.{syndrome}
 use Rattle.shots_core.proofs.Laws.{counts-fit, shot-within, shot-beyond}
 use borrow.Author.Needs.{needs}
 use Rattle.shots_core.proofs.decode_shot.Statement.{statement}

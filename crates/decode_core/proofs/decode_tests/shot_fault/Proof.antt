@@ -1,7 +1,7 @@
 -- `decode_core::decode_tests::shot_fault` meets its contract. Each test is the definition's, and so is their order; those passed say that what is reckoned next fits.
 -- Assumes nothing.
 use mathlib.Core.List.{[]}
-use Rattle.graph.specs.Graph.{graph}
+use Rattle.graph_core.specs.Graph.{graph}
 use Rattle.legs_core.specs.Kept.{shotFault}
 use Rattle.decode_core.proofs.WholeGraph.{whole}
 use Rattle.refusals.proofs.Tests.{or-refused, or-passed}

@@ -3,7 +3,7 @@
 use mathlib.Core.Path.{ap, _∙_}
 use native.Mathlib.Omega.{arith}
 use Rattle.relay_core.specs.Leg.{leg}
-use Rattle.relay_core.specs.Gammas.{gammaOf}
+use Rattle.gammas_core.specs.Gammas.{gammaOf}
 use Rattle.legs_core.proofs.Records.{limit-some, limit-few, sets-along, executed-is}
 use borrow.Author.Needs.{needs}
 use Rattle.legs_core.proofs.one_leg.execute_leg.Statement.{statement}

@@ -1,6 +1,6 @@
 -- `legs_core::one_leg::start_leg` meets its contract. Each list is written as the definition says.
 -- Assumes nothing.
-use Rattle.graph.specs.Messages.{fromVariables, cleared}
+use Rattle.graph_core.specs.Messages.{fromVariables, cleared}
 use Rattle.relay_core.specs.Leg.{startLeg}
 use borrow.Author.Needs.{needs}
 use Rattle.legs_core.proofs.one_leg.start_leg.Statement.{statement}

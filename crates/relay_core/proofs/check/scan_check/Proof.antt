@@ -5,7 +5,7 @@ use native.Mathlib.Omega.{arith}
 use native.Mathlib.Numerals.{add-one}
 use lib.ListN.{length}
 use borrow.Author.Needs.{needs}
-use Rattle.graph.specs.Messages.{scanOf}
+use Rattle.graph_core.specs.Messages.{scanOf}
 use Rattle.messages_core.specs.Needs.{Ordered}
 use Rattle.messages_core.proofs.Least.{start-ordered}
 use Rattle.relay_core.specs.Places.{scanPlaces}

@@ -4,7 +4,7 @@ use mathlib.Core.Path.{sym, _∙_}
 use Prim.Native.Nat.{_≤_}
 use native.Mathlib.Omega.{arith}
 use lib.ListN.{length}
-use Rattle.graph.proofs.Cuts.{cut-bounds}
+use Rattle.graph_core.proofs.Cuts.{cut-bounds}
 use Rattle.messages_core.proofs.Parts.{part-names, walks-along, part-rises}
 use Rattle.relay_core.proofs.Passes.{serial-is}
 use borrow.Author.Needs.{needs}

@@ -2,7 +2,7 @@
 -- Assumes nothing.
 use Prim.Native.Nat.{_≤_}
 use lib.ListN.{length}
-use Rattle.graph.proofs.Cuts.{cut-bounds}
+use Rattle.graph_core.proofs.Cuts.{cut-bounds}
 use Rattle.messages_core.proofs.Parts.{part-rises}
 use Rattle.relay_core.proofs.Passes.{check-is}
 use borrow.Author.Needs.{needs}

@@ -1,7 +1,7 @@
 -- `session::taking::take_shot` meets its contract. The correction has the model's mechanisms. Assumes nothing.
 use mathlib.Core.Path.{sym}
 use lib.Seq.{length-take-le}
-use Rattle.records.specs.Fields.{countsOf}
+use Rattle.records_core.specs.Fields.{countsOf}
 use Rattle.session.specs.Shots.{shotTaken}
 use borrow.Author.Needs.{needs}
 use Rattle.session.proofs.taking.take_shot.Statement.{statement}

@@ -1,0 +1,4 @@
+-- The definitions that the contracts of this crate and of those above it cite.
+pub mod Stream
+pub mod Fields
+pub mod Payloads

@@ -1,0 +1,10 @@
+// The grammar of the record stream: 41 to 45, test by test, and the fields of payloads. `records` alone calls it. What they mean stands in specs/.
+pub mod fields;
+pub mod rules;
+
+// A model's counts.
+pub struct Counts {
+    pub checks: usize,
+    pub mechanisms: usize,
+    pub edges: usize,
+}
