@@ -1,6 +1,7 @@
 //! The Tanner graph.
 
-use crate::{ffi, Error, MAX_CHECKS, MAX_EDGES, MAX_MECHANISMS};
+use crate::{Error, MAX_CHECKS, MAX_EDGES, MAX_MECHANISMS};
+use chowderkite_sys::calls;
 use std::ops::Range;
 
 /// The six lists that hold a graph's incidences.
@@ -23,6 +24,19 @@ pub struct GraphLists {
     pub var_offset: Vec<u32>,
 }
 
+impl GraphLists {
+    fn written(&mut self) -> calls::GraphLists<'_> {
+        calls::GraphLists {
+            check_var: &mut self.check_var,
+            check_message: &mut self.check_message,
+            check_offset: &mut self.check_offset,
+            var_check: &mut self.var_check,
+            var_message: &mut self.var_message,
+            var_offset: &mut self.var_offset,
+        }
+    }
+}
+
 /// A Tanner graph with its priors: built once, used for every shot.
 ///
 /// Each prior is a log ratio `ln((1 - p) / p)` from -30 to 30; [the crate's front page](crate#priors) says why, and how to
@@ -43,11 +57,11 @@ pub struct GraphLists {
 #[derive(Clone, Debug, PartialEq)]
 pub struct BpGraph {
     // As they were said or counted; whether the lists fit them is for the calls to judge.
-    pub(crate) checks: usize,
-    pub(crate) mechanisms: usize,
-    pub(crate) edges: usize,
-    pub(crate) priors: Vec<f64>,
-    pub(crate) lists: GraphLists,
+    checks: usize,
+    mechanisms: usize,
+    edges: usize,
+    priors: Vec<f64>,
+    lists: GraphLists,
 }
 
 impl BpGraph {
@@ -96,7 +110,15 @@ impl BpGraph {
         detectors: &[u32],
     ) -> Result<Self, Error> {
         let mut graph = Self::unbuilt(checks, priors, detectors.len());
-        ffi::build_sparse(&mut graph, detector_offsets, detectors)?;
+        Error::of_code(calls::build_sparse(
+            graph.checks,
+            graph.mechanisms,
+            graph.edges,
+            &graph.priors,
+            detector_offsets,
+            detectors,
+            graph.lists.written(),
+        ))?;
         Ok(graph)
     }
 
@@ -108,8 +130,14 @@ impl BpGraph {
     /// 1 for the counts, 2 for the matrix, 1 for the edges, then 4.
     #[doc(alias = "from_dcm")]
     pub fn from_dense(checks: usize, priors: Vec<f64>, matrix: &[u8]) -> Result<Self, Error> {
-        let mut graph = Self::unbuilt(checks, priors, ffi::count_edges(matrix));
-        ffi::build_dense(&mut graph, matrix)?;
+        let mut graph = Self::unbuilt(checks, priors, calls::count_edges(matrix));
+        Error::of_code(calls::build_dense(
+            graph.checks,
+            graph.mechanisms,
+            &graph.priors,
+            matrix,
+            graph.lists.written(),
+        ))?;
         Ok(graph)
     }
 
@@ -136,7 +164,7 @@ impl BpGraph {
             priors,
             lists,
         };
-        ffi::check_graph(&graph)?;
+        Error::of_code(calls::check_graph(graph.lent()))?;
         Ok(graph)
     }
 
@@ -163,6 +191,23 @@ impl BpGraph {
             edges,
             priors,
             lists,
+        }
+    }
+
+    /// As the calls are lent it.
+    pub(crate) fn lent(&self) -> calls::Graph<'_> {
+        let lists = &self.lists;
+        calls::Graph {
+            checks: self.checks,
+            mechanisms: self.mechanisms,
+            edges: self.edges,
+            priors: &self.priors,
+            check_var: &lists.check_var,
+            check_message: &lists.check_message,
+            check_offset: &lists.check_offset,
+            var_check: &lists.var_check,
+            var_message: &lists.var_message,
+            var_offset: &lists.var_offset,
         }
     }
 

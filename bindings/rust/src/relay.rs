@@ -1,6 +1,7 @@
 //! Relay-BP.
 
-use crate::{ffi, BpGraph, Error};
+use crate::{BpGraph, Error};
+use chowderkite_sys::{calls, chowderkite_draw, chowderkite_gamma, chowderkite_next_state};
 
 /// In which order checks and mechanisms are updated within an iteration.
 #[derive(Clone, Copy, Debug, PartialEq, Eq, Hash)]
@@ -9,6 +10,16 @@ pub enum Schedule {
     Flooding,
     /// Check by check, and after each its mechanisms.
     CheckSerial,
+}
+
+impl Schedule {
+    /// As the calls name it.
+    pub(crate) const fn byte(self) -> u8 {
+        match self {
+            Self::Flooding => 0,
+            Self::CheckSerial => 1,
+        }
+    }
 }
 
 /// Where the gammas of relayed legs come from.
@@ -50,8 +61,8 @@ impl GammaSource {
         for leg in 1..=legs as u64 {
             let mut state = seed ^ (leg + 1);
             for _ in 0..mechanisms {
-                gammas.push(ffi::gamma(low, high, ffi::draw(state)));
-                state = ffi::next_state(state);
+                gammas.push(chowderkite_gamma(low, high, chowderkite_draw(state)));
+                state = chowderkite_next_state(state);
             }
         }
         Self::Explicit { sets: legs, gammas }
@@ -113,7 +124,25 @@ pub struct RelayConfig {
 impl Default for RelayConfig {
     /// The published operating point, as the proved settings have it.
     fn default() -> Self {
-        ffi::published()
+        let (schedule, floats, counts) = calls::published();
+        let [alpha, gamma0, low, high] = floats;
+        let [pre_iterations, num_legs, leg_iterations, stop_after_converged] =
+            counts.map(|count| count as usize);
+        Self {
+            schedule: if schedule == 0 {
+                Schedule::Flooding
+            } else {
+                Schedule::CheckSerial
+            },
+            alpha,
+            gamma0,
+            pre_iterations,
+            num_legs,
+            leg_iterations,
+            gamma_range: (low, high),
+            stop_after_converged,
+            gamma_source: GammaSource::Seeded,
+        }
     }
 }
 
@@ -124,7 +153,28 @@ impl RelayConfig {
     ///
     /// 10 to 19.
     pub fn check(&self, mechanisms: usize) -> Result<(), Error> {
-        ffi::check_settings(self, mechanisms)
+        Error::of_code(calls::check_settings(self.lent(), mechanisms))
+    }
+
+    fn lent(&self) -> calls::Settings<'_> {
+        let (explicit, sets, gammas): (u8, usize, &[f64]) = match &self.gamma_source {
+            GammaSource::Seeded => (0, 0, &[]),
+            GammaSource::Explicit { sets, gammas } => (1, *sets, gammas),
+        };
+        calls::Settings {
+            schedule: self.schedule.byte(),
+            alpha: self.alpha,
+            gamma0: self.gamma0,
+            pre_iterations: self.pre_iterations,
+            num_legs: self.num_legs,
+            leg_iterations: self.leg_iterations,
+            gamma_low: self.gamma_range.0,
+            gamma_high: self.gamma_range.1,
+            stop_after_converged: self.stop_after_converged,
+            explicit,
+            sets,
+            gammas,
+        }
     }
 }
 
@@ -206,20 +256,20 @@ pub struct RelayOutcome {
 
 /// The lists that a decode is lent: results until the outcome is read off them, and work lists.
 #[derive(Clone, Debug)]
-pub(crate) struct DecodeLists {
-    pub leg_state: Vec<u8>,
-    pub leg_steps: Vec<u32>,
-    pub leg_weight: Vec<f64>,
-    pub rows: Vec<u8>,
-    pub correction: Vec<u8>,
-    pub posterior: Vec<f64>,
-    pub gamma: Vec<f64>,
-    pub bias: Vec<f64>,
-    pub c_to_v: Vec<f64>,
-    pub v_to_c: Vec<f64>,
+struct DecodeLists {
+    leg_state: Vec<u8>,
+    leg_steps: Vec<u32>,
+    leg_weight: Vec<f64>,
+    rows: Vec<u8>,
+    correction: Vec<u8>,
+    posterior: Vec<f64>,
+    gamma: Vec<f64>,
+    bias: Vec<f64>,
+    c_to_v: Vec<f64>,
+    v_to_c: Vec<f64>,
     /// Converged (1 or 0), executed legs, total iterations.
-    pub counts: [u64; 3],
-    pub weight: [f64; 1],
+    counts: [u64; 3],
+    weight: [f64; 1],
 }
 
 impl DecodeLists {
@@ -242,9 +292,29 @@ impl DecodeLists {
         }
     }
 
+    fn written(&mut self) -> calls::DecodeLists<'_> {
+        calls::DecodeLists {
+            leg_state: &mut self.leg_state,
+            leg_steps: &mut self.leg_steps,
+            leg_weight: &mut self.leg_weight,
+            rows: &mut self.rows,
+            correction: &mut self.correction,
+            posterior: &mut self.posterior,
+            gamma: &mut self.gamma,
+            bias: &mut self.bias,
+            c_to_v: &mut self.c_to_v,
+            v_to_c: &mut self.v_to_c,
+            counts: &mut self.counts,
+            weight: &mut self.weight,
+        }
+    }
+
     fn leg(&self, leg: usize) -> LegOutcome {
-        match ffi::leg_record(self, leg) {
-            (2, iterations, weight) => {
+        let (state, iterations, weight) =
+            calls::leg_record(&self.leg_state, &self.leg_steps, &self.leg_weight, leg);
+        let iterations = iterations as usize;
+        match state {
+            2 => {
                 let mechanisms = self.correction.len();
                 LegOutcome::Converged {
                     weight,
@@ -252,7 +322,7 @@ impl DecodeLists {
                     correction: self.rows[leg * mechanisms..(leg + 1) * mechanisms].to_vec(),
                 }
             }
-            (1, iterations, _) => LegOutcome::RanOut { iterations },
+            1 => LegOutcome::RanOut { iterations },
             _ => LegOutcome::NotExecuted,
         }
     }
@@ -317,7 +387,13 @@ impl RelayBp {
     ///
     /// 20, 21, 30.
     pub fn decode(&mut self, syndrome: &[u8], seed: u64) -> Result<RelayOutcome, Error> {
-        ffi::decode(&self.graph, &self.config, syndrome, seed, &mut self.lists)?;
+        Error::of_code(calls::decode(
+            self.graph.lent(),
+            self.config.lent(),
+            syndrome,
+            seed,
+            self.lists.written(),
+        ))?;
         Ok(self.lists.outcome())
     }
 
@@ -349,14 +425,14 @@ impl RelayBp {
         seed: u64,
         order: &[u32],
     ) -> Result<RelayOutcome, Error> {
-        ffi::decode_in_order(
-            &self.graph,
-            &self.config,
+        Error::of_code(calls::decode_in_order(
+            self.graph.lent(),
+            self.config.lent(),
             syndrome,
             seed,
             order,
-            &mut self.lists,
-        )?;
+            self.lists.written(),
+        ))?;
         Ok(self.lists.outcome())
     }
 
