@@ -2,6 +2,7 @@
 
 use crate::{Error, MAX_CHECKS, MAX_EDGES, MAX_MECHANISMS};
 use chowderkite_sys::calls;
+use chowderkite_sys::lists::{self, Size};
 use std::ops::Range;
 
 /// The six lists that hold a graph's incidences.
@@ -22,19 +23,6 @@ pub struct GraphLists {
     pub var_message: Vec<u32>,
     /// Mechanism `m` has the entries `var_offset[m]..var_offset[m + 1]`.
     pub var_offset: Vec<u32>,
-}
-
-impl GraphLists {
-    fn written(&mut self) -> calls::GraphLists<'_> {
-        calls::GraphLists {
-            check_var: &mut self.check_var,
-            check_message: &mut self.check_message,
-            check_offset: &mut self.check_offset,
-            var_check: &mut self.var_check,
-            var_message: &mut self.var_message,
-            var_offset: &mut self.var_offset,
-        }
-    }
 }
 
 /// A Tanner graph with its priors: built once, used for every shot.
@@ -109,17 +97,22 @@ impl BpGraph {
         detector_offsets: &[u32],
         detectors: &[u32],
     ) -> Result<Self, Error> {
-        let mut graph = Self::unbuilt(checks, priors, detectors.len());
-        Error::of_code(calls::build_sparse(
-            graph.checks,
-            graph.mechanisms,
-            graph.edges,
-            &graph.priors,
-            detector_offsets,
-            detectors,
-            graph.lists.written(),
-        ))?;
-        Ok(graph)
+        let size = Size {
+            checks,
+            mechanisms: priors.len(),
+            edges: detectors.len(),
+        };
+        Self::built(size, priors, |priors, lists| {
+            calls::build_sparse(
+                size.checks,
+                size.mechanisms,
+                size.edges,
+                priors,
+                detector_offsets,
+                detectors,
+                lists,
+            )
+        })
     }
 
     /// The graph of a dense matrix, which lies check by check: byte `c * mechanisms + m` is not 0 where mechanism `m` sets off
@@ -130,15 +123,14 @@ impl BpGraph {
     /// 1 for the counts, 2 for the matrix, 1 for the edges, then 4.
     #[doc(alias = "from_dcm")]
     pub fn from_dense(checks: usize, priors: Vec<f64>, matrix: &[u8]) -> Result<Self, Error> {
-        let mut graph = Self::unbuilt(checks, priors, calls::count_edges(matrix));
-        Error::of_code(calls::build_dense(
-            graph.checks,
-            graph.mechanisms,
-            &graph.priors,
-            matrix,
-            graph.lists.written(),
-        ))?;
-        Ok(graph)
+        let size = Size {
+            checks,
+            mechanisms: priors.len(),
+            edges: calls::count_edges(matrix),
+        };
+        Self::built(size, priors, |priors, lists| {
+            calls::build_dense(size.checks, size.mechanisms, priors, matrix, lists)
+        })
     }
 
     /// The graph of lists that were built before, by [`lists`](Self::lists) of another graph or out of a file. There are as
@@ -168,29 +160,46 @@ impl BpGraph {
         Ok(graph)
     }
 
-    /// Lists for a call to fill: of lengths that fit, but empty where a size is above its limit, so that nothing huge is
-    /// allocated for a call that refuses with 1 before it looks at a graph list.
-    fn unbuilt(checks: usize, priors: Vec<f64>, edges: usize) -> Self {
-        let mechanisms = priors.len();
+    /// The graph whose lists a call fills. They have lengths that fit, but are empty where a size is above its limit, so that
+    /// nothing huge is allocated for a call that refuses with 1 before it looks at a graph list.
+    fn built(
+        size: Size,
+        priors: Vec<f64>,
+        call: impl FnOnce(&[f64], calls::GraphLists) -> u64,
+    ) -> Result<Self, Error> {
+        let Size {
+            checks,
+            mechanisms,
+            edges,
+        } = size;
         let fits = checks <= MAX_CHECKS && mechanisms <= MAX_MECHANISMS && edges <= MAX_EDGES;
-        let lists = if fits {
-            GraphLists {
-                check_var: vec![0; edges],
-                check_message: vec![0; edges],
-                check_offset: vec![0; checks + 1],
-                var_check: vec![0; edges],
-                var_message: vec![0; edges],
-                var_offset: vec![0; mechanisms + 1],
-            }
+        let mut lists = if fits {
+            lists::GraphLists::filled(size, 0)
         } else {
-            GraphLists::default()
+            lists::GraphLists::default()
         };
-        Self {
+        Error::of_code(call(&priors, lists.written()))?;
+        Ok(Self {
             checks,
             mechanisms,
             edges,
             priors,
-            lists,
+            lists: GraphLists {
+                check_var: lists.check_var,
+                check_message: lists.check_message,
+                check_offset: lists.check_offset,
+                var_check: lists.var_check,
+                var_message: lists.var_message,
+                var_offset: lists.var_offset,
+            },
+        })
+    }
+
+    pub(crate) const fn size(&self) -> Size {
+        Size {
+            checks: self.checks,
+            mechanisms: self.mechanisms,
+            edges: self.edges,
         }
     }
 

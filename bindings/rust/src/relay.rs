@@ -1,6 +1,7 @@
 //! Relay-BP.
 
 use crate::{BpGraph, Error};
+use chowderkite_sys::lists::DecodeLists;
 use chowderkite_sys::{calls, chowderkite_draw, chowderkite_gamma, chowderkite_next_state};
 
 /// In which order checks and mechanisms are updated within an iteration.
@@ -254,91 +255,38 @@ pub struct RelayOutcome {
     pub total_iterations: usize,
 }
 
-/// The lists that a decode is lent: results until the outcome is read off them, and work lists.
-#[derive(Clone, Debug)]
-struct DecodeLists {
-    leg_state: Vec<u8>,
-    leg_steps: Vec<u32>,
-    leg_weight: Vec<f64>,
-    rows: Vec<u8>,
-    correction: Vec<u8>,
-    posterior: Vec<f64>,
-    gamma: Vec<f64>,
-    bias: Vec<f64>,
-    c_to_v: Vec<f64>,
-    v_to_c: Vec<f64>,
-    /// Converged (1 or 0), executed legs, total iterations.
-    counts: [u64; 3],
-    weight: [f64; 1],
+/// What a decode's lists say of a leg.
+fn leg_of(lists: &DecodeLists, leg: usize) -> LegOutcome {
+    let (state, iterations, weight) = lists.leg(leg);
+    let iterations = iterations as usize;
+    match state {
+        2 => {
+            let mechanisms = lists.correction.len();
+            LegOutcome::Converged {
+                weight,
+                iterations,
+                correction: lists.rows[leg * mechanisms..(leg + 1) * mechanisms].to_vec(),
+            }
+        }
+        1 => LegOutcome::RanOut { iterations },
+        _ => LegOutcome::NotExecuted,
+    }
 }
 
-impl DecodeLists {
-    /// Lists that fit exactly, for so many legs with leg zero.
-    fn new(graph: &BpGraph, legs: usize) -> Self {
-        let (mechanisms, edges) = (graph.mechanism_count(), graph.edge_count());
-        Self {
-            leg_state: vec![0; legs],
-            leg_steps: vec![0; legs],
-            leg_weight: vec![0.0; legs],
-            rows: vec![0; legs * mechanisms],
-            correction: vec![0; mechanisms],
-            posterior: vec![0.0; mechanisms],
-            gamma: vec![0.0; mechanisms],
-            bias: vec![0.0; mechanisms],
-            c_to_v: vec![0.0; edges],
-            v_to_c: vec![0.0; edges],
-            counts: [0; 3],
-            weight: [0.0],
-        }
-    }
-
-    fn written(&mut self) -> calls::DecodeLists<'_> {
-        calls::DecodeLists {
-            leg_state: &mut self.leg_state,
-            leg_steps: &mut self.leg_steps,
-            leg_weight: &mut self.leg_weight,
-            rows: &mut self.rows,
-            correction: &mut self.correction,
-            posterior: &mut self.posterior,
-            gamma: &mut self.gamma,
-            bias: &mut self.bias,
-            c_to_v: &mut self.c_to_v,
-            v_to_c: &mut self.v_to_c,
-            counts: &mut self.counts,
-            weight: &mut self.weight,
-        }
-    }
-
-    fn leg(&self, leg: usize) -> LegOutcome {
-        let (state, iterations, weight) =
-            calls::leg_record(&self.leg_state, &self.leg_steps, &self.leg_weight, leg);
-        let iterations = iterations as usize;
-        match state {
-            2 => {
-                let mechanisms = self.correction.len();
-                LegOutcome::Converged {
-                    weight,
-                    iterations,
-                    correction: self.rows[leg * mechanisms..(leg + 1) * mechanisms].to_vec(),
-                }
-            }
-            1 => LegOutcome::RanOut { iterations },
-            _ => LegOutcome::NotExecuted,
-        }
-    }
-
-    fn outcome(&self) -> RelayOutcome {
-        let [converged, executed_legs, total_iterations] = self.counts;
-        let converged = converged == 1;
-        RelayOutcome {
-            converged,
-            correction: self.correction.clone(),
-            weight: converged.then_some(self.weight[0]),
-            posterior: self.posterior.clone(),
-            legs: (0..self.leg_state.len()).map(|leg| self.leg(leg)).collect(),
-            executed_legs: executed_legs as usize,
-            total_iterations: total_iterations as usize,
-        }
+/// What they say of the decode.
+fn outcome_of(lists: &DecodeLists) -> RelayOutcome {
+    let [converged, executed_legs, total_iterations] = lists.counts;
+    let converged = converged == 1;
+    RelayOutcome {
+        converged,
+        correction: lists.correction.clone(),
+        weight: converged.then_some(lists.weight[0]),
+        posterior: lists.posterior.clone(),
+        legs: (0..lists.leg_state.len())
+            .map(|leg| leg_of(lists, leg))
+            .collect(),
+        executed_legs: executed_legs as usize,
+        total_iterations: total_iterations as usize,
     }
 }
 
@@ -373,7 +321,7 @@ impl RelayBp {
     /// 10 to 19.
     pub fn new(graph: BpGraph, config: RelayConfig) -> Result<Self, Error> {
         config.check(graph.mechanism_count())?;
-        let lists = DecodeLists::new(&graph, config.num_legs + 1);
+        let lists = DecodeLists::filled(graph.size(), config.num_legs + 1, 0);
         Ok(Self {
             graph,
             config,
@@ -394,7 +342,7 @@ impl RelayBp {
             seed,
             self.lists.written(),
         ))?;
-        Ok(self.lists.outcome())
+        Ok(outcome_of(&self.lists))
     }
 
     /// Decodes with the checks taken in a given order, which changes no bit of the outcome: an order that could is refused.
@@ -433,7 +381,7 @@ impl RelayBp {
             order,
             self.lists.written(),
         ))?;
-        Ok(self.lists.outcome())
+        Ok(outcome_of(&self.lists))
     }
 
     /// The graph.

@@ -124,10 +124,37 @@ fn wanted_left(size: Size, legs: usize, before: &Decode, outcome: Option<&Decode
     left
 }
 
+/// Every byte of every list, for a comparison of two.
+fn bits(left: &Decode) -> Vec<u64> {
+    let floats = [
+        &left.leg_weight,
+        &left.posterior,
+        &left.gamma,
+        &left.bias,
+        &left.c_to_v,
+        &left.v_to_c,
+    ];
+    let bytes = [&left.leg_state, &left.rows, &left.correction];
+    let mut all: Vec<u64> = Vec::new();
+    for list in bytes {
+        all.push(list.len() as u64);
+        all.extend(list.iter().map(|&byte| u64::from(byte)));
+    }
+    all.push(left.leg_steps.len() as u64);
+    all.extend(left.leg_steps.iter().map(|&count| u64::from(count)));
+    for list in floats {
+        all.push(list.len() as u64);
+        all.extend(list.iter().map(|value| value.to_bits()));
+    }
+    all.extend(left.counts);
+    all.push(left.weight[0].to_bits());
+    all
+}
+
 /// Whether the record of each of the legs reads as the lists have it.
 fn legs_read(left: &Decode, legs: usize) -> bool {
     (0..legs).all(|leg| {
-        let (state, iterations, weight) = proved::leg_record(left, leg);
+        let (state, iterations, weight) = left.leg(leg);
         state == u64::from(left.leg_state[leg])
             && iterations == u64::from(left.leg_steps[leg])
             && weight.to_bits() == left.leg_weight[leg].to_bits()
@@ -168,12 +195,12 @@ fn compare(
     };
     let rust = drive::decode(case);
     let wanted = told(&rust);
-    let wanted_bits = wanted_left(given.size, legs, &before, rust.as_ref().ok()).bits();
+    let wanted_bits = bits(&wanted_left(given.size, legs, &before, rust.as_ref().ok()));
     let (answer, left) = run(shot);
     counts.check(
         name,
         wanted,
-        built == Ok(()) && answer == wanted && left.bits() == wanted_bits && legs_read(&left, legs),
+        built == Ok(()) && answer == wanted && bits(&left) == wanted_bits && legs_read(&left, legs),
         || format!("{answer:?}, {left:?} for {rust:?}: {case:?}"),
     );
     for _ in 0..ORDERS {
@@ -184,8 +211,8 @@ fn compare(
             ..shot
         });
         let good = match refused {
-            Ok(()) => in_order == wanted && left.bits() == wanted_bits,
-            Err(_) => in_order == refused && left.bits() == before.bits(),
+            Ok(()) => in_order == wanted && bits(&left) == wanted_bits,
+            Err(_) => in_order == refused && bits(&left) == bits(&before),
         };
         counts.check(orders, refused, good, || {
             format!("{in_order:?} for {refused:?}, {wanted:?}: {order:?}, {case:?}")
@@ -482,10 +509,10 @@ fn damaged(_: u64, random: &mut SplitMix64, counts: &mut Counts) {
             }
             Err((number, _)) => {
                 let zeroed = wanted_left(given.size, settings.num_legs + 1, &before, None);
-                number == 30 && left.bits() == zeroed.bits()
+                number == 30 && bits(&left) == bits(&zeroed)
             }
         },
-        Err(_) => answer == wanted && left.bits() == before.bits(),
+        Err(_) => answer == wanted && bits(&left) == bits(&before),
     };
     counts.check("decodes, damaged", wanted, good && built == Ok(()), || {
         format!("{answer:?} for {wanted:?}: {settings:?}, {shot:?}, {given:?}")
