@@ -925,11 +925,11 @@ fn full_room(cases: &mut Cases) {
         ] {
             stream = stream.settings(&settings);
             for rarity in [100, 40, 12, 2] {
-                let bits: Vec<bool> = (0..256).map(|_| random.once_in(rarity)).collect();
+                let bits = random.flags(256, rarity);
                 stream = stream.shot(random.draw(), &model.syndrome_of(&bits));
                 codes.push(0);
             }
-            let any: Vec<u8> = (0..128).map(|_| random.below(2) as u8).collect();
+            let any = random.bits(128);
             stream = stream.shot(random.draw(), &any);
             codes.push(0);
         }
