@@ -1,7 +1,7 @@
 //! Models of given sizes whose mechanisms touch checks near one another, as circuits have them.
 
 use oracle::exact::drive;
-use oracle::model::{Model, even_degree};
+use oracle::model::{Model, even_degree, offsets};
 use oracle::splitmix::SplitMix64;
 use proved::{Lists, Size};
 
@@ -47,10 +47,6 @@ pub fn nothing() -> Sized {
 }
 
 fn flat(model: Model) -> Sized {
-    let mut offsets = vec![0];
-    for list in &model.detectors {
-        offsets.push(offsets[offsets.len() - 1] + list.len() as u32);
-    }
     let detectors = model.detectors.concat();
     Sized {
         size: Size {
@@ -59,7 +55,7 @@ fn flat(model: Model) -> Sized {
             edges: detectors.len(),
         },
         priors: drive::priors(&model.probabilities),
-        offsets,
+        offsets: offsets(&model.detectors),
         detectors,
         model,
     }

@@ -53,18 +53,10 @@ impl BeliefCase {
         line.count(self.iterations);
         line.float(self.scale);
         line.count(usize::from(self.serial));
-        match answer {
-            Ok(posterior) => {
-                line.counts([&0, &0]);
-                line.floats(posterior);
-            }
-            Err(refusal) => {
-                line.counts([&refusal.code, &refusal.place]);
-                // The Rust leaves its beliefs standing; document 01 has the port zero them.
-                if refusal.code == 30 {
-                    line.floats(&vec![0.0; priors.len()]);
-                }
-            }
+        line.answer(answer, |posterior, line| line.floats(posterior));
+        // The Rust leaves its beliefs standing; document 01 has the port zero them.
+        if let Err(Refusal { code: 30, .. }) = answer {
+            line.floats(&vec![0.0; priors.len()]);
         }
         line.finish()
     }

@@ -117,13 +117,7 @@ impl DecodeCase {
         line.count(self.syndrome.len());
         line.bytes(&self.syndrome);
         line.number(self.seed);
-        match answer {
-            Ok(decoded) => {
-                line.counts([&0, &0]);
-                decoded.write(&mut line);
-            }
-            Err(refusal) => line.counts([&refusal.code, &refusal.place]),
-        }
+        line.answer(answer, Decoded::write);
         line.finish()
     }
 }

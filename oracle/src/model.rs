@@ -127,12 +127,18 @@ pub fn write_sizes(checks: usize, mechanisms: usize, edges: usize, line: &mut Li
     line.counts([&checks, &mechanisms, &edges]);
 }
 
-pub fn write_detectors(detectors: &[Vec<u32>], line: &mut Line) {
-    let mut offset = 0;
-    line.count(offset);
+/// Where each mechanism's detectors start in the list of all, and where the last end.
+pub fn offsets(detectors: &[Vec<u32>]) -> Vec<u32> {
+    let mut offsets = vec![0];
     for list in detectors {
-        offset += list.len();
-        line.count(offset);
+        offsets.push(offsets[offsets.len() - 1] + list.len() as u32);
+    }
+    offsets
+}
+
+pub fn write_detectors(detectors: &[Vec<u32>], line: &mut Line) {
+    for offset in offsets(detectors) {
+        line.number(u64::from(offset));
     }
     for &detector in detectors.iter().flatten() {
         line.number(u64::from(detector));

@@ -3,7 +3,7 @@
 use oracle::answers::GraphLists;
 use oracle::exact::drive;
 use oracle::graph_cases::{GraphCase, Incidence};
-use oracle::model::{Model, even_degree};
+use oracle::model::{Model, even_degree, offsets};
 use oracle::splitmix::SplitMix64;
 use proved::{Answer, Beliefs, Decode, Iteration, Lists, Run, Settings, Shot, Size, Step};
 
@@ -60,10 +60,8 @@ impl Given {
         };
         match &case.incidence {
             Incidence::Sparse(detectors) => {
-                for list in detectors {
-                    given.detectors.extend(list);
-                    given.offsets.push(given.detectors.len() as u32);
-                }
+                given.offsets = offsets(detectors);
+                given.detectors = detectors.concat();
             }
             Incidence::Dense(matrix) => given.matrix.clone_from(matrix),
         }

@@ -101,18 +101,11 @@ impl Model {
 }
 
 impl Settings {
-    /// What document 01's small runs use: alpha 1, gamma0 0, no relayed legs.
+    /// The plain settings of a case, with any schedule.
     pub fn plain(schedule: u8, pre: u32) -> Self {
         Self {
             schedule,
-            alpha: 1.0,
-            gamma0: 0.0,
-            pre,
-            legs: 0,
-            leg_iterations: 0,
-            low: 0.0,
-            high: 0.0,
-            stop: 1,
+            ..Self::of(&decode_cases::Settings::plain(false, pre as usize))
         }
     }
 
