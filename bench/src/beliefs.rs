@@ -1,8 +1,9 @@
 //! Runs of min-sum, 20 iterations. The port tests the lent graph first and clears its work lists after, in the time that is
 //! taken; the Rust's graph was tested as it was built.
 
-use crate::models::{EDGES, bits, sized};
+use crate::models::{EDGES, sized};
 use crate::timing::{Row, Work, timed};
+use oracle::bits::bits;
 use oracle::exact::bp::{BpScratch, min_sum_bp_into};
 use oracle::exact::drive;
 use proved::{Beliefs, Run};

@@ -4,7 +4,7 @@
 use crate::models::{EDGES, sized};
 use crate::timing::{Row, Work, timed};
 use oracle::exact::bp::BpGraph;
-use pecos_decoder_core::dem::{DemCheckMatrix, Matrix, SparseDem};
+use pecos_decoder_core::dem::{DemCheckMatrix, Matrix};
 use proved::Size;
 use std::hint::black_box;
 
@@ -32,13 +32,7 @@ fn work(call: &'static str, way: &'static str, edges: usize) -> Work {
 
 fn sparse(edges: usize) -> Row {
     let sized = sized(edges);
-    let mechanisms = sized.model.probabilities.iter().zip(&sized.model.detectors);
-    let dem = SparseDem {
-        mechanisms: mechanisms
-            .map(|(&probability, detectors)| (probability, detectors.clone(), Vec::new()))
-            .collect(),
-        num_detectors: sized.model.checks,
-    };
+    let dem = sized.model.dem();
     let mut lists = sized.lists();
     work("build_sparse", "", edges).beside(
         &mut || {

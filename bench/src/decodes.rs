@@ -1,8 +1,9 @@
 //! Whole decodes, converging early and never. The port tests the lent graph and the settings first and clears its work lists after, in the
 //! time that is taken; the Rust's graph was tested as it was built, and its settings with the decoder.
 
-use crate::models::{EDGES, Sized, bits, sized};
+use crate::models::{EDGES, Sized, sized};
 use crate::timing::{Row, Work, timed};
+use oracle::bits::bits;
 use oracle::decode_cases::{Settings as CaseSettings, Source};
 use oracle::exact::bp::RelayBp;
 use oracle::exact::drive;
@@ -67,15 +68,11 @@ fn decoder(sized: &Sized, settings: Settings) -> RelayBp {
     let sets = sets(sized.size.mechanisms);
     let case = CaseSettings {
         serial: settings.serial,
-        alpha: settings.alpha,
-        gamma0: settings.gamma0,
         pre_iterations: settings.pre_iterations,
         num_legs: settings.num_legs,
         leg_iterations: settings.leg_iterations,
-        low: settings.low,
-        high: settings.high,
-        stop: settings.stop,
         source: Source::Explicit(sets.clone()),
+        ..CaseSettings::default_point()
     };
     let graph = drive::sparse_graph(&sized.model).expect("the model builds");
     RelayBp::new(graph, drive::config(&case, Some(sets))).expect("the settings are good")

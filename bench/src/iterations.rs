@@ -2,11 +2,11 @@
 //! each run, outside its time. The port tests graph, order and state before each iteration and looks for what is not finite after
 //! it; the Rust's updates test nothing.
 
-use crate::models::{EDGES, Sized, bits, sized};
+use crate::decodes::sets;
+use crate::models::{EDGES, sized};
 use crate::timing::{Row, Work, timed};
-use oracle::splitmix::SplitMix64;
-use pecos_bp_open::{BpGraph, RelayBp, RelayConfig, Schedule, State, load, step, store};
-use pecos_decoder_core::dem::SparseDem;
+use oracle::bits::bits;
+use pecos_bp_open::{State, load, step, stepping, store};
 use proved::{Iteration, Step};
 use std::hint::black_box;
 use std::time::Duration;
@@ -28,36 +28,11 @@ pub fn run() -> Vec<Row> {
     rows
 }
 
-fn decoder(sized: &Sized, serial: bool) -> RelayBp {
-    let mechanisms = sized.model.probabilities.iter().zip(&sized.model.detectors);
-    let graph = BpGraph::from_sparse_dem(&SparseDem {
-        mechanisms: mechanisms
-            .map(|(&probability, detectors)| (probability, detectors.clone(), Vec::new()))
-            .collect(),
-        num_detectors: sized.model.checks,
-    })
-    .expect("the model builds");
-    let config = RelayConfig {
-        schedule: if serial {
-            Schedule::CheckSerial
-        } else {
-            Schedule::Flooding
-        },
-        alpha: ALPHA,
-        num_legs: 0,
-        ..RelayConfig::default()
-    };
-    RelayBp::new(graph, config).expect("the settings are good")
-}
-
 fn iterations(edges: usize, serial: bool, by_index: bool) -> Row {
     let sized = sized(edges);
     let lists = sized.lists();
     let syndromes = sized.drawn(sized.runs());
-    let mut random = SplitMix64::new(5);
-    let gamma: Vec<f64> = (0..sized.size.mechanisms)
-        .map(|_| -0.24 + 0.9 * random.unit())
-        .collect();
+    let gamma = sets(sized.size.mechanisms).swap_remove(0);
     let start = State {
         c_to_v: vec![0.0; edges],
         v_to_c: lists
@@ -73,7 +48,7 @@ fn iterations(edges: usize, serial: bool, by_index: bool) -> Row {
         sized.shuffled_order()
     };
     let other = (!by_index).then_some(order.as_slice());
-    let mut theirs = decoder(&sized, serial);
+    let mut theirs = stepping(&sized.model.dem(), serial, ALPHA);
     let mut ours = Step {
         c_to_v: start.c_to_v.clone(),
         v_to_c: start.v_to_c.clone(),

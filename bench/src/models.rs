@@ -1,7 +1,7 @@
 //! Models of given sizes whose mechanisms touch checks near one another, as circuits have them.
 
 use oracle::exact::drive;
-use oracle::model::Model;
+use oracle::model::{Model, even_degree, offsets};
 use oracle::splitmix::SplitMix64;
 use proved::{Lists, Size};
 
@@ -25,12 +25,10 @@ pub fn sized(edges: usize) -> Sized {
     let mut random = SplitMix64::new(edges as u64);
     let mut detectors: Vec<Vec<u32>> = Vec::new();
     for mechanism in 0..mechanisms {
-        let degree = edges / mechanisms + usize::from(mechanism < edges % mechanisms);
+        let degree = even_degree(mechanism, mechanisms, edges);
         let first = (mechanism / 2).min(checks - 64);
         let mut near: Vec<u32> = (first..first + 64).map(|check| check as u32).collect();
-        for place in 0..degree {
-            near.swap(place, random.between(place, 63));
-        }
+        random.draw_front(&mut near, degree);
         near.truncate(degree);
         near.sort_unstable();
         detectors.push(near);
@@ -44,20 +42,11 @@ pub fn sized(edges: usize) -> Sized {
     })
 }
 
-/// No check and no mechanism.
 pub fn nothing() -> Sized {
-    flat(Model {
-        checks: 0,
-        probabilities: vec![],
-        detectors: vec![],
-    })
+    flat(Model::nothing())
 }
 
 fn flat(model: Model) -> Sized {
-    let mut offsets = vec![0];
-    for list in &model.detectors {
-        offsets.push(offsets[offsets.len() - 1] + list.len() as u32);
-    }
     let detectors = model.detectors.concat();
     Sized {
         size: Size {
@@ -66,7 +55,7 @@ fn flat(model: Model) -> Sized {
             edges: detectors.len(),
         },
         priors: drive::priors(&model.probabilities),
-        offsets,
+        offsets: offsets(&model.detectors),
         detectors,
         model,
     }
@@ -83,9 +72,7 @@ impl Sized {
     pub fn syndromes(&self, rarity: usize) -> Vec<Vec<u8>> {
         let syndrome = |seed: u64| {
             let mut random = SplitMix64::new(seed);
-            let happened: Vec<bool> = (0..self.size.mechanisms)
-                .map(|_| random.once_in(rarity))
-                .collect();
+            let happened = random.flags(self.size.mechanisms, rarity);
             self.model.syndrome_of(&happened)
         };
         (3..3 + self.runs() as u64).map(syndrome).collect()
@@ -94,13 +81,7 @@ impl Sized {
     /// So many syndromes of checks drawn at random: nothing makes them, or nothing that a few iterations find.
     pub fn drawn(&self, count: usize) -> Vec<Vec<u8>> {
         let mut random = SplitMix64::new(11);
-        (0..count)
-            .map(|_| {
-                (0..self.size.checks)
-                    .map(|_| random.below(2) as u8)
-                    .collect()
-            })
-            .collect()
+        (0..count).map(|_| random.bits(self.size.checks)).collect()
     }
 
     /// The graph's lists.
@@ -125,9 +106,7 @@ impl Sized {
     pub fn shuffled_order(&self) -> Vec<u32> {
         let mut random = SplitMix64::new(13);
         let mut order = self.index_order();
-        for place in (1..order.len()).rev() {
-            order.swap(place, random.below(place + 1));
-        }
+        random.shuffle(&mut order);
         order
     }
 
@@ -166,8 +145,4 @@ fn share(lists: &Lists, one: u32, other: u32) -> bool {
     part(one)
         .iter()
         .any(|mechanism| part(other).binary_search(mechanism).is_ok())
-}
-
-pub fn bits(list: &[f64]) -> Vec<u64> {
-    list.iter().map(|value| value.to_bits()).collect()
 }

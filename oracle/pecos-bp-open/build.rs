@@ -1,13 +1,8 @@
 //! Writes, into the build folder only, both files with one module more at their ends, which can reach what is private to them, and before
 //! that of `relay.rs` its two iterations once more, with their checks in an order that is handed in.
 
-use pecos_sources::{module_line, out_dir, published_or_stop, stop, write_modules};
+use pecos_sources::{module_line, published_or_stop, read, stop, write_modules, write_out};
 use std::path::{Path, PathBuf};
-
-fn read(path: &Path) -> String {
-    std::fs::read_to_string(path)
-        .unwrap_or_else(|error| stop(&format!("cannot read {}: {error}", path.display())))
-}
 
 /// What an iteration walks the checks by.
 const INDICES: &str = "0..self.graph.check_count()";
@@ -27,8 +22,8 @@ fn in_order(text: &str, name: &str) -> String {
     )
 }
 
-/// A published file with more at its end: these methods of `RelayBp` in an order, and the module `name` of this package.
-fn with_module(file: &Path, methods: &[&str], name: &str) -> PathBuf {
+/// A published file as `copy`, with more at its end: these methods of `RelayBp` in an order, and the module `name` of this package.
+fn with_module(file: &Path, copy: &str, methods: &[&str], name: &str) -> PathBuf {
     let module = format!("src/{name}.rs");
     println!("cargo::rerun-if-changed={module}");
     let published = read(file);
@@ -41,15 +36,13 @@ fn with_module(file: &Path, methods: &[&str], name: &str) -> PathBuf {
         text += &format!("\nimpl RelayBp {{\n{methods}}}\n");
     }
     text += &format!("\npub mod {name} {{\n{}}}\n", read(Path::new(&module)));
-    let copy = out_dir().join(file.file_name().expect("a file's path"));
-    std::fs::write(&copy, text).expect("writing into the build folder");
-    copy
+    write_out(copy, &text)
 }
 
 fn main() {
     let published = published_or_stop();
-    let min_sum = with_module(&published.min_sum, &[], "priors");
+    let min_sum = with_module(&published.min_sum, "min_sum.rs", &[], "priors");
     let iterations = ["flooding_iteration", "check_serial_iteration"];
-    let relay = with_module(&published.relay, &iterations, "step");
+    let relay = with_module(&published.relay, "relay.rs", &iterations, "step");
     write_modules(&(module_line("min_sum", &min_sum) + &module_line("relay", &relay)));
 }

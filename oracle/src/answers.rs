@@ -10,6 +10,13 @@ pub struct Refusal {
     pub place: usize,
 }
 
+impl Refusal {
+    /// As the proved calls answer it.
+    pub fn pair(self) -> (u64, u64) {
+        (self.code as u64, self.place as u64)
+    }
+}
+
 /// The six lists of a graph.
 #[derive(Clone, Debug, PartialEq, Eq)]
 pub struct GraphLists {

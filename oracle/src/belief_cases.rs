@@ -53,18 +53,10 @@ impl BeliefCase {
         line.count(self.iterations);
         line.float(self.scale);
         line.count(usize::from(self.serial));
-        match answer {
-            Ok(posterior) => {
-                line.counts([&0, &0]);
-                line.floats(posterior);
-            }
-            Err(refusal) => {
-                line.counts([&refusal.code, &refusal.place]);
-                // The Rust leaves its beliefs standing; document 01 has the port zero them.
-                if refusal.code == 30 {
-                    line.floats(&vec![0.0; priors.len()]);
-                }
-            }
+        line.answer(answer, |posterior, line| line.floats(posterior));
+        // The Rust leaves its beliefs standing; document 01 has the port zero them.
+        if let Err(Refusal { code: 30, .. }) = answer {
+            line.floats(&vec![0.0; priors.len()]);
         }
         line.finish()
     }
@@ -120,8 +112,8 @@ fn fixed() -> Vec<BeliefCase> {
         case(Model::single(probability_of(2.0)), vec![1], 1, false),
         case(Model::g(), vec![1], 1, false),
         case(Model::g(), vec![1, 0, 0], 1, true),
-        case(nothing(), vec![], 3, false),
-        case(nothing(), vec![], 20, true),
+        case(Model::nothing(), vec![], 3, false),
+        case(Model::nothing(), vec![], 20, true),
     ];
     // Even odds: messages of zero, whose sign only the sent sign reads.
     for syndrome in [0, 1] {
@@ -138,14 +130,6 @@ fn fixed() -> Vec<BeliefCase> {
     }
     cases.push(nan_sign_decides());
     cases
-}
-
-fn nothing() -> Model {
-    Model {
-        checks: 0,
-        probabilities: vec![],
-        detectors: vec![],
-    }
 }
 
 /// A refusal whose place hangs on a NaN's sign. In the first iteration check 0 sends mechanism 1

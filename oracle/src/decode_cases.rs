@@ -117,13 +117,7 @@ impl DecodeCase {
         line.count(self.syndrome.len());
         line.bytes(&self.syndrome);
         line.number(self.seed);
-        match answer {
-            Ok(decoded) => {
-                line.counts([&0, &0]);
-                decoded.write(&mut line);
-            }
-            Err(refusal) => line.counts([&refusal.code, &refusal.place]),
-        }
+        line.answer(answer, Decoded::write);
         line.finish()
     }
 }
@@ -156,11 +150,6 @@ fn fixed() -> Vec<DecodeCase> {
         settings,
         syndrome,
         seed: 7,
-    };
-    let nothing = Model {
-        checks: 0,
-        probabilities: vec![],
-        detectors: vec![],
     };
     let free = Model {
         checks: 0,
@@ -203,8 +192,8 @@ fn fixed() -> Vec<DecodeCase> {
                 cases.push(case(Model::single(probability), settings, vec![bit]));
             }
         }
-        cases.push(case(nothing.clone(), Settings::plain(serial, 1), vec![]));
-        cases.push(case(nothing.clone(), relayed(serial), vec![]));
+        cases.push(case(Model::nothing(), Settings::plain(serial, 1), vec![]));
+        cases.push(case(Model::nothing(), relayed(serial), vec![]));
         cases.push(case(free.clone(), relayed(serial), vec![]));
         cases.push(case(empty_check.clone(), relayed(serial), vec![0, 1]));
         cases.push(case(empty_check.clone(), relayed(serial), vec![1, 0]));
@@ -383,11 +372,10 @@ pub fn random_case(random: &mut SplitMix64, number: usize) -> DecodeCase {
     };
     // Most syndromes come of some set of mechanisms, so that there is something to converge to.
     let syndrome = if random.once_in(4) {
-        (0..model.checks).map(|_| random.below(2) as u8).collect()
+        random.bits(model.checks)
     } else {
         let rarity = random.between(2, 8);
-        let bits: Vec<bool> = (0..mechanisms).map(|_| random.once_in(rarity)).collect();
-        model.syndrome_of(&bits)
+        model.syndrome_of(&random.flags(mechanisms, rarity))
     };
     DecodeCase {
         model,

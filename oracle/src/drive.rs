@@ -7,7 +7,7 @@ use crate::belief_cases::BeliefCase;
 use crate::decode_cases::{DecodeCase, Settings};
 use crate::graph_cases::{GraphCase, Incidence};
 use crate::model::Model;
-use pecos_decoder_core::dem::{DemCheckMatrix, Matrix, SparseDem};
+use pecos_decoder_core::dem::{DemCheckMatrix, Matrix};
 use pecos_decoder_core::errors::DecoderError;
 
 /// The log ratios that the Rust makes of probabilities.
@@ -22,13 +22,7 @@ pub fn priors(probabilities: &[f64]) -> Vec<f64> {
 }
 
 pub fn sparse_graph(model: &Model) -> Result<BpGraph, DecoderError> {
-    let mechanisms = model.probabilities.iter().zip(&model.detectors);
-    BpGraph::from_sparse_dem(&SparseDem {
-        mechanisms: mechanisms
-            .map(|(&probability, detectors)| (probability, detectors.clone(), Vec::new()))
-            .collect(),
-        num_detectors: model.checks,
-    })
+    BpGraph::from_sparse_dem(&model.dem())
 }
 
 pub fn dense_graph(checks: usize, probabilities: &[f64], matrix: &[u8]) -> BpGraph {

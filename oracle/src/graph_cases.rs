@@ -70,13 +70,7 @@ impl GraphCase {
             Incidence::Sparse(detectors) => write_detectors(detectors, &mut line),
             Incidence::Dense(matrix) => line.bytes(matrix),
         }
-        match answer {
-            Ok(lists) => {
-                line.counts([&0, &0]);
-                lists.write(&mut line);
-            }
-            Err(refusal) => line.counts([&refusal.code, &refusal.place]),
-        }
+        line.answer(answer, GraphLists::write);
         line.finish()
     }
 }

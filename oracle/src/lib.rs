@@ -7,6 +7,7 @@
 
 pub mod answers;
 pub mod belief_cases;
+pub mod bits;
 pub mod branches;
 pub mod counted;
 pub mod decode_cases;

@@ -1,5 +1,7 @@
 //! The text of a case: numbers in lowercase hexadecimal, a space between.
 
+use crate::answers::Refusal;
+
 #[derive(Default)]
 pub struct Line {
     text: String,
@@ -40,6 +42,17 @@ impl Line {
     pub fn floats(&mut self, values: &[f64]) {
         for &value in values {
             self.float(value);
+        }
+    }
+
+    /// A refusal's number and place; or both 0, and then what is answered.
+    pub fn answer<T>(&mut self, answer: &Result<T, Refusal>, write: impl FnOnce(&T, &mut Self)) {
+        match answer {
+            Ok(good) => {
+                self.counts([&0, &0]);
+                write(good, self);
+            }
+            Err(Refusal { code, place }) => self.counts([code, place]),
         }
     }
 

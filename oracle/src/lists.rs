@@ -2,6 +2,7 @@
 
 use crate::answers::{Decoded, Refusal};
 use crate::belief_cases::{self, BeliefCase};
+use crate::bits::bits;
 use crate::counted;
 use crate::counted::bp::count::{NanSign, read_nan_sign};
 use crate::decode_cases::{self, DecodeCase};
@@ -64,10 +65,7 @@ pub fn beliefs() -> Beliefs {
 /// The same refusal, or the same beliefs bit for bit.
 fn same(one: &Result<Vec<f64>, Refusal>, other: &Result<Vec<f64>, Refusal>) -> bool {
     match (one, other) {
-        (Ok(one), Ok(other)) => {
-            let bits = |list: &[f64]| list.iter().map(|x| x.to_bits()).collect::<Vec<_>>();
-            bits(one) == bits(other)
-        }
+        (Ok(one), Ok(other)) => bits(one) == bits(other),
         (Err(one), Err(other)) => one == other,
         _ => false,
     }

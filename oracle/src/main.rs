@@ -20,9 +20,8 @@ fn main() -> ExitCode {
         }
     };
     toolchain::print();
-    if let Err(why) = toolchain::sums_start_at_negative_zero() {
-        eprintln!("oracle: refused: {why}");
-        return ExitCode::from(3);
+    if let Some(code) = toolchain::refused("oracle") {
+        return code;
     }
     let mut tally = Tally::default();
     let seen = "an empty float sum and the sum of -0.0 are -0.0";

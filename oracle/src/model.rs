@@ -3,6 +3,7 @@
 use crate::exact::drive;
 use crate::line::Line;
 use crate::splitmix::SplitMix64;
+use pecos_decoder_core::dem::SparseDem;
 
 #[derive(Clone, Debug)]
 pub struct Model {
@@ -47,6 +48,15 @@ impl Model {
         degrees
     }
 
+    /// No check and no mechanism.
+    pub fn nothing() -> Self {
+        Self {
+            checks: 0,
+            probabilities: vec![],
+            detectors: vec![],
+        }
+    }
+
     /// Document 01's G: detectors {0}, {0,1}, {1}, priors 4.
     pub fn g() -> Self {
         Self {
@@ -77,13 +87,18 @@ impl Model {
 
     /// The parities that a set of mechanisms leaves on the checks.
     pub fn syndrome_of(&self, bits: &[bool]) -> Vec<u8> {
-        let mut syndrome = vec![0; self.checks];
-        for (detectors, _) in self.detectors.iter().zip(bits).filter(|(_, bit)| **bit) {
-            for &detector in detectors {
-                syndrome[detector as usize] ^= 1;
-            }
+        parities(self.checks, self.detectors.iter().zip(bits))
+    }
+
+    /// As the Rust takes it.
+    pub fn dem(&self) -> SparseDem {
+        let mechanisms = self.probabilities.iter().zip(&self.detectors);
+        SparseDem {
+            mechanisms: mechanisms
+                .map(|(&probability, detectors)| (probability, detectors.clone(), Vec::new()))
+                .collect(),
+            num_detectors: self.checks,
         }
-        syndrome
     }
 
     /// Counts, priors, offsets and detectors, as the lists have them.
@@ -94,16 +109,36 @@ impl Model {
     }
 }
 
+/// The parities that mechanisms leave on the checks: of each its detectors, and whether it happened.
+pub fn parities<'a>(
+    checks: usize,
+    mechanisms: impl Iterator<Item = (&'a Vec<u32>, &'a bool)>,
+) -> Vec<u8> {
+    let mut parities = vec![0; checks];
+    for (detectors, _) in mechanisms.filter(|(_, happened)| **happened) {
+        for &detector in detectors {
+            parities[detector as usize] ^= 1;
+        }
+    }
+    parities
+}
+
 pub fn write_sizes(checks: usize, mechanisms: usize, edges: usize, line: &mut Line) {
     line.counts([&checks, &mechanisms, &edges]);
 }
 
-pub fn write_detectors(detectors: &[Vec<u32>], line: &mut Line) {
-    let mut offset = 0;
-    line.count(offset);
+/// Where each mechanism's detectors start in the list of all, and where the last end.
+pub fn offsets(detectors: &[Vec<u32>]) -> Vec<u32> {
+    let mut offsets = vec![0];
     for list in detectors {
-        offset += list.len();
-        line.count(offset);
+        offsets.push(offsets[offsets.len() - 1] + list.len() as u32);
+    }
+    offsets
+}
+
+pub fn write_detectors(detectors: &[Vec<u32>], line: &mut Line) {
+    for offset in offsets(detectors) {
+        line.number(u64::from(offset));
     }
     for &detector in detectors.iter().flatten() {
         line.number(u64::from(detector));
@@ -135,6 +170,11 @@ enum Shape {
     Mixed,
     /// Mostly one check.
     Thin,
+}
+
+/// How many of the edges a mechanism has where they are shared out evenly.
+pub fn even_degree(mechanism: usize, mechanisms: usize, edges: usize) -> usize {
+    edges / mechanisms + usize::from(mechanism < edges % mechanisms)
 }
 
 pub fn random_model(random: &mut SplitMix64, most_checks: usize, most_mechanisms: usize) -> Model {
@@ -198,10 +238,7 @@ fn detectors_of(
         _ => 1,
     };
     let mut all: Vec<u32> = (0..checks as u32).collect();
-    for place in 0..degree.min(checks) {
-        let other = random.between(place, checks - 1);
-        all.swap(place, other);
-    }
+    random.draw_front(&mut all, degree.min(checks));
     all.truncate(degree);
     // The Rust takes the detectors in any order; most lists are sorted.
     if !random.once_in(3) {

@@ -1,10 +1,11 @@
 //! Document 01's small runs R1 to R11 on the Rust.
 
 use crate::belief_cases::BeliefCase;
+use crate::bits::bits;
 use crate::decode_cases::{DecodeCase, Settings, Source};
 use crate::exact::bp::RelayConfig;
 use crate::exact::drive;
-use crate::graph_cases::{GraphCase, Incidence};
+use crate::graph_cases::GraphCase;
 use crate::model::{Model, find_probability};
 use crate::splitmix::SplitMix64;
 use crate::tally::Tally;
@@ -45,7 +46,6 @@ pub fn run(tally: &mut Tally) {
 
 /// Equal bit for bit.
 fn same(seen: &[f64], wanted: &[f64]) -> bool {
-    let bits = |list: &[f64]| list.iter().map(|value| value.to_bits()).collect::<Vec<_>>();
     bits(seen) == bits(wanted)
 }
 
@@ -55,12 +55,7 @@ fn floats(list: &[f64]) -> String {
 
 fn offsets(tally: &mut Tally) {
     let g = Model::g();
-    let lists = drive::graph(&GraphCase {
-        checks: g.checks,
-        probabilities: g.probabilities,
-        incidence: Incidence::Sparse(g.detectors),
-    })
-    .expect("G builds");
+    let lists = drive::graph(&GraphCase::sparse(g)).expect("G builds");
     let of_one = &lists.var_message[lists.var_offset[1]..lists.var_offset[2]];
     tally.check(
         "R1",
@@ -196,11 +191,6 @@ fn single_check(tally: &mut Tally) {
 }
 
 fn nothing(tally: &mut Tally) {
-    let model = Model {
-        checks: 0,
-        probabilities: vec![],
-        detectors: vec![],
-    };
     let wanted = Wanted {
         converged_at: Some(1),
         iterations: 1,
@@ -208,7 +198,8 @@ fn nothing(tally: &mut Tally) {
         posterior: &[],
         bits: &[],
     };
-    decode_check(tally, "R11", model, Settings::plain(false, 5), &[], &wanted);
+    let settings = Settings::plain(false, 5);
+    decode_check(tally, "R11", Model::nothing(), settings, &[], &wanted);
 }
 
 fn default_point(tally: &mut Tally) {

@@ -45,6 +45,29 @@ impl SplitMix64 {
     pub fn pick<T: Copy>(&mut self, from: &[T]) -> T {
         from[self.below(from.len())]
     }
+
+    /// So many bits, each 0 or 1.
+    pub fn bits(&mut self, count: usize) -> Vec<u8> {
+        (0..count).map(|_| self.below(2) as u8).collect()
+    }
+
+    /// So many of which each is true once in `times`.
+    pub fn flags(&mut self, count: usize, times: usize) -> Vec<bool> {
+        (0..count).map(|_| self.once_in(times)).collect()
+    }
+
+    pub fn shuffle<T>(&mut self, list: &mut [T]) {
+        for place in (1..list.len()).rev() {
+            list.swap(place, self.below(place + 1));
+        }
+    }
+
+    /// Draws the first `count` places of a list out of all of it.
+    pub fn draw_front<T>(&mut self, list: &mut [T], count: usize) {
+        for place in 0..count {
+            list.swap(place, self.between(place, list.len() - 1));
+        }
+    }
 }
 
 /// The gamma sets of the relayed legs 1 to `legs`, as document 01 draws them.

@@ -1,6 +1,7 @@
 //! What this oracle was built with and runs on, and the one property of it that the answers need.
 
 use std::hint::black_box;
+use std::process::ExitCode;
 
 /// Print compiler, target and processor.
 pub fn print() {
@@ -38,12 +39,15 @@ pub fn processor() -> String {
     }
 }
 
+/// Where the toolchain lacks that property, says so and gives the exit code.
+pub fn refused(who: &str) -> Option<ExitCode> {
+    let why = sums_start_at_negative_zero().err()?;
+    eprintln!("{who}: refused: {why}");
+    Some(ExitCode::from(3))
+}
+
 /// Whether float sums start at negative zero here: the empty one, and that of -0.0 alone.
-///
-/// # Errors
-///
-/// Says what the sums gave instead.
-pub fn sums_start_at_negative_zero() -> Result<(), String> {
+fn sums_start_at_negative_zero() -> Result<(), String> {
     // Hidden from the optimiser, so that the sums are worked out as the program runs.
     let sum = |list: &[f64]| black_box(list).iter().copied().sum::<f64>();
     judge(sum(&[]), sum(&[-0.0]))

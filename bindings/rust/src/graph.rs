@@ -1,6 +1,8 @@
 //! The Tanner graph.
 
-use crate::{ffi, Error, MAX_CHECKS, MAX_EDGES, MAX_MECHANISMS};
+use crate::{Error, MAX_CHECKS, MAX_EDGES, MAX_MECHANISMS};
+use chowderkite_sys::calls;
+use chowderkite_sys::lists::{self, Size};
 use std::ops::Range;
 
 /// The six lists that hold a graph's incidences.
@@ -43,11 +45,11 @@ pub struct GraphLists {
 #[derive(Clone, Debug, PartialEq)]
 pub struct BpGraph {
     // As they were said or counted; whether the lists fit them is for the calls to judge.
-    pub(crate) checks: usize,
-    pub(crate) mechanisms: usize,
-    pub(crate) edges: usize,
-    pub(crate) priors: Vec<f64>,
-    pub(crate) lists: GraphLists,
+    checks: usize,
+    mechanisms: usize,
+    edges: usize,
+    priors: Vec<f64>,
+    lists: GraphLists,
 }
 
 impl BpGraph {
@@ -95,9 +97,22 @@ impl BpGraph {
         detector_offsets: &[u32],
         detectors: &[u32],
     ) -> Result<Self, Error> {
-        let mut graph = Self::unbuilt(checks, priors, detectors.len());
-        ffi::build_sparse(&mut graph, detector_offsets, detectors)?;
-        Ok(graph)
+        let size = Size {
+            checks,
+            mechanisms: priors.len(),
+            edges: detectors.len(),
+        };
+        Self::built(size, priors, |priors, lists| {
+            calls::build_sparse(
+                size.checks,
+                size.mechanisms,
+                size.edges,
+                priors,
+                detector_offsets,
+                detectors,
+                lists,
+            )
+        })
     }
 
     /// The graph of a dense matrix, which lies check by check: byte `c * mechanisms + m` is not 0 where mechanism `m` sets off
@@ -108,9 +123,14 @@ impl BpGraph {
     /// 1 for the counts, 2 for the matrix, 1 for the edges, then 4.
     #[doc(alias = "from_dcm")]
     pub fn from_dense(checks: usize, priors: Vec<f64>, matrix: &[u8]) -> Result<Self, Error> {
-        let mut graph = Self::unbuilt(checks, priors, ffi::count_edges(matrix));
-        ffi::build_dense(&mut graph, matrix)?;
-        Ok(graph)
+        let size = Size {
+            checks,
+            mechanisms: priors.len(),
+            edges: calls::count_edges(matrix),
+        };
+        Self::built(size, priors, |priors, lists| {
+            calls::build_dense(size.checks, size.mechanisms, priors, matrix, lists)
+        })
     }
 
     /// The graph of lists that were built before, by [`lists`](Self::lists) of another graph or out of a file. There are as
@@ -136,33 +156,67 @@ impl BpGraph {
             priors,
             lists,
         };
-        ffi::check_graph(&graph)?;
+        Error::of_code(calls::check_graph(graph.lent()))?;
         Ok(graph)
     }
 
-    /// Lists for a call to fill: of lengths that fit, but empty where a size is above its limit, so that nothing huge is
-    /// allocated for a call that refuses with 1 before it looks at a graph list.
-    fn unbuilt(checks: usize, priors: Vec<f64>, edges: usize) -> Self {
-        let mechanisms = priors.len();
+    /// The graph whose lists a call fills. They have lengths that fit, but are empty where a size is above its limit, so that
+    /// nothing huge is allocated for a call that refuses with 1 before it looks at a graph list.
+    fn built(
+        size: Size,
+        priors: Vec<f64>,
+        call: impl FnOnce(&[f64], calls::GraphLists) -> u64,
+    ) -> Result<Self, Error> {
+        let Size {
+            checks,
+            mechanisms,
+            edges,
+        } = size;
         let fits = checks <= MAX_CHECKS && mechanisms <= MAX_MECHANISMS && edges <= MAX_EDGES;
-        let lists = if fits {
-            GraphLists {
-                check_var: vec![0; edges],
-                check_message: vec![0; edges],
-                check_offset: vec![0; checks + 1],
-                var_check: vec![0; edges],
-                var_message: vec![0; edges],
-                var_offset: vec![0; mechanisms + 1],
-            }
+        let mut lists = if fits {
+            lists::GraphLists::filled(size, 0)
         } else {
-            GraphLists::default()
+            lists::GraphLists::default()
         };
-        Self {
+        Error::of_code(call(&priors, lists.written()))?;
+        Ok(Self {
             checks,
             mechanisms,
             edges,
             priors,
-            lists,
+            lists: GraphLists {
+                check_var: lists.check_var,
+                check_message: lists.check_message,
+                check_offset: lists.check_offset,
+                var_check: lists.var_check,
+                var_message: lists.var_message,
+                var_offset: lists.var_offset,
+            },
+        })
+    }
+
+    pub(crate) const fn size(&self) -> Size {
+        Size {
+            checks: self.checks,
+            mechanisms: self.mechanisms,
+            edges: self.edges,
+        }
+    }
+
+    /// As the calls are lent it.
+    pub(crate) fn lent(&self) -> calls::Graph<'_> {
+        let lists = &self.lists;
+        calls::Graph {
+            checks: self.checks,
+            mechanisms: self.mechanisms,
+            edges: self.edges,
+            priors: &self.priors,
+            check_var: &lists.check_var,
+            check_message: &lists.check_message,
+            check_offset: &lists.check_offset,
+            var_check: &lists.var_check,
+            var_message: &lists.var_message,
+            var_offset: &lists.var_offset,
         }
     }
 

@@ -1,6 +1,7 @@
 //! The single Relay iteration.
 
-use crate::{ffi, BpGraph, Error, Schedule};
+use crate::{BpGraph, Error, Schedule};
+use chowderkite_sys::calls;
 
 /// Messages and posterior between two iterations, in the caller's hands.
 #[derive(Clone, Debug, PartialEq)]
@@ -11,7 +12,7 @@ pub struct RelayState {
     pub v_to_c: Vec<f64>,
     /// The posterior log ratio of each mechanism.
     pub posterior: Vec<f64>,
-    pub(crate) bias: Vec<f64>,
+    bias: Vec<f64>,
 }
 
 impl RelayState {
@@ -73,5 +74,19 @@ pub fn iteration(
     order: &[u32],
     state: &mut RelayState,
 ) -> Result<(), Error> {
-    ffi::iteration(graph, schedule, alpha, gamma, syndrome, order, state)
+    let lists = calls::IterationLists {
+        c_to_v: &mut state.c_to_v,
+        v_to_c: &mut state.v_to_c,
+        posterior: &mut state.posterior,
+        bias: &mut state.bias,
+    };
+    Error::of_code(calls::iteration(
+        graph.lent(),
+        schedule.byte(),
+        alpha,
+        gamma,
+        syndrome,
+        order,
+        lists,
+    ))
 }

@@ -82,7 +82,6 @@
 #![forbid(unsafe_code)]
 
 mod error;
-mod ffi;
 mod graph;
 mod iteration;
 mod min_sum;

@@ -1,13 +1,14 @@
 //! Min-sum beliefs.
 
-use crate::{ffi, BpGraph, Error};
+use crate::{BpGraph, Error};
+use chowderkite_sys::calls;
 
 /// Work lists of [`min_sum_into`], to be used again for every shot over a graph.
 #[derive(Clone, Debug)]
 pub struct BpScratch {
-    pub(crate) ewa_posterior: Vec<f64>,
-    pub(crate) c_to_v: Vec<f64>,
-    pub(crate) v_to_c: Vec<f64>,
+    ewa_posterior: Vec<f64>,
+    c_to_v: Vec<f64>,
+    v_to_c: Vec<f64>,
 }
 
 impl BpScratch {
@@ -88,7 +89,18 @@ pub fn min_sum_into(
     scratch: &mut BpScratch,
     posterior: &mut [f64],
 ) -> Result<(), Error> {
-    ffi::beliefs(
-        graph, syndrome, iterations, scale, serial, scratch, posterior,
-    )
+    let lists = calls::BeliefLists {
+        posterior,
+        ewa_posterior: &mut scratch.ewa_posterior,
+        c_to_v: &mut scratch.c_to_v,
+        v_to_c: &mut scratch.v_to_c,
+    };
+    Error::of_code(calls::beliefs(
+        graph.lent(),
+        syndrome,
+        iterations,
+        scale,
+        u8::from(serial),
+        lists,
+    ))
 }

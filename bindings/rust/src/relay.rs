@@ -1,6 +1,8 @@
 //! Relay-BP.
 
-use crate::{ffi, BpGraph, Error};
+use crate::{BpGraph, Error};
+use chowderkite_sys::lists::DecodeLists;
+use chowderkite_sys::{calls, chowderkite_draw, chowderkite_gamma, chowderkite_next_state};
 
 /// In which order checks and mechanisms are updated within an iteration.
 #[derive(Clone, Copy, Debug, PartialEq, Eq, Hash)]
@@ -9,6 +11,16 @@ pub enum Schedule {
     Flooding,
     /// Check by check, and after each its mechanisms.
     CheckSerial,
+}
+
+impl Schedule {
+    /// As the calls name it.
+    pub(crate) const fn byte(self) -> u8 {
+        match self {
+            Self::Flooding => 0,
+            Self::CheckSerial => 1,
+        }
+    }
 }
 
 /// Where the gammas of relayed legs come from.
@@ -50,8 +62,8 @@ impl GammaSource {
         for leg in 1..=legs as u64 {
             let mut state = seed ^ (leg + 1);
             for _ in 0..mechanisms {
-                gammas.push(ffi::gamma(low, high, ffi::draw(state)));
-                state = ffi::next_state(state);
+                gammas.push(chowderkite_gamma(low, high, chowderkite_draw(state)));
+                state = chowderkite_next_state(state);
             }
         }
         Self::Explicit { sets: legs, gammas }
@@ -113,7 +125,25 @@ pub struct RelayConfig {
 impl Default for RelayConfig {
     /// The published operating point, as the proved settings have it.
     fn default() -> Self {
-        ffi::published()
+        let (schedule, floats, counts) = calls::published();
+        let [alpha, gamma0, low, high] = floats;
+        let [pre_iterations, num_legs, leg_iterations, stop_after_converged] =
+            counts.map(|count| count as usize);
+        Self {
+            schedule: if schedule == 0 {
+                Schedule::Flooding
+            } else {
+                Schedule::CheckSerial
+            },
+            alpha,
+            gamma0,
+            pre_iterations,
+            num_legs,
+            leg_iterations,
+            gamma_range: (low, high),
+            stop_after_converged,
+            gamma_source: GammaSource::Seeded,
+        }
     }
 }
 
@@ -124,7 +154,28 @@ impl RelayConfig {
     ///
     /// 10 to 19.
     pub fn check(&self, mechanisms: usize) -> Result<(), Error> {
-        ffi::check_settings(self, mechanisms)
+        Error::of_code(calls::check_settings(self.lent(), mechanisms))
+    }
+
+    fn lent(&self) -> calls::Settings<'_> {
+        let (explicit, sets, gammas): (u8, usize, &[f64]) = match &self.gamma_source {
+            GammaSource::Seeded => (0, 0, &[]),
+            GammaSource::Explicit { sets, gammas } => (1, *sets, gammas),
+        };
+        calls::Settings {
+            schedule: self.schedule.byte(),
+            alpha: self.alpha,
+            gamma0: self.gamma0,
+            pre_iterations: self.pre_iterations,
+            num_legs: self.num_legs,
+            leg_iterations: self.leg_iterations,
+            gamma_low: self.gamma_range.0,
+            gamma_high: self.gamma_range.1,
+            stop_after_converged: self.stop_after_converged,
+            explicit,
+            sets,
+            gammas,
+        }
     }
 }
 
@@ -204,71 +255,38 @@ pub struct RelayOutcome {
     pub total_iterations: usize,
 }
 
-/// The lists that a decode is lent: results until the outcome is read off them, and work lists.
-#[derive(Clone, Debug)]
-pub(crate) struct DecodeLists {
-    pub leg_state: Vec<u8>,
-    pub leg_steps: Vec<u32>,
-    pub leg_weight: Vec<f64>,
-    pub rows: Vec<u8>,
-    pub correction: Vec<u8>,
-    pub posterior: Vec<f64>,
-    pub gamma: Vec<f64>,
-    pub bias: Vec<f64>,
-    pub c_to_v: Vec<f64>,
-    pub v_to_c: Vec<f64>,
-    /// Converged (1 or 0), executed legs, total iterations.
-    pub counts: [u64; 3],
-    pub weight: [f64; 1],
+/// What a decode's lists say of a leg.
+fn leg_of(lists: &DecodeLists, leg: usize) -> LegOutcome {
+    let (state, iterations, weight) = lists.leg(leg);
+    let iterations = iterations as usize;
+    match state {
+        2 => {
+            let mechanisms = lists.correction.len();
+            LegOutcome::Converged {
+                weight,
+                iterations,
+                correction: lists.rows[leg * mechanisms..(leg + 1) * mechanisms].to_vec(),
+            }
+        }
+        1 => LegOutcome::RanOut { iterations },
+        _ => LegOutcome::NotExecuted,
+    }
 }
 
-impl DecodeLists {
-    /// Lists that fit exactly, for so many legs with leg zero.
-    fn new(graph: &BpGraph, legs: usize) -> Self {
-        let (mechanisms, edges) = (graph.mechanism_count(), graph.edge_count());
-        Self {
-            leg_state: vec![0; legs],
-            leg_steps: vec![0; legs],
-            leg_weight: vec![0.0; legs],
-            rows: vec![0; legs * mechanisms],
-            correction: vec![0; mechanisms],
-            posterior: vec![0.0; mechanisms],
-            gamma: vec![0.0; mechanisms],
-            bias: vec![0.0; mechanisms],
-            c_to_v: vec![0.0; edges],
-            v_to_c: vec![0.0; edges],
-            counts: [0; 3],
-            weight: [0.0],
-        }
-    }
-
-    fn leg(&self, leg: usize) -> LegOutcome {
-        match ffi::leg_record(self, leg) {
-            (2, iterations, weight) => {
-                let mechanisms = self.correction.len();
-                LegOutcome::Converged {
-                    weight,
-                    iterations,
-                    correction: self.rows[leg * mechanisms..(leg + 1) * mechanisms].to_vec(),
-                }
-            }
-            (1, iterations, _) => LegOutcome::RanOut { iterations },
-            _ => LegOutcome::NotExecuted,
-        }
-    }
-
-    fn outcome(&self) -> RelayOutcome {
-        let [converged, executed_legs, total_iterations] = self.counts;
-        let converged = converged == 1;
-        RelayOutcome {
-            converged,
-            correction: self.correction.clone(),
-            weight: converged.then_some(self.weight[0]),
-            posterior: self.posterior.clone(),
-            legs: (0..self.leg_state.len()).map(|leg| self.leg(leg)).collect(),
-            executed_legs: executed_legs as usize,
-            total_iterations: total_iterations as usize,
-        }
+/// What they say of the decode.
+fn outcome_of(lists: &DecodeLists) -> RelayOutcome {
+    let [converged, executed_legs, total_iterations] = lists.counts;
+    let converged = converged == 1;
+    RelayOutcome {
+        converged,
+        correction: lists.correction.clone(),
+        weight: converged.then_some(lists.weight[0]),
+        posterior: lists.posterior.clone(),
+        legs: (0..lists.leg_state.len())
+            .map(|leg| leg_of(lists, leg))
+            .collect(),
+        executed_legs: executed_legs as usize,
+        total_iterations: total_iterations as usize,
     }
 }
 
@@ -303,7 +321,7 @@ impl RelayBp {
     /// 10 to 19.
     pub fn new(graph: BpGraph, config: RelayConfig) -> Result<Self, Error> {
         config.check(graph.mechanism_count())?;
-        let lists = DecodeLists::new(&graph, config.num_legs + 1);
+        let lists = DecodeLists::filled(graph.size(), config.num_legs + 1, 0);
         Ok(Self {
             graph,
             config,
@@ -317,8 +335,14 @@ impl RelayBp {
     ///
     /// 20, 21, 30.
     pub fn decode(&mut self, syndrome: &[u8], seed: u64) -> Result<RelayOutcome, Error> {
-        ffi::decode(&self.graph, &self.config, syndrome, seed, &mut self.lists)?;
-        Ok(self.lists.outcome())
+        Error::of_code(calls::decode(
+            self.graph.lent(),
+            self.config.lent(),
+            syndrome,
+            seed,
+            self.lists.written(),
+        ))?;
+        Ok(outcome_of(&self.lists))
     }
 
     /// Decodes with the checks taken in a given order, which changes no bit of the outcome: an order that could is refused.
@@ -349,15 +373,15 @@ impl RelayBp {
         seed: u64,
         order: &[u32],
     ) -> Result<RelayOutcome, Error> {
-        ffi::decode_in_order(
-            &self.graph,
-            &self.config,
+        Error::of_code(calls::decode_in_order(
+            self.graph.lent(),
+            self.config.lent(),
             syndrome,
             seed,
             order,
-            &mut self.lists,
-        )?;
-        Ok(self.lists.outcome())
+            self.lists.written(),
+        ))?;
+        Ok(outcome_of(&self.lists))
     }
 
     /// The graph.

@@ -6,18 +6,16 @@ use crate::counts::Counts;
 use crate::damage::{damage_lists, nudge_length};
 use crate::given::{Given, model_of};
 use crate::rounds::{Part, Rate};
-use crate::table::wanted_lists;
+use crate::table::{MOST_TURNS, test, wanted_lengths, wanted_lists};
 use oracle::answers::Refusal;
 use oracle::belief_cases::{BeliefCase, SCALES, nan_sign_decides, random_syndrome};
+use oracle::bits::{bits, is_zero};
 use oracle::counted;
 use oracle::counted::bp::count::{NanSign, read_nan_sign};
 use oracle::exact;
-use oracle::graph_cases::GraphCase;
 use oracle::model::random_model;
 use oracle::splitmix::SplitMix64;
 use proved::{Answer, Beliefs, Run, Size};
-
-const MOST_ITERATIONS: usize = 65_535;
 
 /// In these the Rust answers otherwise on this processor.
 const DECIDED: &str = "beliefs, runs that a NaN's sign decides";
@@ -41,21 +39,13 @@ pub const PARTS: &[Part] = &[
     },
 ];
 
-fn bits(list: &[f64]) -> Vec<u64> {
-    list.iter().map(|value| value.to_bits()).collect()
-}
-
-fn is_zero(list: &[f64]) -> bool {
-    list.iter().all(|value| value.to_bits() == 0)
-}
-
 /// An answer with the posterior's bits.
 type Told = Result<Vec<u64>, (u64, u64)>;
 
 fn told(answer: Result<Vec<f64>, Refusal>) -> Told {
     match answer {
         Ok(posterior) => Ok(bits(&posterior)),
-        Err(Refusal { code, place }) => Err((code as u64, place as u64)),
+        Err(refusal) => Err(refusal.pair()),
     }
 }
 
@@ -74,8 +64,7 @@ fn compare(
     random: &mut SplitMix64,
     counts: &mut Counts,
 ) -> bool {
-    let mut given = Given::of(&GraphCase::sparse(case.model.clone()), random);
-    let built = given.build_sparse();
+    let (given, built) = Given::built(&case.model, random);
     let mut lists = Beliefs::filled(given.size, random.pick(&[1.5, -0.0, f64::NAN]));
     let run = Run {
         syndrome: &case.syndrome,
@@ -83,7 +72,7 @@ fn compare(
         scale: case.scale,
         serial: case.serial,
     };
-    let answer = proved::beliefs(given.size, &given.priors, &given.lists, run, &mut lists);
+    let answer = given.beliefs(run, &mut lists);
     let wanted = told(counted::drive::beliefs(case));
     let published = told(exact::drive::beliefs(case));
     let decided = published != wanted;
@@ -176,39 +165,27 @@ fn made(_: u64, random: &mut SplitMix64, counts: &mut Counts) {
 /// What document 01's table says before the run: the tests of the graph, then 12, 20 and 22.
 fn wanted_before(given: &Given, run: Run, lists: &Beliefs) -> Answer {
     wanted_lists(given)?;
-    let Size {
-        checks,
-        mechanisms,
-        edges,
-    } = given.size;
-    if run.iterations > MOST_ITERATIONS {
-        return Err((12, 0));
-    }
-    if run.syndrome.len() != checks {
-        return Err((20, 0));
-    }
-    let by_mechanism = [&lists.posterior, &lists.ewa_posterior];
-    let by_edge = [&lists.c_to_v, &lists.v_to_c];
-    if by_mechanism.iter().any(|list| list.len() != mechanisms)
-        || by_edge.iter().any(|list| list.len() != edges)
-    {
-        return Err((22, 0));
-    }
-    Ok(())
+    let size = given.size;
+    test(run.iterations <= MOST_TURNS, 12)?;
+    test(run.syndrome.len() == size.checks, 20)?;
+    wanted_lengths(
+        size,
+        &[&lists.posterior, &lists.ewa_posterior],
+        &[&lists.c_to_v, &lists.v_to_c],
+    )
 }
 
 fn damaged(_: u64, random: &mut SplitMix64, counts: &mut Counts) {
     let most = random.pick(&[1, 2, 3, 8]);
     let model = random_model(random, most, most);
     let mut syndrome = random_syndrome(random, model.checks);
-    let mut given = Given::of(&GraphCase::sparse(model), random);
-    let built = given.build_sparse();
+    let (mut given, built) = Given::built(&model, random);
     let mut lists = Beliefs::filled(given.size, 1.5);
     let mut iterations = random.below(4);
     for _ in 0..random.between(1, 2) {
         match random.below(6) {
             0 => nudge_length(random, &mut syndrome, 1),
-            1 => iterations = random.pick(&[MOST_ITERATIONS + 1, 1 << 32, usize::MAX]),
+            1 => iterations = random.pick(&[MOST_TURNS + 1, 1 << 32, usize::MAX]),
             2 | 3 => {
                 let which = random.below(4);
                 nudge_length(random, lists.each()[which], 2.5);
@@ -224,7 +201,7 @@ fn damaged(_: u64, random: &mut SplitMix64, counts: &mut Counts) {
     };
     let mut before = lists.clone();
     let wanted = wanted_before(&given, run, &lists);
-    let answer = proved::beliefs(given.size, &given.priors, &given.lists, run, &mut lists);
+    let answer = given.beliefs(run, &mut lists);
     let kept = lists
         .each()
         .iter()

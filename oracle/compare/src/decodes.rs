@@ -5,18 +5,19 @@ use crate::counts::Counts;
 use crate::damage::{damage_lists, nudge_length};
 use crate::given::{Given, model_of};
 use crate::rounds::{Part, Rate};
-use crate::steps::{is_zero, names_each_once, random_order};
-use crate::table::wanted_lists;
+use crate::steps::random_order;
+use crate::table::{
+    MOST_TURNS, test, wanted_alpha, wanted_lengths, wanted_lists, wanted_names, wanted_syndrome,
+};
 use oracle::answers::{Decoded, Refusal};
+use oracle::bits::is_zero;
 use oracle::decode_cases::{DecodeCase, Settings as CaseSettings, Source, random_case};
 use oracle::exact::bp::RelayConfig;
 use oracle::exact::drive;
-use oracle::graph_cases::GraphCase;
 use oracle::splitmix::SplitMix64;
 use proved::{Answer, Decode, Settings, Shot, Size};
 use std::collections::BTreeSet;
 
-const MOST: usize = 65_535;
 const ORDERS: usize = 3;
 
 pub const PARTS: &[Part] = &[
@@ -77,7 +78,7 @@ fn flat_of(case: &CaseSettings) -> Vec<f64> {
 fn told(answer: &Result<Decoded, Refusal>) -> Answer {
     match answer {
         Ok(_) => Ok(()),
-        Err(Refusal { code, place }) => Err((*code as u64, *place as u64)),
+        Err(refusal) => Err(refusal.pair()),
     }
 }
 
@@ -124,10 +125,37 @@ fn wanted_left(size: Size, legs: usize, before: &Decode, outcome: Option<&Decode
     left
 }
 
+/// Every byte of every list, for a comparison of two.
+fn bits(left: &Decode) -> Vec<u64> {
+    let floats = [
+        &left.leg_weight,
+        &left.posterior,
+        &left.gamma,
+        &left.bias,
+        &left.c_to_v,
+        &left.v_to_c,
+    ];
+    let bytes = [&left.leg_state, &left.rows, &left.correction];
+    let mut all: Vec<u64> = Vec::new();
+    for list in bytes {
+        all.push(list.len() as u64);
+        all.extend(list.iter().map(|&byte| u64::from(byte)));
+    }
+    all.push(left.leg_steps.len() as u64);
+    all.extend(left.leg_steps.iter().map(|&count| u64::from(count)));
+    for list in floats {
+        all.push(list.len() as u64);
+        all.extend(list.iter().map(|value| value.to_bits()));
+    }
+    all.extend(left.counts);
+    all.push(left.weight[0].to_bits());
+    all
+}
+
 /// Whether the record of each of the legs reads as the lists have it.
 fn legs_read(left: &Decode, legs: usize) -> bool {
     (0..legs).all(|leg| {
-        let (state, iterations, weight) = proved::leg_record(left, leg);
+        let (state, iterations, weight) = left.leg(leg);
         state == u64::from(left.leg_state[leg])
             && iterations == u64::from(left.leg_steps[leg])
             && weight.to_bits() == left.leg_weight[leg].to_bits()
@@ -142,8 +170,7 @@ fn compare(
     random: &mut SplitMix64,
     counts: &mut Counts,
 ) {
-    let mut given = Given::of(&GraphCase::sparse(case.model.clone()), random);
-    let built = given.build_sparse();
+    let (given, built) = Given::built(&case.model, random);
     let settings = settings_of(&case.settings);
     let gammas = flat_of(&case.settings);
     let legs = settings.num_legs + 1;
@@ -156,24 +183,17 @@ fn compare(
     };
     let run = |shot: Shot| {
         let mut left = before.clone();
-        let answer = proved::decode(
-            given.size,
-            &given.priors,
-            &given.lists,
-            settings,
-            shot,
-            &mut left,
-        );
+        let answer = given.decode(settings, shot, &mut left);
         (answer, left)
     };
     let rust = drive::decode(case);
     let wanted = told(&rust);
-    let wanted_bits = wanted_left(given.size, legs, &before, rust.as_ref().ok()).bits();
+    let wanted_bits = bits(&wanted_left(given.size, legs, &before, rust.as_ref().ok()));
     let (answer, left) = run(shot);
     counts.check(
         name,
         wanted,
-        built == Ok(()) && answer == wanted && left.bits() == wanted_bits && legs_read(&left, legs),
+        built == Ok(()) && answer == wanted && bits(&left) == wanted_bits && legs_read(&left, legs),
         || format!("{answer:?}, {left:?} for {rust:?}: {case:?}"),
     );
     for _ in 0..ORDERS {
@@ -184,8 +204,8 @@ fn compare(
             ..shot
         });
         let good = match refused {
-            Ok(()) => in_order == wanted && left.bits() == wanted_bits,
-            Err(_) => in_order == refused && left.bits() == before.bits(),
+            Ok(()) => in_order == wanted && bits(&left) == wanted_bits,
+            Err(_) => in_order == refused && bits(&left) == bits(&before),
         };
         counts.check(orders, refused, good, || {
             format!("{in_order:?} for {refused:?}, {wanted:?}: {order:?}, {case:?}")
@@ -234,9 +254,7 @@ fn share(given: &Given, one: u32, other: u32) -> bool {
 
 /// 23 and 24, check by check.
 fn wanted_of_order(given: &Given, serial: bool, order: &[u32]) -> Answer {
-    if !names_each_once(order, given.size.checks) {
-        return Err((23, 0));
-    }
+    wanted_names(order, given.size.checks)?;
     if !serial {
         return Ok(());
     }
@@ -271,9 +289,8 @@ fn large(case: u64, random: &mut SplitMix64, counts: &mut Counts) {
     for probability in &mut model.probabilities {
         *probability = 0.01 + 0.1 * random.unit();
     }
-    let bits: Vec<bool> = (0..mechanisms).map(|_| random.once_in(200)).collect();
     let case = DecodeCase {
-        syndrome: model.syndrome_of(&bits),
+        syndrome: model.syndrome_of(&random.flags(mechanisms, 200)),
         model,
         settings: CaseSettings {
             serial: !case.is_multiple_of(2),
@@ -316,20 +333,16 @@ fn published(_: u64, _: &mut SplitMix64, counts: &mut Counts) {
     });
 }
 
-fn test(good: bool, number: u64) -> Answer {
-    if good { Ok(()) } else { Err((number, 0)) }
-}
-
 /// What document 01's table says of settings over as many mechanisms: 10 to 19.
 fn wanted_settings(settings: Settings, gammas: &[f64], mechanisms: usize) -> Answer {
     let finite = |value: f64| value.is_finite();
-    test(finite(settings.alpha) && settings.alpha > 0.0, 10)?;
+    wanted_alpha(settings.alpha)?;
     test(finite(settings.gamma0), 11)?;
-    test((1..=MOST).contains(&settings.pre_iterations), 12)?;
-    test(settings.num_legs <= MOST, 13)?;
+    test((1..=MOST_TURNS).contains(&settings.pre_iterations), 12)?;
+    test(settings.num_legs <= MOST_TURNS, 13)?;
     let legs = settings.num_legs;
     test(
-        settings.leg_iterations <= MOST && (legs == 0 || settings.leg_iterations > 0),
+        settings.leg_iterations <= MOST_TURNS && (legs == 0 || settings.leg_iterations > 0),
         14,
     )?;
     let (low, high) = (settings.low, settings.high);
@@ -343,7 +356,7 @@ fn wanted_settings(settings: Settings, gammas: &[f64], mechanisms: usize) -> Ans
     };
     test(legs == 0 || sets > 0, 17)?;
     let long = sets as u128 * mechanisms as u128;
-    test(sets <= MOST && long == gammas.len() as u128, 18)?;
+    test(sets <= MOST_TURNS && long == gammas.len() as u128, 18)?;
     match gammas.iter().position(|gamma| !finite(*gamma)) {
         Some(place) => Err((19, place as u64)),
         None => Ok(()),
@@ -353,31 +366,25 @@ fn wanted_settings(settings: Settings, gammas: &[f64], mechanisms: usize) -> Ans
 /// What it says before the legs: 1, 2, 4, 7, 10 to 24.
 fn wanted_before(given: &Given, settings: Settings, shot: Shot, left: &Decode) -> Answer {
     wanted_lists(given)?;
-    let Size {
-        checks,
-        mechanisms,
-        edges,
-    } = given.size;
+    let mechanisms = given.size.mechanisms;
     wanted_settings(settings, shot.gammas, mechanisms)?;
-    test(shot.syndrome.len() == checks, 20)?;
-    if let Some(check) = shot.syndrome.iter().position(|&byte| byte > 1) {
-        return Err((21, check as u64));
-    }
+    wanted_syndrome(shot.syndrome, given.size.checks)?;
     let legs = settings.num_legs;
     let rows = [
         left.leg_state.len(),
         left.leg_steps.len(),
         left.leg_weight.len(),
     ];
-    let by_mechanism = [left.posterior.len(), left.gamma.len(), left.bias.len()];
     test(
         rows.iter().all(|&long| long > legs)
             && left.rows.len() >= (legs + 1) * mechanisms
-            && left.correction.len() == mechanisms
-            && by_mechanism.iter().all(|&long| long == mechanisms)
-            && left.c_to_v.len() == edges
-            && left.v_to_c.len() == edges,
+            && left.correction.len() == mechanisms,
         22,
+    )?;
+    wanted_lengths(
+        given.size,
+        &[&left.posterior, &left.gamma, &left.bias],
+        &[&left.c_to_v, &left.v_to_c],
     )?;
     match shot.order {
         Some(order) => wanted_of_order(given, settings.serial, order),
@@ -386,21 +393,24 @@ fn wanted_before(given: &Given, settings: Settings, shot: Shot, left: &Decode) -
 }
 
 fn damage_settings(random: &mut SplitMix64, settings: &mut Settings) {
-    let beyond = [MOST + 1, 1 << 32, (1 << 32) + 1, usize::MAX];
+    let beyond = [MOST_TURNS + 1, 1 << 32, (1 << 32) + 1, usize::MAX];
     let bad = [f64::NAN, f64::INFINITY, f64::NEG_INFINITY];
     match random.below(13) {
         0 => settings.alpha = random.pick(&[0.0, -0.0, -1.0, f64::NAN, f64::INFINITY]),
         1 => settings.gamma0 = random.pick(&bad),
-        2 => settings.pre_iterations = random.pick(&[0, MOST, MOST + 1, 1 << 32, usize::MAX]),
+        2 => {
+            settings.pre_iterations =
+                random.pick(&[0, MOST_TURNS, MOST_TURNS + 1, 1 << 32, usize::MAX])
+        }
         3 => settings.num_legs = random.pick(&beyond),
-        4 => settings.leg_iterations = random.pick(&[0, MOST + 1, 1 << 32, usize::MAX]),
+        4 => settings.leg_iterations = random.pick(&[0, MOST_TURNS + 1, 1 << 32, usize::MAX]),
         5 => settings.low = random.pick(&bad),
         6 => settings.high = random.pick(&bad),
         7 => (settings.low, settings.high) = (-f64::MAX, f64::MAX),
         8 => (settings.low, settings.high) = (0.5, 0.25),
         9 => settings.stop = random.pick(&[0, 0, 1 << 32, usize::MAX]),
-        10 => settings.sets = Some(random.pick(&[0, 1, MOST + 1, 1 << 32, usize::MAX])),
-        11 => settings.leg_iterations = MOST,
+        10 => settings.sets = Some(random.pick(&[0, 1, MOST_TURNS + 1, 1 << 32, usize::MAX])),
+        11 => settings.leg_iterations = MOST_TURNS,
         _ => settings.low = settings.high,
     }
 }
@@ -408,8 +418,7 @@ fn damage_settings(random: &mut SplitMix64, settings: &mut Settings) {
 fn damaged(_: u64, random: &mut SplitMix64, counts: &mut Counts) {
     let round = random.below(2);
     let mut case = random_case(random, round);
-    let mut given = Given::of(&GraphCase::sparse(case.model.clone()), random);
-    let built = given.build_sparse();
+    let (mut given, built) = Given::built(&case.model, random);
     let mut settings = settings_of(&case.settings);
     settings.num_legs = settings.num_legs.min(2);
     let mut gammas = flat_of(&case.settings);
@@ -465,14 +474,7 @@ fn damaged(_: u64, random: &mut SplitMix64, counts: &mut Counts) {
         return;
     }
     let before = left.clone();
-    let answer = proved::decode(
-        given.size,
-        &given.priors,
-        &given.lists,
-        settings,
-        shot,
-        &mut left,
-    );
+    let answer = given.decode(settings, shot, &mut left);
     let good = match wanted {
         // What the legs leave is what the others show, but for zeroes.
         Ok(()) => match answer {
@@ -482,10 +484,10 @@ fn damaged(_: u64, random: &mut SplitMix64, counts: &mut Counts) {
             }
             Err((number, _)) => {
                 let zeroed = wanted_left(given.size, settings.num_legs + 1, &before, None);
-                number == 30 && left.bits() == zeroed.bits()
+                number == 30 && bits(&left) == bits(&zeroed)
             }
         },
-        Err(_) => answer == wanted && left.bits() == before.bits(),
+        Err(_) => answer == wanted && bits(&left) == bits(&before),
     };
     counts.check("decodes, damaged", wanted, good && built == Ok(()), || {
         format!("{answer:?} for {wanted:?}: {settings:?}, {shot:?}, {given:?}")

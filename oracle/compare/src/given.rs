@@ -1,11 +1,11 @@
 //! All that the building calls take, and what the Rust answers to it.
 
-use oracle::answers::{GraphLists, Refusal};
+use oracle::answers::GraphLists;
 use oracle::exact::drive;
 use oracle::graph_cases::{GraphCase, Incidence};
-use oracle::model::Model;
+use oracle::model::{Model, even_degree, offsets};
 use oracle::splitmix::SplitMix64;
-use proved::{Answer, Lists, Size};
+use proved::{Answer, Beliefs, Decode, Iteration, Lists, Run, Settings, Shot, Size, Step};
 
 /// The Rust's lists, as the port has them.
 fn narrow(lists: &GraphLists) -> Lists {
@@ -24,7 +24,7 @@ fn narrow(lists: &GraphLists) -> Lists {
 pub fn rust(case: &GraphCase) -> Result<Lists, (u64, u64)> {
     match drive::graph(case) {
         Ok(lists) => Ok(narrow(&lists)),
-        Err(Refusal { code, place }) => Err((code as u64, place as u64)),
+        Err(refusal) => Err(refusal.pair()),
     }
 }
 
@@ -60,14 +60,19 @@ impl Given {
         };
         match &case.incidence {
             Incidence::Sparse(detectors) => {
-                for list in detectors {
-                    given.detectors.extend(list);
-                    given.offsets.push(given.detectors.len() as u32);
-                }
+                given.offsets = offsets(detectors);
+                given.detectors = detectors.concat();
             }
             Incidence::Dense(matrix) => given.matrix.clone_from(matrix),
         }
         given
+    }
+
+    /// The model with its graph, and what the building call answered.
+    pub fn built(model: &Model, random: &mut SplitMix64) -> (Self, Answer) {
+        let mut given = Self::of(&GraphCase::sparse(model.clone()), random);
+        let answer = given.build_sparse();
+        (given, answer)
     }
 
     pub fn build_sparse(&mut self) -> Answer {
@@ -97,6 +102,18 @@ impl Given {
         proved::check_graph(self.size, &self.priors, &self.lists)
     }
 
+    pub fn beliefs(&self, run: Run, lists: &mut Beliefs) -> Answer {
+        proved::beliefs(self.size, &self.priors, &self.lists, run, lists)
+    }
+
+    pub fn iteration(&self, iteration: Iteration, step: &mut Step) -> Answer {
+        proved::iteration(self.size, &self.priors, &self.lists, iteration, step)
+    }
+
+    pub fn decode(&self, settings: Settings, shot: Shot, left: &mut Decode) -> Answer {
+        proved::decode(self.size, &self.priors, &self.lists, settings, shot, left)
+    }
+
     /// The sparse model as the Rust takes it, where the offsets are good ones.
     pub fn nested(&self) -> GraphCase {
         let part = |pair: &[u32]| self.detectors[pair[0] as usize..pair[1] as usize].to_vec();
@@ -117,11 +134,9 @@ pub fn model_of(size: Size, random: &mut SplitMix64) -> Model {
     } = size;
     let mut all: Vec<u32> = (0..checks as u32).collect();
     let detectors = (0..mechanisms).map(|mechanism| {
-        let degree = edges / mechanisms + usize::from(mechanism < edges % mechanisms);
+        let degree = even_degree(mechanism, mechanisms, edges);
         // The first places of a list that is shuffled on from mechanism to mechanism.
-        for place in 0..degree {
-            all.swap(place, random.between(place, checks - 1));
-        }
+        random.draw_front(&mut all, degree);
         all[..degree].to_vec()
     });
     Model {

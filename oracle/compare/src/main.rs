@@ -96,9 +96,8 @@ fn main() -> ExitCode {
         return ExitCode::from(2);
     };
     toolchain::print();
-    if let Err(why) = toolchain::sums_start_at_negative_zero() {
-        eprintln!("oracle: refused: {why}");
-        return ExitCode::from(3);
+    if let Some(code) = toolchain::refused("oracle") {
+        return code;
     }
     // A NaN's sign is open in the Rust and positive in the port: the counted copy of the Rust reads it so.
     read_nan_sign(NanSign::Positive);

@@ -2,6 +2,7 @@
 
 use crate::counts::Counts;
 use crate::rounds::{Part, Rate};
+use oracle::bits::same;
 use oracle::splitmix::SplitMix64;
 
 pub const PARTS: &[Part] = &[Part {
@@ -35,10 +36,6 @@ fn any_float(g: &mut SplitMix64) -> f64 {
         2 => (g.draw() as i64 >> 40) as f64 / 1024.0,
         _ => f64::from_bits(g.draw()),
     }
-}
-
-fn same(a: f64, b: f64) -> bool {
-    a.to_bits() == b.to_bits() || a.is_nan() && b.is_nan()
 }
 
 /// A NaN's sign is positive in the port, so `copysign`'s is compared off a NaN.

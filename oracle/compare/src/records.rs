@@ -3,6 +3,7 @@
 
 use crate::counts::Counts;
 use crate::rounds::{Part, Rate};
+use oracle::bits::same;
 use oracle::splitmix::SplitMix64;
 use proved::streams::{self as calls, Line, MAX_PAYLOAD};
 use streams::{expect, random};
@@ -103,11 +104,6 @@ fn float(bytes: &[u8]) -> f64 {
     f64::from_bits(number(bytes))
 }
 
-/// The same bits, or a NaN for any NaN.
-fn same(a: f64, b: f64) -> bool {
-    a.to_bits() == b.to_bits() || a.is_nan() && b.is_nan()
-}
-
 /// Whether a model that 41 to 45 let through is read as its bytes lie.
 fn is_model(reader: &calls::Reader, payload: &[u8], bytes: &[u8]) -> bool {
     let counts = [0, 4, 8].map(|place| number(&bytes[place..place + 4]) as usize);
@@ -164,7 +160,8 @@ fn lines(_: u64, g: &mut SplitMix64, counts: &mut Counts) {
     let any = |g: &mut SplitMix64| (g.draw() >> (g.draw() % 64)) as usize;
     let (a, b, c) = (any(g), any(g), any(g));
     let converged = g.once_in(2);
-    let bits: Vec<u8> = (0..g.below(257)).map(|_| g.below(2) as u8).collect();
+    let count = g.below(257);
+    let bits = g.bits(count);
     let digits: String = bits.iter().map(|bit| char::from(b'0' + bit)).collect();
     let space = if bits.is_empty() { "" } else { " " };
     let of_shot = format!("shot {a} {} {b} {c}{space}{digits}\n", u8::from(converged));

@@ -4,12 +4,13 @@ use crate::counts::Counts;
 use crate::damage::{damage_lists, nudge_length};
 use crate::given::{Given, model_of};
 use crate::rounds::{Part, Rate};
-use crate::table::wanted_lists;
-use oracle::graph_cases::GraphCase;
+use crate::table::{
+    test, wanted_alpha, wanted_lengths, wanted_lists, wanted_names, wanted_syndrome,
+};
+use oracle::bits::{bits, is_zero};
 use oracle::model::{Model, random_model};
 use oracle::splitmix::SplitMix64;
-use pecos_bp_open::{BpGraph, RelayBp, RelayConfig, Schedule, State};
-use pecos_decoder_core::dem::SparseDem;
+use pecos_bp_open::State;
 use proved::{Answer, Iteration, Size, Step};
 
 const ALPHAS: [f64; 6] = [1.0, 0.5, 0.9, 1e-300, 1e200, 1e308];
@@ -29,21 +30,11 @@ pub const PARTS: &[Part] = &[
     },
 ];
 
-pub fn bits(list: &[f64]) -> Vec<u64> {
-    list.iter().map(|value| value.to_bits()).collect()
-}
-
-pub fn is_zero(list: &[f64]) -> bool {
-    list.iter().all(|value| value.to_bits() == 0)
-}
-
 /// The numbers below `count`, now and then in their own order.
 pub fn random_order(random: &mut SplitMix64, count: usize) -> Vec<u32> {
     let mut order: Vec<u32> = (0..count as u32).collect();
     if !random.once_in(5) {
-        for place in (1..count).rev() {
-            order.swap(place, random.below(place + 1));
-        }
+        random.shuffle(&mut order);
     }
     order
 }
@@ -88,7 +79,7 @@ impl Case {
                 Reach::Any => random.pick(&ALPHAS),
             },
             gamma: values(random, reach, size.mechanisms),
-            syndrome: (0..size.checks).map(|_| random.below(2) as u8).collect(),
+            syndrome: random.bits(size.checks),
             order: random_order(random, model.checks),
             step: Step {
                 c_to_v: values(random, reach, size.edges),
@@ -112,25 +103,7 @@ impl Case {
 
 /// The Rust's state after it.
 fn rust(model: &Model, case: &Case) -> State {
-    let mechanisms = model.probabilities.iter().zip(&model.detectors);
-    let graph = BpGraph::from_sparse_dem(&SparseDem {
-        mechanisms: mechanisms
-            .map(|(&probability, detectors)| (probability, detectors.clone(), Vec::new()))
-            .collect(),
-        num_detectors: model.checks,
-    })
-    .expect("the model builds");
-    let config = RelayConfig {
-        schedule: if case.serial {
-            Schedule::CheckSerial
-        } else {
-            Schedule::Flooding
-        },
-        alpha: case.alpha,
-        num_legs: 0,
-        ..RelayConfig::default()
-    };
-    let mut decoder = RelayBp::new(graph, config).expect("the settings are good");
+    let mut decoder = pecos_bp_open::stepping(&model.dem(), case.serial, case.alpha);
     let mut state = State {
         c_to_v: case.step.c_to_v.clone(),
         v_to_c: case.step.v_to_c.clone(),
@@ -195,17 +168,10 @@ fn compare(
     random: &mut SplitMix64,
     counts: &mut Counts,
 ) {
-    let mut given = Given::of(&GraphCase::sparse(model.clone()), random);
-    let built = given.build_sparse();
+    let (given, built) = Given::built(model, random);
     let case = Case::of(model, given.size, reach, random);
     let mut left = case.step.clone();
-    let answer = proved::iteration(
-        given.size,
-        &given.priors,
-        &given.lists,
-        case.iteration(),
-        &mut left,
-    );
+    let answer = given.iteration(case.iteration(), &mut left);
     let state = rust(model, &case);
     let wanted = match not_finite(&given, &state) {
         Some(mechanism) => Err((30, mechanism as u64)),
@@ -231,56 +197,28 @@ fn compare(
     );
 }
 
-/// 23: as many as there are checks, each once.
-pub fn names_each_once(order: &[u32], checks: usize) -> bool {
-    let mut sorted = order.to_vec();
-    sorted.sort_unstable();
-    sorted == (0..checks as u32).collect::<Vec<_>>()
-}
-
 /// What document 01's table says before the step: 1, 2, 4, 7, 10, 20, 21, 22, 23, 25.
 fn wanted_before(given: &Given, case: &Case) -> Answer {
     wanted_lists(given)?;
-    let Size {
-        checks,
-        mechanisms,
-        edges,
-    } = given.size;
-    if !(case.alpha.is_finite() && case.alpha > 0.0) {
-        return Err((10, 0));
-    }
-    if case.syndrome.len() != checks {
-        return Err((20, 0));
-    }
-    if let Some(check) = case.syndrome.iter().position(|&byte| byte > 1) {
-        return Err((21, check as u64));
-    }
+    let size = given.size;
+    wanted_alpha(case.alpha)?;
+    wanted_syndrome(&case.syndrome, size.checks)?;
     let step = &case.step;
-    let by_mechanism = [&case.gamma, &step.posterior, &step.bias];
-    if by_mechanism.iter().any(|list| list.len() != mechanisms)
-        || step.c_to_v.len() != edges
-        || step.v_to_c.len() != edges
-    {
-        return Err((22, 0));
-    }
-    if !names_each_once(&case.order, checks) {
-        return Err((23, 0));
-    }
+    wanted_lengths(
+        size,
+        &[&case.gamma, &step.posterior, &step.bias],
+        &[&step.c_to_v, &step.v_to_c],
+    )?;
+    wanted_names(&case.order, size.checks)?;
     let tested = [&step.c_to_v, &step.v_to_c, &step.posterior, &case.gamma];
-    if tested
-        .iter()
-        .any(|list| list.iter().any(|value| !value.is_finite()))
-    {
-        return Err((25, 0));
-    }
-    Ok(())
+    let mut values = tested.into_iter().flatten();
+    test(values.all(|value| value.is_finite()), 25)
 }
 
 fn damaged(_: u64, random: &mut SplitMix64, counts: &mut Counts) {
     let most = random.pick(&[1, 2, 3, 8]);
     let model = random_model(random, most, most);
-    let mut given = Given::of(&GraphCase::sparse(model.clone()), random);
-    let built = given.build_sparse();
+    let (mut given, built) = Given::built(&model, random);
     let mut case = Case::of(&model, given.size, Reach::Any, random);
     for _ in 0..random.between(1, 2) {
         match random.below(9) {
@@ -322,13 +260,7 @@ fn damaged(_: u64, random: &mut SplitMix64, counts: &mut Counts) {
     }
     let wanted = wanted_before(&given, &case);
     let mut left = case.step.clone();
-    let answer = proved::iteration(
-        given.size,
-        &given.priors,
-        &given.lists,
-        case.iteration(),
-        &mut left,
-    );
+    let answer = given.iteration(case.iteration(), &mut left);
     let kept = left
         .each()
         .iter()

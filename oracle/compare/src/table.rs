@@ -1,5 +1,5 @@
-//! What document 01's table says of models and graph lists, in the order of its tests. Written from the table and apart from
-//! the proved code.
+//! What document 01's table says of models and graph lists, in the order of its tests, and the tests that several calls over them
+//! have. Written from the table and apart from the proved code.
 
 use crate::given::{Given, rust};
 use oracle::graph_cases::{GraphCase, Incidence};
@@ -8,8 +8,19 @@ use std::collections::BTreeSet;
 
 pub const MOST_COUNT: usize = 65_536;
 pub const MOST_EDGES: usize = 1_048_576;
+/// Of iterations, of relayed legs and of explicit sets.
+pub const MOST_TURNS: usize = 65_535;
 
 const NOWHERE: u64 = 0;
+
+/// A test of the table: its number, without a place, where it fails.
+pub fn test(good: bool, number: u64) -> Answer {
+    if good { Ok(()) } else { Err((number, NOWHERE)) }
+}
+
+fn size_fits(size: Size) -> bool {
+    size.checks <= MOST_COUNT && size.mechanisms <= MOST_COUNT && size.edges <= MOST_EDGES
+}
 
 fn lists_fit(lists: &Lists, edges: usize, size: Size) -> bool {
     let entries = [
@@ -36,20 +47,19 @@ fn wanted_of_priors(priors: &[f64]) -> Answer {
 
 pub fn wanted_sparse(given: &Given) -> Answer {
     let size = given.size;
-    if size.checks > MOST_COUNT || size.mechanisms > MOST_COUNT || size.edges > MOST_EDGES {
-        return Err((1, NOWHERE));
-    }
-    if given.priors.len() != size.mechanisms
-        || given.offsets.len() != size.mechanisms + 1
-        || given.detectors.len() != size.edges
-        || !lists_fit(&given.lists, size.edges, size)
-    {
-        return Err((2, NOWHERE));
-    }
+    test(size_fits(size), 1)?;
+    test(
+        given.priors.len() == size.mechanisms
+            && given.offsets.len() == size.mechanisms + 1
+            && given.detectors.len() == size.edges
+            && lists_fit(&given.lists, size.edges, size),
+        2,
+    )?;
     let ends = (given.offsets[0], given.offsets[size.mechanisms] as usize);
-    if ends != (0, given.detectors.len()) || !given.offsets.is_sorted() {
-        return Err((3, NOWHERE));
-    }
+    test(
+        ends == (0, given.detectors.len()) && given.offsets.is_sorted(),
+        3,
+    )?;
     for mechanism in 0..size.mechanisms {
         let place = mechanism as u64;
         if !is_prior(given.priors[mechanism]) {
@@ -71,39 +81,32 @@ pub fn wanted_sparse(given: &Given) -> Answer {
 
 pub fn wanted_dense(given: &Given) -> Answer {
     let size = given.size;
-    if size.checks > MOST_COUNT || size.mechanisms > MOST_COUNT {
-        return Err((1, NOWHERE));
-    }
-    if given.matrix.len() != size.checks * size.mechanisms || given.priors.len() != size.mechanisms
-    {
-        return Err((2, NOWHERE));
-    }
+    test(
+        size.checks <= MOST_COUNT && size.mechanisms <= MOST_COUNT,
+        1,
+    )?;
+    test(
+        given.matrix.len() == size.checks * size.mechanisms
+            && given.priors.len() == size.mechanisms,
+        2,
+    )?;
     let edges = given.matrix.iter().filter(|byte| **byte != 0).count();
-    if edges > MOST_EDGES {
-        return Err((1, NOWHERE));
-    }
-    if !lists_fit(&given.lists, edges, size) {
-        return Err((2, NOWHERE));
-    }
+    test(edges <= MOST_EDGES, 1)?;
+    test(lists_fit(&given.lists, edges, size), 2)?;
     wanted_of_priors(&given.priors)
 }
 
 /// 7 unless the lists are those that the Rust builds of the incidences that the check lists tell.
 pub fn wanted_lists(given: &Given) -> Answer {
     let size = given.size;
-    if size.checks > MOST_COUNT || size.mechanisms > MOST_COUNT || size.edges > MOST_EDGES {
-        return Err((1, NOWHERE));
-    }
-    if given.priors.len() != size.mechanisms || !lists_fit(&given.lists, size.edges, size) {
-        return Err((2, NOWHERE));
-    }
+    test(size_fits(size), 1)?;
+    test(
+        given.priors.len() == size.mechanisms && lists_fit(&given.lists, size.edges, size),
+        2,
+    )?;
     wanted_of_priors(&given.priors)?;
     let built = told(size, &given.lists).map(|case| rust(&case));
-    if built == Some(Ok(given.lists.clone())) {
-        Ok(())
-    } else {
-        Err((7, NOWHERE))
-    }
+    test(built == Some(Ok(given.lists.clone())), 7)
 }
 
 /// The model of the incidences in the check lists, where they tell any.
@@ -123,4 +126,33 @@ fn told(size: Size, lists: &Lists) -> Option<GraphCase> {
         probabilities: vec![0.25; size.mechanisms],
         incidence: Incidence::Sparse(detectors),
     })
+}
+
+pub fn wanted_alpha(alpha: f64) -> Answer {
+    test(alpha.is_finite() && alpha > 0.0, 10)
+}
+
+/// 20 and 21.
+pub fn wanted_syndrome(syndrome: &[u8], checks: usize) -> Answer {
+    test(syndrome.len() == checks, 20)?;
+    match syndrome.iter().position(|&byte| byte > 1) {
+        Some(check) => Err((21, check as u64)),
+        None => Ok(()),
+    }
+}
+
+/// 22: of lists that have a number for each mechanism, and for each edge.
+pub fn wanted_lengths(size: Size, by_mechanism: &[&[f64]], by_edge: &[&[f64]]) -> Answer {
+    let fit = |lists: &[&[f64]], length| lists.iter().all(|list| list.len() == length);
+    test(
+        fit(by_mechanism, size.mechanisms) && fit(by_edge, size.edges),
+        22,
+    )
+}
+
+/// 23: as many as there are checks, each once.
+pub fn wanted_names(order: &[u32], checks: usize) -> Answer {
+    let mut sorted = order.to_vec();
+    sorted.sort_unstable();
+    test(sorted == (0..checks as u32).collect::<Vec<_>>(), 23)
 }

@@ -3,7 +3,30 @@
 
 include!(concat!(env!("OUT_DIR"), "/modules.rs"));
 
+use pecos_decoder_core::dem::SparseDem;
+
 pub use min_sum::priors::with_priors;
 pub use min_sum::{BpGraph, LLR_SATURATION};
 pub use relay::step::{State, iteration, load, step, store};
 pub use relay::{RelayBp, RelayConfig, Schedule};
+
+/// A decoder for single iterations over a model.
+///
+/// # Panics
+///
+/// If the model or alpha is refused.
+#[must_use]
+pub fn stepping(model: &SparseDem, serial: bool, alpha: f64) -> RelayBp {
+    let config = RelayConfig {
+        schedule: if serial {
+            Schedule::CheckSerial
+        } else {
+            Schedule::Flooding
+        },
+        alpha,
+        num_legs: 0,
+        ..RelayConfig::default()
+    };
+    let graph = BpGraph::from_sparse_dem(model).expect("the model builds");
+    RelayBp::new(graph, config).expect("the settings are good")
+}

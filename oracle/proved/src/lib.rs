@@ -6,6 +6,7 @@
 use chowderkite_sys::calls;
 
 pub use calls::count_edges;
+pub use chowderkite_sys::lists::{DecodeLists as Decode, GraphLists as Lists, Size};
 pub use chowderkite_sys::streams;
 pub use chowderkite_sys::{
     chowderkite_draw as draw, chowderkite_gamma as gamma, chowderkite_infinity as infinity,
@@ -39,78 +40,6 @@ fn answer(code: u64) -> Answer {
         Ok(())
     } else {
         Err((code % 65_536, code / 65_536))
-    }
-}
-
-/// How many checks, mechanisms and edges the caller says that there are.
-#[derive(Clone, Copy, Debug, PartialEq, Eq)]
-pub struct Size {
-    pub checks: usize,
-    pub mechanisms: usize,
-    pub edges: usize,
-}
-
-/// The six lists of a graph.
-#[derive(Clone, Debug, Default, PartialEq, Eq)]
-pub struct Lists {
-    pub check_var: Vec<u32>,
-    pub check_message: Vec<u32>,
-    pub check_offset: Vec<u32>,
-    pub var_check: Vec<u32>,
-    pub var_message: Vec<u32>,
-    pub var_offset: Vec<u32>,
-}
-
-impl Lists {
-    /// Lists that fit, filled with one number.
-    pub fn filled(size: Size, with: u32) -> Self {
-        let list = |length: usize| vec![with; length];
-        Self {
-            check_var: list(size.edges),
-            check_message: list(size.edges),
-            check_offset: list(size.checks + 1),
-            var_check: list(size.edges),
-            var_message: list(size.edges),
-            var_offset: list(size.mechanisms + 1),
-        }
-    }
-
-    /// All six, in the order of the calls.
-    pub fn each(&mut self) -> [&mut Vec<u32>; 6] {
-        [
-            &mut self.check_var,
-            &mut self.check_message,
-            &mut self.check_offset,
-            &mut self.var_check,
-            &mut self.var_message,
-            &mut self.var_offset,
-        ]
-    }
-
-    fn written(&mut self) -> calls::GraphLists<'_> {
-        calls::GraphLists {
-            check_var: &mut self.check_var,
-            check_message: &mut self.check_message,
-            check_offset: &mut self.check_offset,
-            var_check: &mut self.var_check,
-            var_message: &mut self.var_message,
-            var_offset: &mut self.var_offset,
-        }
-    }
-}
-
-fn graph_of<'a>(size: Size, priors: &'a [f64], lists: &'a Lists) -> calls::Graph<'a> {
-    calls::Graph {
-        checks: size.checks,
-        mechanisms: size.mechanisms,
-        edges: size.edges,
-        priors,
-        check_var: &lists.check_var,
-        check_message: &lists.check_message,
-        check_offset: &lists.check_offset,
-        var_check: &lists.var_check,
-        var_message: &lists.var_message,
-        var_offset: &lists.var_offset,
     }
 }
 
@@ -149,7 +78,7 @@ pub fn build_dense(
 }
 
 pub fn check_graph(size: Size, priors: &[f64], lists: &Lists) -> Answer {
-    answer(calls::check_graph(graph_of(size, priors, lists)))
+    answer(calls::check_graph(lists.graph(size, priors)))
 }
 
 /// The lists that `beliefs` writes: the posterior is the result, the others are for work.
@@ -201,7 +130,7 @@ pub fn beliefs(
 ) -> Answer {
     let [posterior, ewa_posterior, c_to_v, v_to_c] = beliefs.each();
     answer(calls::beliefs(
-        graph_of(size, priors, lists),
+        lists.graph(size, priors),
         run.syndrome,
         run.iterations,
         run.scale,
@@ -255,7 +184,7 @@ pub fn iteration(
 ) -> Answer {
     let [c_to_v, v_to_c, posterior, bias] = step.each();
     answer(calls::iteration(
-        graph_of(size, priors, lists),
+        lists.graph(size, priors),
         u8::from(iteration.serial),
         iteration.alpha,
         iteration.gamma,
@@ -337,89 +266,6 @@ pub struct Shot<'a> {
     pub order: Option<&'a [u32]>,
 }
 
-/// The lists that a decode writes: the legs' records, the correction, the posterior, the counts (converged, executed legs, total
-/// iterations) and the weight are results, the others are for work.
-#[derive(Clone, Debug, Default)]
-pub struct Decode {
-    pub leg_state: Vec<u8>,
-    pub leg_steps: Vec<u32>,
-    pub leg_weight: Vec<f64>,
-    pub rows: Vec<u8>,
-    pub correction: Vec<u8>,
-    pub posterior: Vec<f64>,
-    pub gamma: Vec<f64>,
-    pub bias: Vec<f64>,
-    pub c_to_v: Vec<f64>,
-    pub v_to_c: Vec<f64>,
-    pub counts: [u64; 3],
-    pub weight: [f64; 1],
-}
-
-impl Decode {
-    /// Lists that fit as many legs, filled with one number.
-    pub fn filled(size: Size, legs: usize, with: u8) -> Self {
-        let float = f64::from(with);
-        Self {
-            leg_state: vec![with; legs],
-            leg_steps: vec![u32::from(with); legs],
-            leg_weight: vec![float; legs],
-            rows: vec![with; legs * size.mechanisms],
-            correction: vec![with; size.mechanisms],
-            posterior: vec![float; size.mechanisms],
-            gamma: vec![float; size.mechanisms],
-            bias: vec![float; size.mechanisms],
-            c_to_v: vec![float; size.edges],
-            v_to_c: vec![float; size.edges],
-            counts: [u64::from(with); 3],
-            weight: [float],
-        }
-    }
-
-    fn written(&mut self) -> calls::DecodeLists<'_> {
-        calls::DecodeLists {
-            leg_state: &mut self.leg_state,
-            leg_steps: &mut self.leg_steps,
-            leg_weight: &mut self.leg_weight,
-            rows: &mut self.rows,
-            correction: &mut self.correction,
-            posterior: &mut self.posterior,
-            gamma: &mut self.gamma,
-            bias: &mut self.bias,
-            c_to_v: &mut self.c_to_v,
-            v_to_c: &mut self.v_to_c,
-            counts: &mut self.counts,
-            weight: &mut self.weight,
-        }
-    }
-
-    /// Every byte of every list, for a comparison of two.
-    pub fn bits(&self) -> Vec<u64> {
-        let floats = [
-            &self.leg_weight,
-            &self.posterior,
-            &self.gamma,
-            &self.bias,
-            &self.c_to_v,
-            &self.v_to_c,
-        ];
-        let bytes = [&self.leg_state, &self.rows, &self.correction];
-        let mut all: Vec<u64> = Vec::new();
-        for list in bytes {
-            all.push(list.len() as u64);
-            all.extend(list.iter().map(|&byte| u64::from(byte)));
-        }
-        all.push(self.leg_steps.len() as u64);
-        all.extend(self.leg_steps.iter().map(|&count| u64::from(count)));
-        for list in floats {
-            all.push(list.len() as u64);
-            all.extend(list.iter().map(|value| value.to_bits()));
-        }
-        all.extend(self.counts);
-        all.push(self.weight[0].to_bits());
-        all
-    }
-}
-
 pub fn decode(
     size: Size,
     priors: &[f64],
@@ -428,7 +274,7 @@ pub fn decode(
     shot: Shot,
     left: &mut Decode,
 ) -> Answer {
-    let graph = graph_of(size, priors, lists);
+    let graph = lists.graph(size, priors);
     let settings = settings.with(shot.gammas);
     answer(match shot.order {
         Some(order) => calls::decode_in_order(
@@ -441,9 +287,4 @@ pub fn decode(
         ),
         None => calls::decode(graph, settings, shot.syndrome, shot.seed, left.written()),
     })
-}
-
-/// A leg's state (2 converged, 1 ran out, 0 not executed), iterations and weight.
-pub fn leg_record(left: &Decode, leg: usize) -> (u64, u64, f64) {
-    calls::leg_record(&left.leg_state, &left.leg_steps, &left.leg_weight, leg)
 }

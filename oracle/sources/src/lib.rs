@@ -54,6 +54,21 @@ fn source_folder() -> PathBuf {
     }
 }
 
+/// The text of a file; it stops the build if it can't be read.
+#[must_use]
+pub fn read(path: &Path) -> String {
+    std::fs::read_to_string(path)
+        .unwrap_or_else(|error| stop(&format!("cannot read {}: {error}", path.display())))
+}
+
+/// Writes a file of the build folder, and gives its path.
+pub fn write_out(name: &str, text: &str) -> PathBuf {
+    let out = env::var_os("OUT_DIR").expect("set by cargo");
+    let path = Path::new(&out).join(name);
+    std::fs::write(&path, text).expect("writing into the build folder");
+    path
+}
+
 /// A public module whose text is the file at `path`.
 #[must_use]
 pub fn module_line(name: &str, path: &Path) -> String {
@@ -63,12 +78,7 @@ pub fn module_line(name: &str, path: &Path) -> String {
 
 /// Write what the package's lib.rs includes.
 pub fn write_modules(text: &str) {
-    std::fs::write(out_dir().join("modules.rs"), text).expect("writing into the build folder");
-}
-
-#[must_use]
-pub fn out_dir() -> PathBuf {
-    PathBuf::from(env::var_os("OUT_DIR").expect("set by cargo"))
+    write_out("modules.rs", text);
 }
 
 /// End the build with a message.

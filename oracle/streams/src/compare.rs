@@ -2,11 +2,11 @@
 
 use crate::counts::Counts;
 use crate::decode::{Decoded, NotFinite, decode};
+use crate::expect;
 use crate::program::{LONGEST_PACKET, Program};
 use crate::random;
-use crate::stream::{Mechanism, Model, Settings};
-use crate::{expect, stream};
-use oracle::decode_cases::{self, DecodeCase, Source, random_case};
+use crate::stream::{Model, Settings};
+use oracle::decode_cases::{Source, random_case};
 use oracle::exact::drive;
 use oracle::splitmix::SplitMix64;
 use std::fs::File;
@@ -134,7 +134,7 @@ fn copies(count: u64, seed: u64, score: &mut Score) {
                 Err(NotFinite)
             }
         };
-        let (model, settings) = as_records(&case);
+        let (model, settings) = (Model::of(&case.model), Settings::of(&case.settings));
         let holds = decode(&model, &settings, case.seed, &case.syndrome) == published;
         score.note(holds);
         same += u64::from(holds);
@@ -143,39 +143,4 @@ fn copies(count: u64, seed: u64, score: &mut Score) {
         }
     }
     println!("decodes in the open copy as in the published files: {same} of {count}");
-}
-
-fn as_records(case: &DecodeCase) -> (Model, Settings) {
-    let priors = drive::priors(&case.model.probabilities);
-    let mechanisms = priors.into_iter().zip(case.model.detectors.clone());
-    let model = Model {
-        checks: case.model.checks as u32,
-        mechanisms: mechanisms
-            .map(|(prior, detectors)| Mechanism { prior, detectors })
-            .collect(),
-    };
-    let decode_cases::Settings {
-        serial,
-        alpha,
-        gamma0,
-        pre_iterations,
-        num_legs,
-        leg_iterations,
-        low,
-        high,
-        stop,
-        ..
-    } = case.settings;
-    let settings = stream::Settings {
-        schedule: u8::from(serial),
-        alpha,
-        gamma0,
-        pre: pre_iterations as u32,
-        legs: num_legs as u32,
-        leg_iterations: leg_iterations as u32,
-        low,
-        high,
-        stop: stop as u32,
-    };
-    (model, settings)
 }

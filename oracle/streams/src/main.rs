@@ -13,9 +13,8 @@ usage: oracle/shots expect FILE                            what shots must write
        oracle/shots gate [--list]                          writes the gate's inputs and outputs; --list names the cases";
 
 fn main() -> ExitCode {
-    if let Err(why) = toolchain::sums_start_at_negative_zero() {
-        eprintln!("streams: refused: {why}");
-        return ExitCode::from(3);
+    if let Some(code) = toolchain::refused("streams") {
+        return code;
     }
     let words: Vec<String> = std::env::args().skip(1).collect();
     let words: Vec<&str> = words.iter().map(String::as_str).collect();

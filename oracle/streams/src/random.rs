@@ -2,7 +2,7 @@
 
 use crate::stream::{MODEL, Mechanism, Model, SETTINGS, SHOT, Settings, Stream};
 use oracle::exact::drive;
-use oracle::model::random_model;
+use oracle::model::{even_degree, random_model};
 use oracle::splitmix::SplitMix64;
 
 const MOST_CHECKS: usize = 128;
@@ -143,10 +143,8 @@ pub fn model_of_size(
 ) -> Model {
     let mut all: Vec<u32> = (0..checks as u32).collect();
     let of_mechanism = |mechanism: usize| {
-        let degree = edges / mechanisms + usize::from(mechanism < edges % mechanisms);
-        for place in 0..degree {
-            all.swap(place, random.between(place, checks - 1));
-        }
+        let degree = even_degree(mechanism, mechanisms, edges);
+        random.draw_front(&mut all, degree);
         let probability = 0.01 + 0.19 * random.unit();
         Mechanism {
             prior: drive::priors(&[probability])[0],
@@ -170,18 +168,7 @@ fn some_model(random: &mut SplitMix64) -> Model {
         1 => model_of_size(random, MOST_CHECKS, MOST_MECHANISMS, MOST_EDGES),
         number => {
             let most = [4, 4, 8, 8, 12, 20][number % 6];
-            let model = random_model(random, most, most * 3 / 2);
-            let priors = drive::priors(&model.probabilities);
-            let mechanisms = priors.iter().zip(&model.detectors);
-            Model {
-                checks: model.checks as u32,
-                mechanisms: mechanisms
-                    .map(|(&prior, detectors)| Mechanism {
-                        prior,
-                        detectors: detectors.clone(),
-                    })
-                    .collect(),
-            }
+            Model::of(&random_model(random, most, most * 3 / 2))
         }
     };
     // Log ratios that no probability need have.
@@ -248,13 +235,10 @@ fn some_syndrome(random: &mut SplitMix64, model: &Model) -> Vec<u8> {
     let in_range = |m: &Mechanism| m.detectors.iter().all(|&d| d < model.checks);
     if random.once_in(4) || !model.mechanisms.iter().all(in_range) {
         let checks = (model.checks as usize).min(MOST_CHECKS);
-        return (0..checks).map(|_| random.below(2) as u8).collect();
+        return random.bits(checks);
     }
     let rarity = random.between(2, 12);
-    let bits: Vec<bool> = (0..model.mechanisms.len())
-        .map(|_| random.once_in(rarity))
-        .collect();
-    let mut syndrome = model.syndrome_of(&bits);
+    let mut syndrome = model.syndrome_of(&random.flags(model.mechanisms.len(), rarity));
     syndrome.truncate(MOST_CHECKS);
     syndrome
 }

@@ -1,5 +1,9 @@
 //! The records of a stream, and their bytes.
 
+use oracle::decode_cases;
+use oracle::exact::drive;
+use oracle::model::{self, parities};
+
 #[derive(Clone, Debug)]
 pub struct Mechanism {
     pub prior: f64,
@@ -47,6 +51,18 @@ impl Model {
         Self::new(2, &[(4.0, &[0]), (4.0, &[0, 1]), (4.0, &[1])])
     }
 
+    /// A model of probabilities, with the log ratios that the Rust makes of them.
+    pub fn of(model: &model::Model) -> Self {
+        let priors = drive::priors(&model.probabilities);
+        let mechanisms = priors.into_iter().zip(model.detectors.clone());
+        Self {
+            checks: model.checks as u32,
+            mechanisms: mechanisms
+                .map(|(prior, detectors)| Mechanism { prior, detectors })
+                .collect(),
+        }
+    }
+
     pub fn edges(&self) -> usize {
         let degrees = self.mechanisms.iter().map(|m| m.detectors.len());
         degrees.sum()
@@ -54,13 +70,8 @@ impl Model {
 
     /// The parities that a set of mechanisms leaves on the checks.
     pub fn syndrome_of(&self, bits: &[bool]) -> Vec<u8> {
-        let mut syndrome = vec![0; self.checks as usize];
-        for (mechanism, _) in self.mechanisms.iter().zip(bits).filter(|(_, bit)| **bit) {
-            for &detector in &mechanism.detectors {
-                syndrome[detector as usize] ^= 1;
-            }
-        }
-        syndrome
+        let detectors = self.mechanisms.iter().map(|m| &m.detectors);
+        parities(self.checks as usize, detectors.zip(bits))
     }
 
     pub fn payload(&self) -> Vec<u8> {
@@ -90,18 +101,11 @@ impl Model {
 }
 
 impl Settings {
-    /// What document 01's small runs use: alpha 1, gamma0 0, no relayed legs.
+    /// The plain settings of a case, with any schedule.
     pub fn plain(schedule: u8, pre: u32) -> Self {
         Self {
             schedule,
-            alpha: 1.0,
-            gamma0: 0.0,
-            pre,
-            legs: 0,
-            leg_iterations: 0,
-            low: 0.0,
-            high: 0.0,
-            stop: 1,
+            ..Self::of(&decode_cases::Settings::plain(false, pre as usize))
         }
     }
 
@@ -115,6 +119,21 @@ impl Settings {
             high: 0.66,
             stop,
             ..Self::plain(schedule, pre)
+        }
+    }
+
+    /// Settings of a case, whatever their source.
+    pub fn of(case: &decode_cases::Settings) -> Self {
+        Self {
+            schedule: u8::from(case.serial),
+            alpha: case.alpha,
+            gamma0: case.gamma0,
+            pre: case.pre_iterations as u32,
+            legs: case.num_legs as u32,
+            leg_iterations: case.leg_iterations as u32,
+            low: case.low,
+            high: case.high,
+            stop: case.stop as u32,
         }
     }
 

@@ -3,7 +3,8 @@
 //! A slice passes as a pointer and then its length, an array as a pointer alone, and an answer as a code: 0, or a refusal's
 //! number plus 65,536 times its place. `bindings/c/chowderkite.h` says of each call which lengths its lists have, what it leaves
 //! in them and what it refuses; `crates/exports/src` has the contract that it is proved to meet. `bindings/agree` holds these
-//! declarations and the header to that source. [`calls`] and [`streams`] have the same over slices, in safe Rust.
+//! declarations and the header to that source. [`calls`] and [`streams`] have the same over slices, in safe Rust, and [`lists`]
+//! what a caller keeps for them.
 //!
 //! # Safety
 //!
@@ -21,7 +22,10 @@
 #[cfg(not(target_pointer_width = "64"))]
 compile_error!("the archive is for machines of 64 bits");
 
+extern crate alloc;
+
 pub mod calls;
+pub mod lists;
 pub mod streams;
 
 unsafe extern "C" {
