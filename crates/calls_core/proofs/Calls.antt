@@ -38,7 +38,7 @@ use Rattle.calls_core.proofs.Named.{names-entries}
 -- a graph that passes has no more checks than it may have
 pub checks-few : (edges : ℕ) (prior : List Float) (g : Graph) (a : Answer) (b : Bool) → a ≡ graphFault edges prior g → b ≡ isDone a → not b ≡ false
     → g .checks ≤ 65536
-checks-few edges prior g a b e d h = graph-told edges prior g (sym e ∙ done-is a (sym d ∙ not-false b h)) .checks-few
+checks-few edges prior g a b e d h = graph-told edges prior g (sym e ∙ done-is a (sym d ∙ not-false b h)) .few .checks-few
 
 -- ---- a syndrome
 

@@ -10,7 +10,7 @@ ghost use Rattle.graph_core.specs.Sound.{Keys};
 ghost use Rattle.messages_core.specs.Needs.{Walks, walked, ofVariables};
 ghost use Rattle.relay_core.specs.Step.{state, iteration};
 ghost use Rattle.calls_core.specs.Calls.{messageFinite, mechanismFinite, stepEnd, stepLists, stepOutcome, stepped as steppedOf};
-use messages_core::at;
+use graph_core::indices::at;
 use messages_core::clear;
 use numbers::is_finite;
 use refusals::Answer;

@@ -97,7 +97,7 @@ names-passed checks order a b e d h = unless-done _ _ (sym e ∙ done-is a (sym 
 -- a graph that passes has no more mechanisms than it may have
 pub mechanisms-few : (edges : ℕ) (prior : List Float) (g : Graph) (a : Answer) (b : Bool) → a ≡ graphFault edges prior g → b ≡ isDone a → not b ≡ false
     → g .mechanisms ≤ 65536
-mechanisms-few edges prior g a b e d h = graph-told edges prior g (sym e ∙ done-is a (sym d ∙ not-false b h)) .mechanisms-few
+mechanisms-few edges prior g a b e d h = graph-told edges prior g (sym e ∙ done-is a (sym d ∙ not-false b h)) .few .mechanisms-few
 
 module _ (t : Settings) (m : ℕ) (flat : List Float) where
   -- settings that pass
@@ -197,7 +197,7 @@ module _ (edges checks mechanisms : ℕ) (t : Settings) (flat : List Float) (see
                 check-walks = walks-both _ _ _ _ _ _ (sym many) (sym p) (w .0);
                 var-walks = walks-both _ _ _ _ _ _ (sym p) refl (w .1);
                 named = entries-along _ _ _ (sym many) names;
-                mechanisms-few = omega (arith, p, g .mechanisms-few);
+                mechanisms-few = omega (arith, p, g .few .mechanisms-few);
                 legs-few = s .legs-few;
                 pre-some = s .pre-some;
                 pre-few = s .pre-few;
@@ -212,7 +212,7 @@ module _ (edges checks mechanisms : ℕ) (t : Settings) (flat : List Float) (see
           edges-many = g .long .check-var;
           checks-many = many;
           mechanisms-many = p;
-          checks-few = g .checks-few;
+          checks-few = g .few .checks-few;
         }
 
     -- ---- 23 and 24
@@ -224,7 +224,7 @@ module _ (edges checks mechanisms : ℕ) (t : Settings) (flat : List Float) (see
     order-asks a b e d h =
         let g = graph-told edges prior (graph checks mechanisms cv cm co vc vm vo) (or-done _ _ (sym e ∙ done-is a (sym d ∙ not-false b h)) .0) in
         let w = graph-walks (graph checks mechanisms cv cm co vc vm vo) (g .is-graph) .0 in
-        (g .checks-few, (w .parts, record { small = λ k i. let q : getD cv k 0 < mechanisms = w .named .small k i in omega (arith, q, g .mechanisms-few) }))
+        (g .few .checks-few, (w .parts, record { small = λ k i. let q : getD cv k 0 < mechanisms = w .named .small k i in omega (arith, q, g .few .mechanisms-few) }))
 
     -- a shot that is refused before them
     pub fault-before : (a : Answer) (b : Bool) → a ≡ shotFault edges (X []) l → b ≡ isDone a → not b ≡ true → a ≡ decodeFault edges (X order) l

@@ -9,7 +9,6 @@ ghost use Rattle.calls_core.specs.Calls.{outcome, afterLegs};
 ghost use Rattle.legs_core.specs.Kept.{shotOf, Reads, answerOf, isRefused, results, resultsOf, started};
 use calls_core::Decoded;
 use legs_core::bytes::clear_bytes;
-use legs_core::bytes::clear_numbers;
 use legs_core::one_leg::Tally;
 use legs_core::one_leg::answer;
 use legs_core::one_leg::answer_run;
@@ -105,7 +104,7 @@ fn clear_records(
     ensures { λ _. ⌜ (now («leg_state» .exit) ≡ replicate (length (now («leg_state» .entry))) 0) × (now («leg_iterations» .exit) ≡ replicate (length (now («leg_iterations» .entry))) 0) × (now («leg_weight» .exit) ≡ replicate (length (now («leg_weight» .entry))) zero⁺) × (now (rows .exit) ≡ replicate (length (now (rows .entry))) 0) × (now (correction .exit) ≡ replicate (length (now (correction .entry))) 0) ⌝ }
 {
     clear_bytes(leg_state);
-    clear_numbers(leg_iterations);
+    graph_core::indices::clear(leg_iterations);
     clear(leg_weight);
     clear_bytes(rows);
     clear_bytes(correction);

@@ -8,7 +8,7 @@ ghost use Rattle.calls_core.specs.Calls.{outcome, afterLegs};
 ghost use Rattle.legs_core.specs.Kept.{shotOf, Reads};
 use crate::all_legs::decode_fronts;
 use calls_core::Decoded;
-use legs_core::bytes::index_order;
+use graph_core::indices::number;
 use settings::Settings;
 
 // A decode in index order, of up to 1024 checks.
@@ -42,7 +42,7 @@ fn decode_few(
 {
     let checks = syndrome.len();
     let mut order = [0u32; 1024];
-    index_order(&mut order[0..checks]);
+    number(&mut order[0..checks]);
     decode_fronts(
         t,
         gammas,
@@ -98,7 +98,7 @@ fn decode_many(
 {
     let checks = syndrome.len();
     let mut order = [0u32; 65536];
-    index_order(&mut order[0..checks]);
+    number(&mut order[0..checks]);
     decode_fronts(
         t,
         gammas,

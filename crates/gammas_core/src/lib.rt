@@ -1,25 +1,15 @@
 // The gammas of a leg: gamma0 throughout, a set of the flat list, or a seeded draw.
 ghost use mathlib.Core.Path.{_≡_};
 ghost use Prim.Native.Nat.{ℕ, _+_, _-_, _*_, _%_, _<_, _≤_};
-ghost use lib.ListN.{length, replicate};
+ghost use lib.ListN.{length};
 ghost use Rattle.numbers.specs.Loops.{part};
 ghost use Rattle.settings.specs.declared.GammaSource.the-variants.{Explicit};
 ghost use Rattle.gammas_core.specs.Gammas.{drawn, relayGamma, gammaOf};
 use messages_core::copy;
+use messages_core::fill;
 use numbers::SplitMix64;
 use settings::GammaSource;
 use settings::Settings;
-
-// x throughout.
-fn fill(x: f64, gamma: &mut [f64])
-    ensures { λ _. ⌜ now (gamma .exit) ≡ replicate (length (now (gamma .entry))) x ⌝ }
-{
-    let mut v = 0;
-    while v < gamma.len() {
-        gamma[v] = x;
-        v += 1;
-    }
-}
 
 // A draw each in mechanism order, from a seed.
 fn draw_gammas(low: f64, high: f64, seed: u64, gamma: &mut [f64])

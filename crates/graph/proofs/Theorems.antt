@@ -105,8 +105,8 @@ dense-is-sparse edges priors off dets matrix g h l e =
     let fits : graphFits (countEdges matrix) g ≡ true = rw n (t .lengths .fits) in
     let lengths : denseFits (g .checks) (g .mechanisms) (length priors) (length matrix) ≡ true =
     rw (eq-eqb (length matrix) (g .checks * g .mechanisms) l, eq-eqb (length priors) (g .mechanisms) (p .many)) in
-    let counts : countsGood (g .checks) (g .mechanisms) ≡ true = rw (le-leb (g .checks) 65536 (t .checks-few), le-leb (g .mechanisms) 65536 (t .mechanisms-few)) in
-    let small : edgesGood (countEdges matrix) ≡ true = le-leb (countEdges matrix) 1048576 (omega (arith, n, t .edges-few)) in
+    let counts : countsGood (g .checks) (g .mechanisms) ≡ true = rw (le-leb (g .checks) 65536 (t .few .checks-few), le-leb (g .mechanisms) 65536 (t .few .mechanisms-few)) in
+    let small : edgesGood (countEdges matrix) ≡ true = le-leb (countEdges matrix) 1048576 (omega (arith, n, t .few .edges-few)) in
     let none : Done ≡ firstOf (length priors) (priorFault priors) = sym (ap (λ (k : ℕ). firstOf k (priorFault priors)) (p .many) ∙ good-none (g .mechanisms) priors p) in
     let tests = dense-5 (g .checks) (g .mechanisms) (countEdges matrix) priors (length matrix) (graphFits (countEdges matrix) g) Done counts lengths small fits none in
     sym (dense-done priors matrix Done (countEdges matrix) (graphFits (countEdges matrix) g) g refl refl tests _ refl refl)
@@ -140,7 +140,7 @@ pub sparse-checked : (edges : ℕ) (priors : List Float) (off dets : List ℕ) (
 sparse-checked edges priors off dets g h =
     let t = sparse-accepted edges priors off dets g h in
     rw (sparse-lists edges priors off dets g h)
-    (graph-checked (g .checks) (g .mechanisms) edges (among off dets) priors (t .checks-few) (t .mechanisms-few) (t .edges-few)
+    (graph-checked (g .checks) (g .mechanisms) edges (among off dets) priors (t .few .checks-few) (t .few .mechanisms-few) (t .few .edges-few)
     (sparse-length (g .checks) (g .mechanisms) off dets (t .valid) ∙ t .lengths .dets-many) (sparse-good edges priors off dets g h))
 
 -- So do those of `build_dense`, with as many edges as the matrix has nonzero bytes.
@@ -148,7 +148,7 @@ pub dense-checked : (priors : List Float) (matrix : List ℕ) (g : Graph) → bu
 dense-checked priors matrix g h =
     let t = dense-accepted priors matrix g h in
     rw (dense-lists priors matrix g h)
-    (graph-checked (g .checks) (g .mechanisms) (countEdges matrix) (marked (g .mechanisms) matrix) priors (t .checks-few) (t .mechanisms-few) (t .edges-few)
+    (graph-checked (g .checks) (g .mechanisms) (countEdges matrix) (marked (g .mechanisms) matrix) priors (t .few .checks-few) (t .few .mechanisms-few) (t .few .edges-few)
     (matrix-edges (g .checks) (g .mechanisms) matrix (t .bytes-many)) (dense-good priors matrix g h))
 
 -- ---- what passes is built
@@ -177,7 +177,7 @@ checked-built edges priors g h =
     let t = graph-told edges priors g h in
     let n : length (g .checkVar) ≡ edges = t .long .check-var in
     ap (λ (k : ℕ). buildSparse k priors (g .varOffset) (g .varCheck) g) (sym n)
-    ∙ built-from g g (told g) priors (is-graph-told g (t .is-graph)) (t .checks-few) (t .mechanisms-few) (omega (arith, n, t .edges-few)) (record { many = t .priors-many; good = t .priors-good })
+    ∙ built-from g g (told g) priors (is-graph-told g (t .is-graph)) (t .few .checks-few) (t .few .mechanisms-few) (omega (arith, n, t .few .edges-few)) (record { many = t .priors-many; good = t .priors-good })
     (rw n (t .fits))
 
 -- ---- one result

@@ -17,7 +17,7 @@ use Rattle.refusals.specs.declared.Answer.the-variants.{Done, Refused}
 use Rattle.refusals.specs.declared.Refusal.the-variants.{SizeAboveLimit, ModelListLength}
 use Rattle.graph_core.specs.Graph.{Graph, graphOf, marked}
 use Rattle.graph_core.specs.Model.{edgesGood, graphFits, denseFits, priorFault, outcome, countEdges, buildDense, countsGood, denseFault}
-use Rattle.graph_core.proofs.SparseTests.{built-done, built-refused}
+use Rattle.graph_core.proofs.SparseTests.{Few, few-told, built-done, built-refused}
 
 -- within the limits a matrix has at most 2 ^ 32 bytes
 pub product-small : (checks mechanisms : ℕ) → countsGood checks mechanisms ≡ true → checks * mechanisms ≤ 4294967296
@@ -58,9 +58,7 @@ module _ (checks mechanisms edges : ℕ) (priors : List Float) (bytes : ℕ) (fi
 
   -- what they tell where none refuses
   pub record DenseTold : Type 0 where
-    pub checks-few : checks ≤ 65536
-    pub mechanisms-few : mechanisms ≤ 65536
-    pub edges-few : edges ≤ 1048576
+    pub few : Few checks mechanisms edges
     pub bytes-many : bytes ≡ checks * mechanisms
     pub priors-many : length priors ≡ mechanisms
     pub fits : fit ≡ true
@@ -73,12 +71,9 @@ module _ (checks mechanisms edges : ℕ) (priors : List Float) (bytes : ℕ) (fi
       let b = or-done _ _ (a .1) in
       let c = or-done _ _ (b .1) in
       let d = or-done _ _ (c .1) in
-      let s = and-both _ _ (unless-done _ SizeAboveLimit (a .0)) in
       let l = and-both _ _ (unless-done _ ModelListLength (b .0)) in
       record {
-        checks-few = leb-true _ _ (s .0);
-        mechanisms-few = leb-true _ _ (s .1);
-        edges-few = leb-true _ _ (unless-done _ SizeAboveLimit (c .0));
+        few = few-told _ _ _ (unless-done _ SizeAboveLimit (a .0)) (unless-done _ SizeAboveLimit (c .0));
         bytes-many = eqb-true _ _ (l .0);
         priors-many = eqb-true _ _ (l .1);
         fits = unless-done _ ModelListLength (d .0);

@@ -2,11 +2,11 @@
 use mathlib.Core.Bool.{true, false, _&&_}
 use mathlib.Core.List.{List}
 use mathlib.Core.Path.{_≡_}
-use Prim.Native.Nat.{ℕ, _<_, _≤_}
+use Prim.Native.Nat.{ℕ, _<_}
 use lib.Dec.{eqb}
 use lib.Ieee.{Float, nan}
 use lib.ListN.{length, getD}
-use borrow.Author.Tests.{leb-true, eqb-true}
+use borrow.Author.Tests.{eqb-true}
 use Rattle.numbers.proofs.Cases.{and-both}
 use Rattle.refusals.proofs.Tests.{or-done, unless-done, first-all}
 use Rattle.refusals.specs.Tests.{isDone, unless, orElse, firstOf}
@@ -16,7 +16,7 @@ use Rattle.refusals.specs.declared.Refusal.the-variants.{SizeAboveLimit, ModelL
 use Rattle.graph_core.specs.Graph.{Graph}
 use Rattle.graph_core.specs.Model.{graphFits, priorGood, priorFault, isGraph, graphFault, sizesGood}
 use Rattle.graph_core.specs.Sound.{Long}
-use Rattle.graph_core.proofs.SparseTests.{long-told}
+use Rattle.graph_core.proofs.SparseTests.{Few, few-told, long-told}
 
 module _ (edges : ℕ) (priors : List Float) (g : Graph) where
   -- 1
@@ -49,9 +49,7 @@ module _ (edges : ℕ) (priors : List Float) (g : Graph) where
 
   -- what it tells where it refuses nothing
   pub record GraphTold : Type 0 where
-    pub checks-few : g .checks ≤ 65536
-    pub mechanisms-few : g .mechanisms ≤ 65536
-    pub edges-few : edges ≤ 1048576
+    pub few : Few (g .checks) (g .mechanisms) edges
     pub priors-many : length priors ≡ g .mechanisms
     pub fits : graphFits edges g ≡ true
     pub long : Long edges g
@@ -66,12 +64,9 @@ module _ (edges : ℕ) (priors : List Float) (g : Graph) where
       let b = or-done _ _ (a .1) in
       let c = or-done _ _ (b .1) in
       let s = and-both _ _ (unless-done _ SizeAboveLimit (a .0)) in
-      let t = and-both _ _ (s .0) in
       let l = and-both _ _ (unless-done _ ModelListLength (b .0)) in
       record {
-        checks-few = leb-true _ _ (t .0);
-        mechanisms-few = leb-true _ _ (t .1);
-        edges-few = leb-true _ _ (s .1);
+        few = few-told _ _ _ (s .0) (s .1);
         priors-many = eqb-true _ _ (l .0);
         fits = l .1;
         long = long-told edges g (l .1);

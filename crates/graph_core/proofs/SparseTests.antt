@@ -13,10 +13,22 @@ use Rattle.refusals.specs.declared.Answer.{Answer}
 use Rattle.refusals.specs.declared.Answer.the-variants.{Done, Refused}
 use Rattle.refusals.specs.declared.Refusal.the-variants.{SizeAboveLimit, ModelListLength, BadDetectorOffsets}
 use Rattle.graph_core.specs.Graph.{Graph, graphOf, among}
-use Rattle.graph_core.specs.Model.{graphFits, offsetsGood, mechanismFault, outcome, built, buildSparse, sizesGood, sparseFits, sparseFault}
+use Rattle.graph_core.specs.Model.{graphFits, offsetsGood, mechanismFault, outcome, built, buildSparse, countsGood, edgesGood, sizesGood, sparseFits, sparseFault}
 use Rattle.graph_core.specs.Sound.{Long}
 use Rattle.graph_core.specs.Steps.{Valid}
 use Rattle.graph_core.proofs.ModelTests.{offsets-told, valid-told}
+
+-- what sizes are that pass 1
+pub record Few (checks mechanisms edges : ℕ) : Type 0 where
+  pub checks-few : checks ≤ 65536
+  pub mechanisms-few : mechanisms ≤ 65536
+  pub edges-few : edges ≤ 1048576
+
+-- and that the test tells it
+pub few-told : (checks mechanisms edges : ℕ) → countsGood checks mechanisms ≡ true → edgesGood edges ≡ true → Few checks mechanisms edges
+few-told checks mechanisms edges h k =
+    let a = and-both _ _ h in
+    record { checks-few = leb-true _ _ (a .0); mechanisms-few = leb-true _ _ (a .1); edges-few = leb-true _ _ k }
 
 module _ (checks mechanisms edges : ℕ) (priors : List Float) (off dets : List ℕ) (fit : Bool) where
   -- 1
@@ -59,9 +71,7 @@ module _ (checks mechanisms edges : ℕ) (priors : List Float) (off dets : List 
 
   -- what the tests tell where none refuses
   pub record Told : Type 0 where
-    pub checks-few : checks ≤ 65536
-    pub mechanisms-few : mechanisms ≤ 65536
-    pub edges-few : edges ≤ 1048576
+    pub few : Few checks mechanisms edges
     pub lengths : Lengths
     pub valid : Valid checks mechanisms off dets
 
@@ -73,12 +83,9 @@ module _ (checks mechanisms edges : ℕ) (priors : List Float) (off dets : List 
       let b = or-done _ _ (a .1) in
       let c = or-done _ _ (b .1) in
       let s = and-both _ _ (unless-done _ SizeAboveLimit (a .0)) in
-      let t = and-both _ _ (s .0) in
       let l = lengths-told (unless-done _ ModelListLength (b .0)) in
       record {
-        checks-few = leb-true _ _ (t .0);
-        mechanisms-few = leb-true _ _ (t .1);
-        edges-few = leb-true _ _ (s .1);
+        few = few-told _ _ _ (s .0) (s .1);
         lengths = l;
         valid = valid-told checks mechanisms priors off dets (offsets-told mechanisms (length dets) off (l .off-many) (unless-done _ BadDetectorOffsets (c .0))) (c .1);
       }

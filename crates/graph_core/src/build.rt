@@ -7,7 +7,7 @@ ghost use Rattle.graph_core.specs.Graph.{graph, graphOf, among};
 ghost use Rattle.graph_core.specs.Sound.{Offsets, Keys};
 ghost use Rattle.graph_core.specs.Steps.{Valid, Finished};
 use crate::buckets::bucket;
-use crate::buckets::number;
+use crate::indices::number;
 
 // The message numbers and the variable lists, from a graph's check lists.
 pub(crate) fn from_checks(

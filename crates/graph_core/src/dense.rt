@@ -7,8 +7,8 @@ ghost use Rattle.graph_core.specs.Lists.{offsets};
 ghost use Rattle.graph_core.specs.Graph.{graph, graphOf, entries, mechanismsOf, marked};
 ghost use Rattle.graph_core.specs.Model.{countEdges};
 ghost use Rattle.graph_core.specs.Steps.{ofByte, marks};
-use crate::buckets::put;
 use crate::build::from_checks;
+use crate::indices::put;
 
 // The mechanism m written at `place`, unless its byte is zero. The next place.
 fn mark(byte: u8, m: usize, place: usize, out: &mut [u32]) -> usize

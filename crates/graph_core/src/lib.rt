@@ -1,8 +1,9 @@
-// The six lists of a model that has passed its tests: `graph` alone calls it, and `model_core` for an entry of a list. What graphs and models mean, and the tests of
+// Lists of indices, for all inner crates, and the six lists of a model that has passed its tests, which `graph` alone builds. What graphs and models mean, and the tests of
 // both, stands in specs/.
-pub mod buckets;
+mod buckets;
 pub mod build;
 pub mod dense;
+pub mod indices;
 
 // How many checks, mechanisms and edges a model has.
 pub struct Size {

@@ -12,17 +12,10 @@ ghost use Rattle.refusals.specs.Tests.{unless, firstOf};
 ghost use Rattle.graph_core.specs.Messages.{total as totalOf, scanOf, startScan, lowered as loweredOf, valueFault};
 ghost use Rattle.graph_core.specs.Sound.{Keys};
 ghost use Rattle.messages_core.specs.Needs.{Ordered};
+use graph_core::indices::at;
 use refusals::Answer;
 use refusals::Refusal;
 use tests_core::is_done;
-
-// An entry of a list of indices. `graph` has the same for itself: a public crate can't pass on a function that asks something.
-pub fn at(xs: &[u32], i: usize) -> usize
-    requires { ⌜ i < length (now xs) ⌝ }
-    ensures { λ r. ⌜ r ≡ getD (now (xs .entry)) i 0 ⌝ }
-{
-    xs[i] as usize
-}
 
 // What the first pass over a check's messages knows: the total sign, the least and the next magnitude, and whose the least is.
 pub struct Scan {
@@ -126,15 +119,22 @@ pub fn total(entries: &[u32], c_to_v: &[f64]) -> f64
     sum
 }
 
+// `xs.fill(x)`.
+pub fn fill(x: f64, xs: &mut [f64])
+    ensures { λ _. ⌜ now (xs .exit) ≡ replicate (length (now (xs .entry))) x ⌝ }
+{
+    let mut i = 0;
+    while i < xs.len() {
+        xs[i] = x;
+        i += 1;
+    }
+}
+
 // `xs.fill(0.0)`.
 pub fn clear(xs: &mut [f64])
     ensures { λ _. ⌜ now (xs .exit) ≡ replicate (length (now (xs .entry))) zero⁺ ⌝ }
 {
-    let mut i = 0;
-    while i < xs.len() {
-        xs[i] = 0.0;
-        i += 1;
-    }
+    fill(0.0, xs);
 }
 
 // Each message of a variable set to that variable's value.

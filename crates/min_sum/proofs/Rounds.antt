@@ -5,12 +5,11 @@ use mathlib.Core.Bool.{Bool, true, false, not, Bool·beq}
 use mathlib.Core.List.{List, [], map}
 use Prim.Native.Nat.{ℕ, _+_, _/_, _<_, _≤_}
 use native.Mathlib.Nat.{div-one}
-use native.Mathlib.Numerals.{add-one}
 use lib.Ieee.{Float, nan, lt}
 use lib.ListN.{length, getD, take, set, replicate}
-use lib.Seq.{take-suc-set}
 use borrow.Author.Tests.{not-true, not-false, le-leb, lt-leb}
 use Rattle.numbers.specs.Floats.{zero⁺, abs}
+use Rattle.numbers.proofs.Turns.{turns-turn, table-turn}
 use Rattle.graph_core.specs.Graph.{Graph}
 use Rattle.graph_core.specs.Messages.{cleared, fromVariables}
 use Rattle.messages_core.specs.Needs.{walked, ofChecks, ofVariables}
@@ -80,7 +79,7 @@ module _ (g : Graph) (serial : Bool) (scale : Float) (syndrome : List ℕ) (prio
   pub round-turn : (outer i : ℕ) (w : Float) (b t u : Belief) → w ≡ weightOf outer i → t ≡ roundTo g serial scale syndrome priors outer b i
       → u ≡ turned g serial scale syndrome priors w t → u ≡ roundTo g serial scale syndrome priors outer b (i + 1)
   unfolding roundTo turn
-  round-turn outer i w b t u e p q = rw (q, p, e, add-one)
+  round-turn outer i w b t u e p q = turns-turn _ _ t u i p (q ∙ rw e)
 
   -- and once all are done
   pub round-done : (inner outer i : ℕ) (s s′ : Messages) (ewa : List Float) (t : Belief) → i ≡ inner
@@ -120,4 +119,4 @@ pub chosen-turn : (g : Graph) (priors : List Float) (s : Messages) (ewa out : Li
     → take v out ≡ chosenTo g priors (belief s ewa) v → raw ≡ rawPosterior g priors s v → x ≡ chosen (getD ewa v nan) raw
     → take (v + 1) (set out v x) ≡ chosenTo g priors (belief s ewa) (v + 1)
 unfolding chosenTo
-chosen-turn g priors s ewa out v raw x h p q r = rw (add-one, take-suc-set, h, p, r, q)
+chosen-turn g priors s ewa out v raw x h p q r = table-turn _ out v x h p (r ∙ rw q)

@@ -3,11 +3,11 @@
 use mathlib.Core.Path.{_≡_, sym, ap, _∙_}
 use mathlib.Core.List.{List}
 use Prim.Native.Nat.{ℕ, _+_, _<_, _≤_}
-use native.Mathlib.Numerals.{add-one}
 use native.Mathlib.Omega.{arith}
 use lib.Ieee.{Float, nan}
 use lib.ListN.{length, getD, take, drop, set}
-use lib.Seq.{take-all, take-suc-set, drop-set-lt, drop-drop, getD-drop}
+use lib.Seq.{take-all, drop-set-lt, drop-drop, getD-drop}
+use Rattle.numbers.proofs.Turns.{turns-turn, table-turn}
 use Rattle.graph_core.specs.Graph.{Graph}
 use Rattle.min_sum_core.specs.MinSum.{Messages, rawPosterior, updateVariable, variablesTo, mixed, averagedTo, averaged}
 
@@ -15,7 +15,7 @@ use Rattle.min_sum_core.specs.MinSum.{Messages, rawPosterior, updateVari
 pub variables-further : (g : Graph) (priors : List Float) (s t u : Messages) (v : ℕ) → t ≡ variablesTo g priors s v → u ≡ updateVariable g priors t v
     → u ≡ variablesTo g priors s (v + 1)
 unfolding variablesTo
-variables-further g priors s t u v p q = rw (q, p, add-one)
+variables-further g priors s t u v p q = turns-turn _ s t u v p q
 
 -- two lists that are the same from v on are so at v
 same-at : (old new : List Float) (v : ℕ) → drop v new ≡ drop v old → getD new v nan ≡ getD old v nan
@@ -32,7 +32,7 @@ pub average-turn : (g : Graph) (priors : List Float) (weight : Float) (s : Messa
     → take v new ≡ averagedTo g priors weight s old v → drop v new ≡ drop v old → sum ≡ rawPosterior g priors s v → x ≡ mixed weight (getD new v nan) sum
     → take (v + 1) (set new v x) ≡ averagedTo g priors weight s old (v + 1)
 unfolding averagedTo
-average-turn g priors weight s old new v sum x h p d q r = rw (add-one, take-suc-set, h, p, r, same-at old new v d, q)
+average-turn g priors weight s old new v sum x h p d q r = table-turn _ new v x h p (r ∙ rw (same-at old new v d, q))
 
 -- and once all are new
 pub average-done : (g : Graph) (priors : List Float) (weight : Float) (s : Messages) (old new : List Float) (v : ℕ) → length new ≤ v → v ≡ g .mechanisms

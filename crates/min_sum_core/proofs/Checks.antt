@@ -8,6 +8,7 @@ use lib.Dec.{eqb, ltb}
 use lib.Ieee.{Float}
 use lib.ListN.{length, getD}
 use Rattle.numbers.specs.Loops.{part, spliced}
+use Rattle.numbers.proofs.Turns.{turns-turn}
 use Rattle.graph_core.specs.Graph.{Graph}
 use Rattle.messages_core.specs.Needs.{walked, ofVariables}
 use Rattle.min_sum_core.specs.MinSum.{Messages, messages, checkMessages, skipped, rawPosterior, updateVariable, updateCheck, parallelCheck, serialCheck, checksTo, serialTo}
@@ -56,10 +57,10 @@ module _ (checks mechanisms : ℕ) (cv co vm vo : List ℕ) (scale : Float) (syn
 pub checks-turn : (g : Graph) (scale : Float) (syndrome : List ℕ) (s t u : Messages) (c : ℕ) → t ≡ checksTo g scale syndrome s c
     → u ≡ parallelCheck g scale syndrome t c → u ≡ checksTo g scale syndrome s (c + 1)
 unfolding checksTo
-checks-turn g scale syndrome s t u c p q = rw (q, p, add-one)
+checks-turn g scale syndrome s t u c p q = turns-turn _ s t u c p q
 
 -- one serial check further
 pub serial-turn : (g : Graph) (scale : Float) (syndrome : List ℕ) (priors : List Float) (s t u : Messages) (c : ℕ) → t ≡ serialTo g scale syndrome priors s c
     → u ≡ serialCheck g scale syndrome priors t c → u ≡ serialTo g scale syndrome priors s (c + 1)
 unfolding serialTo
-serial-turn g scale syndrome priors s t u c p q = rw (q, p, add-one)
+serial-turn g scale syndrome priors s t u c p q = turns-turn _ s t u c p q

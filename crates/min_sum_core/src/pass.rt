@@ -30,8 +30,8 @@ fn parallel_check(
     requires { ⌜ (length (now «v_to_c») ≡ length (now «check_var»)) × (length (now «c_to_v») ≡ length (now «check_var»)) ⌝ }
     ensures { λ _. ⌜ messages (now («c_to_v» .exit)) (now («v_to_c» .entry)) ≡ parallelCheck (ofChecks (length (now (syndrome .entry))) (now («check_var» .entry)) (now («check_offset» .entry))) scale (now (syndrome .entry)) (messages (now («c_to_v» .entry)) (now («v_to_c» .entry))) c ⌝ }
 {
-    let start = messages_core::at(check_offset, c);
-    let end = messages_core::at(check_offset, c + 1);
+    let start = graph_core::indices::at(check_offset, c);
+    let end = graph_core::indices::at(check_offset, c + 1);
     if too_few(&check_var[start..end]) {
         return;
     }
@@ -135,8 +135,8 @@ fn serial_check(
     requires { ⌜ (length (now «c_to_v») ≡ length (now «check_var»)) × (length (now «v_to_c») ≡ length (now «check_var»)) ⌝ }
     ensures { λ _. ⌜ messages (now («c_to_v» .exit)) (now («v_to_c» .exit)) ≡ serialCheck (walked (length (now (syndrome .entry))) (length (now (priors .entry))) (now («check_var» .entry)) (now («check_offset» .entry)) (now («var_message» .entry)) (now («var_offset» .entry))) scale (now (syndrome .entry)) (now (priors .entry)) (messages (now («c_to_v» .entry)) (now («v_to_c» .entry))) c ⌝ }
 {
-    let start = messages_core::at(check_offset, c);
-    let end = messages_core::at(check_offset, c + 1);
+    let start = graph_core::indices::at(check_offset, c);
+    let end = graph_core::indices::at(check_offset, c + 1);
     if too_few(&check_var[start..end]) {
         return;
     }

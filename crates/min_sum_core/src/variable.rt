@@ -24,7 +24,7 @@ fn write_messages(entries: &[u32], sum: f64, c_to_v: &[f64], v_to_c: &mut [f64])
 {
     let mut i = 0;
     while i < entries.len() {
-        let m = messages_core::at(entries, i);
+        let m = graph_core::indices::at(entries, i);
         v_to_c[m] = damped(sum, c_to_v[m], v_to_c[m]);
         i += 1;
     }
@@ -54,8 +54,8 @@ pub fn raw_posterior(
     requires { ⌜ Walks (length (now priors)) (length (now «c_to_v»)) (now «var_message») (now «var_offset») ⌝ }
     ensures { λ r. ⌜ r ≡ rawPosterior (ofVariables (length (now (priors .entry))) (now («var_message» .entry)) (now («var_offset» .entry))) (now (priors .entry)) (messages (now («c_to_v» .entry)) []) v ⌝ }
 {
-    let start = messages_core::at(var_offset, v);
-    let end = messages_core::at(var_offset, v + 1);
+    let start = graph_core::indices::at(var_offset, v);
+    let end = graph_core::indices::at(var_offset, v + 1);
     priors[v] + messages_core::total(&var_message[start..end], c_to_v)
 }
 
@@ -74,8 +74,8 @@ pub(crate) fn update_variable(
     ensures sum { λ r. ⌜ r ≡ rawPosterior (ofVariables (length (now (priors .entry))) (now («var_message» .entry)) (now («var_offset» .entry))) (now (priors .entry)) (messages (now («c_to_v» .entry)) []) v ⌝ }
     ensures messages { λ _. ⌜ messages (now («c_to_v» .entry)) (now («v_to_c» .exit)) ≡ updateVariable (ofVariables (length (now (priors .entry))) (now («var_message» .entry)) (now («var_offset» .entry))) (now (priors .entry)) (messages (now («c_to_v» .entry)) (now («v_to_c» .entry))) v ⌝ }
 {
-    let start = messages_core::at(var_offset, v);
-    let end = messages_core::at(var_offset, v + 1);
+    let start = graph_core::indices::at(var_offset, v);
+    let end = graph_core::indices::at(var_offset, v + 1);
     update_entries(priors[v], &var_message[start..end], c_to_v, v_to_c)
 }
 
@@ -95,7 +95,7 @@ pub(crate) fn update_variables(
 {
     let mut i = 0;
     while i < variables.len() {
-        let v = messages_core::at(variables, i);
+        let v = graph_core::indices::at(variables, i);
         update_variable(v, priors, var_message, var_offset, c_to_v, v_to_c);
         i += 1;
     }

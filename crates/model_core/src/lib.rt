@@ -11,7 +11,7 @@ ghost use Rattle.graph_core.specs.Lists.{has};
 ghost use Rattle.graph_core.specs.Model.{edgesGood, rising, offsetsGood, priorGood, priorFault, detectorFault, mechanismFault, countsGood, sizesGood, sparseFits, sparseFault, denseFault, graphLengths, mechanismTest};
 ghost use Rattle.graph_core.specs.Sound.{Offsets};
 use graph_core::Size;
-use graph_core::buckets::at;
+use graph_core::indices::at;
 use refusals::Answer;
 use refusals::Refusal;
 use tests_core::at_most;

@@ -8,7 +8,7 @@ ghost use Rattle.graph_core.specs.Model.{isGraph};
 ghost use Rattle.graph_core.specs.Sound.{Offsets, Long, Rising};
 ghost use Rattle.graph_core.specs.QuickTest.{risesBelow, metGood, entryGood, entriesGood, checkGood, varGood, ownNumber};
 use crate::offsets_good;
-use graph_core::buckets::at;
+use graph_core::indices::at;
 use tests_core::same_number;
 
 // Strictly rising, all below n.

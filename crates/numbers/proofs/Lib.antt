@@ -3,5 +3,6 @@ pub mod Cases
 pub mod Bits
 pub mod Order
 pub mod Loops
+pub mod Turns
 pub mod Product
 pub mod Room

@@ -9,7 +9,7 @@ ghost use Rattle.graph_core.specs.Sound.{Offsets, Keys};
 ghost use Rattle.messages_core.specs.Needs.{ofChecks};
 ghost use Rattle.orders_core.specs.Order.{namesOnce, exchanged, namesFault, exchangeFault};
 ghost use Rattle.orders_core.specs.Marks.{marked, overtaken};
-use messages_core::at;
+use graph_core::indices::at;
 use refusals::Answer;
 use refusals::Refusal;
 use settings::Schedule;

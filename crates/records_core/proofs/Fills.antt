@@ -1,30 +1,19 @@
--- One turn of each loop that fills a list, and what is left to say of floats: a NaN's bits are the NaN's. Assumes nothing.
-use mathlib.Core.Path.{_≡_, refl, sym, ap, _∙_}
+-- One degree more of the offsets, the bits of a NaN, and what is read of a model within the room and beyond it. Assumes nothing.
+use mathlib.Core.Path.{_≡_, refl, sym, _∙_}
 use mathlib.Core.Bool.{true, false, _&&_, false≢true}
 use mathlib.Core.List.{List}
 use Prim.Native.Nat.{ℕ, _+_, _%_, _^_, _<_, _≤_}
 use native.Mathlib.Nat.{mod-add-mod}
 use native.Mathlib.Numerals.{add-one}
-use native.Mathlib.Omega.{arith}
 use lib.Ieee.{Float, nan, inf, fin, binary64, ofBits, isNan}
 use lib.Ieee.Bits.{nanBits-is, nanBits-above}
-use lib.ListN.{length, set, take}
-use lib.Seq.{take-suc-set, take-all}
+use lib.ListN.{length}
 use lib.Dec.{leb}
 use borrow.Author.Tests.{lt-ltb, leb-true}
 use Rattle.numbers.proofs.Cases.{and-both}
 use Rattle.numbers.specs.Loops.{table}
 use Rattle.records_core.specs.Stream.{degree, degrees, detector}
 use Rattle.records_core.specs.Fields.{prior, offset, ModelLists, modelLists, withinRoom, modelRead}
-
--- one element further
-pub table-turn {ℓ} : {A : Type ℓ} (f : ℕ → A) (xs : List A) (i : ℕ) (a : A) → i < length xs → take i xs ≡ table i f → a ≡ f i
-    → take (i + 1) (set xs i a) ≡ table (i + 1) f
-table-turn f xs i a h s e = rw (add-one, take-suc-set, h, s, e)
-
--- the end
-pub table-done {ℓ} : {A : Type ℓ} (f : ℕ → A) (xs : List A) (i n : ℕ) → length xs ≡ n → n ≤ i → i ≤ n → take i xs ≡ table i f → xs ≡ table n f
-table-done f xs i n l p q s = let e : i ≡ n = omega arith in sym (take-all i xs (omega arith)) ∙ s ∙ ap (λ m. table m f) e
 
 -- one degree more
 pub offset-turn : (p : List ℕ) (m s d r : ℕ) → s ≡ offset p m → d ≡ degree p m → r ≡ (s + d) % 2 ^ 32 → r ≡ offset p (m + 1)

@@ -155,10 +155,14 @@ lengthGood kind size mechanisms edges sum =
 unfoldable pub timeGood : ℕ → Bool → Bool → Bool
 timeGood kind hasModel hasSettings = not (eqb kind 3) || (hasModel && hasSettings)
 
--- 44: within the room of 128 checks, 256 mechanisms, 512 edges, 16 relayed legs; a shot of at most 136 bytes
+-- the room for a model: 128 checks, 256 mechanisms, 512 edges
+abbrev pub countsWithin : ℕ → ℕ → ℕ → Bool
+countsWithin checks mechanisms edges = leb checks 128 && (leb mechanisms 256 && leb edges 512)
+
+-- 44: within the room for a model, of 16 relayed legs, of 136 bytes for a shot
 unfoldable pub roomGood : ℕ → ℕ → ℕ → ℕ → ℕ → ℕ → Bool
 roomGood kind size checks mechanisms edges legs =
-    cond (eqb kind 1) (leb checks 128 && (leb mechanisms 256 && leb edges 512)) (cond (eqb kind 2) (leb legs 16) (leb size 136))
+    cond (eqb kind 1) (countsWithin checks mechanisms edges) (cond (eqb kind 2) (leb legs 16) (leb size 136))
 
 -- 45: the schedule byte of settings
 unfoldable pub scheduleGood : ℕ → ℕ → Bool

@@ -1,7 +1,7 @@
 // The tests 41 to 45, each by itself.
 ghost use mathlib.Core.Path.{_≡_};
 ghost use mathlib.Core.Bool.{_||_, not};
-ghost use Rattle.records_core.specs.Stream.{kindGood, countsFit, lengthGood, timeGood, roomGood, scheduleGood};
+ghost use Rattle.records_core.specs.Stream.{kindGood, countsFit, lengthGood, timeGood, countsWithin, roomGood, scheduleGood};
 use tests_core::at_most;
 use tests_core::both;
 use tests_core::same_number;
@@ -64,6 +64,16 @@ pub fn time_good(kind: usize, has_model: bool, has_settings: bool) -> bool
     implies(kind == 3, both(has_model, has_settings))
 }
 
+// A model within the room.
+pub fn counts_within(checks: usize, mechanisms: usize, edges: usize) -> bool
+    ensures { λ x. ⌜ x ≡ countsWithin checks mechanisms edges ⌝ }
+{
+    both(
+        at_most(checks, 128),
+        both(at_most(mechanisms, 256), at_most(edges, 512)),
+    )
+}
+
 // 44: within the room.
 pub fn room_good(
     kind: usize,
@@ -76,10 +86,7 @@ pub fn room_good(
     ensures { λ x. ⌜ x ≡ roomGood kind size checks mechanisms edges legs ⌝ }
 {
     if kind == 1 {
-        return both(
-            at_most(checks, 128),
-            both(at_most(mechanisms, 256), at_most(edges, 512)),
-        );
+        return counts_within(checks, mechanisms, edges);
     }
     if kind == 2 {
         return legs <= 16;

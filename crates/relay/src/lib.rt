@@ -4,7 +4,7 @@ ghost use mathlib.Core.List.{[]};
 ghost use Rattle.graph_core.specs.Graph.{graph};
 ghost use Rattle.relay_core.specs.Step.{state};
 ghost use Rattle.calls_core.specs.Calls.{stepLists, stepOutcome, iterationCall, legRecord, outcome, decodeInOrder, decode as decodeOf};
-use messages_core::at;
+use graph_core::indices::at;
 use refusals::Answer;
 use tests_core::is_done;
 

@@ -1,7 +1,7 @@
 -- One turn of each loop of a leg, as the code has it. Assumes nothing.
 use mathlib.Core.Path.{_≡_, refl, sym, ap, _∙_}
 use mathlib.Core.Bool.{Bool, true, false}
-use mathlib.Core.List.{List, [], _∷_, map, map-append}
+use mathlib.Core.List.{List, map}
 use Prim.Native.Nat.{ℕ, zero, suc, _+_, _-_, _<_, _≤_}
 use native.Mathlib.Nat.{sub-zero, sub-eq-zero-of-le}
 use native.Mathlib.Numerals.{add-one}
@@ -10,10 +10,10 @@ use lib.Bits.{bitXor}
 use lib.Dec.{eqb}
 use lib.Ieee.{Float, nan}
 use lib.ListN.{length, getD, take, set}
-use lib.Seq.{take-suc, take-suc-set, take-all}
+use lib.Seq.{take-all}
 use Rattle.numbers.specs.Floats.{_+ᶠ_}
 use Rattle.numbers.specs.Loops.{part}
-use Rattle.numbers.proofs.Loops.{foldl-take}
+use Rattle.numbers.proofs.Turns.{fold-turn, fold-done, turns-turn, map-turn}
 use Rattle.messages_core.specs.Needs.{ofChecks}
 use Rattle.relay_core.specs.Step.{State}
 use Rattle.relay_core.specs.Leg.{leg, hardBit, hardDecision, parity, matches, cost, correctionWeight, runLeg}
@@ -22,12 +22,12 @@ use Rattle.relay_core.specs.Leg.{leg, hardBit, hardDecision, parity, mat
 pub weight-turn : (prior : List Float) (bits : List ℕ) (v : ℕ) (w x : Float) → w ≡ correctionWeight prior bits v → x ≡ cost (getD prior v nan) (getD bits v 0)
     → w +ᶠ x ≡ correctionWeight prior bits (v + 1)
 unfolding correctionWeight
-weight-turn prior bits v w x p q = rw (p, q, add-one)
+weight-turn prior bits v w x p q = turns-turn _ _ w (w +ᶠ x) v p (ap (λ y. w +ᶠ y) q)
 
 -- the hard decision, one bit further
 pub hard-turn : (posterior : List Float) (out : List ℕ) (v b : ℕ) → v < length posterior → v < length out → take v out ≡ map hardBit (take v posterior)
     → b ≡ hardBit (getD posterior v nan) → take (v + 1) (set out v b) ≡ map hardBit (take (v + 1) posterior)
-hard-turn posterior out v b h k p q = rw (add-one, take-suc-set, k, take-suc posterior v nan, h, p, q) (sym (map-append hardBit (take v posterior) (getD posterior v nan ∷ [])))
+hard-turn posterior out v b h k p q = map-turn hardBit posterior out v b nan h k p q
 
 -- and all of it
 pub hard-done : (posterior : List Float) (out : List ℕ) (v : ℕ) → length posterior ≤ v → length out ≤ v → take v out ≡ map hardBit (take v posterior) → out ≡ hardDecision posterior
@@ -37,11 +37,12 @@ hard-done posterior out v h k p = sym (take-all v out k) ∙ p ∙ ap (map hardB
 -- the parity, one entry further
 pub parity-turn : (bits entries : List ℕ) (i v p : ℕ) → i < length entries → v ≡ getD entries i 0 → p ≡ parity bits (take i entries) → bitXor p (getD bits v 0) ≡ parity bits (take (i + 1) entries)
 unfolding parity
-parity-turn bits entries i v p h e q = rw (q, e, add-one) (sym (foldl-take _ _ entries i 0 h))
+parity-turn bits entries i v p h e q = fold-turn _ _ p _ entries i v 0 h e q refl
 
 -- and of all
 pub parity-done : (bits entries : List ℕ) (i p : ℕ) → length entries ≤ i → p ≡ parity bits (take i entries) → p ≡ parity bits entries
-parity-done bits entries i p h q = rw (take-all i entries h) at q
+unfolding parity
+parity-done bits entries i p h q = fold-done _ _ p entries i h q
 
 -- one check's test, from its part as the code reads it
 pub matches-is : (checks : ℕ) (cv co bits syndrome : List ℕ) (c a e p : ℕ) → a ≡ getD co c 0 → e ≡ getD co (c + 1) 0 → p ≡ parity bits (part a e cv)

@@ -1,5 +1,5 @@
 -- One turn of each pass over checks and variables, and what passes say of an iteration, as the code has it. Assumes nothing.
-use mathlib.Core.Path.{_≡_, sym, ap, _∙_}
+use mathlib.Core.Path.{_≡_, ap, _∙_}
 use mathlib.Core.Bool.{not}
 use mathlib.Core.List.{List, [], _∷_, foldl}
 use Prim.Native.Nat.{ℕ, _+_, _<_, _≤_}
@@ -7,9 +7,8 @@ use native.Mathlib.Numerals.{add-one}
 use lib.Dec.{eqb}
 use lib.Ieee.{Float, nan}
 use lib.ListN.{length, getD, take, set}
-use lib.Seq.{take-suc-set, take-all}
 use Rattle.numbers.specs.Loops.{part, spliced}
-use Rattle.numbers.proofs.Loops.{foldl-take}
+use Rattle.numbers.proofs.Turns.{fold-turn, fold-done, turns-turn, table-turn}
 use Rattle.graph_core.specs.Graph.{Graph}
 use Rattle.messages_core.specs.Needs.{walked, ofChecks, ofVariables}
 use Rattle.relay_core.specs.Step.{State, state, checkMessages, updateCheck, updateVariable, biasOf, biasesTo, computeBias, checkPass, variablePass, floodingIteration, serialCheck, serialPass, checkSerialIteration}
@@ -20,35 +19,37 @@ use Rattle.relay_core.specs.Step.{State, state, checkMessages, updateChe
 pub bias-turn : (prior gamma posterior out : List Float) (v : ℕ) (b : Float) → v < length out → take v out ≡ biasesTo prior gamma posterior v
     → b ≡ biasOf (getD prior v nan) (getD gamma v nan) (getD posterior v nan) → take (v + 1) (set out v b) ≡ biasesTo prior gamma posterior (v + 1)
 unfolding biasesTo
-bias-turn prior gamma posterior out v b h p q = rw (add-one, take-suc-set, h, p, q)
+bias-turn prior gamma posterior out v b h p q = table-turn _ out v b h p q
 
 -- one check further
 pub checks-turn : (g : Graph) (alpha : Float) (syndrome : List ℕ) (s t u : State) (order : List ℕ) (i c : ℕ) → i < length order → c ≡ getD order i 0
     → t ≡ checkPass g alpha syndrome (take i order) s → u ≡ updateCheck g alpha syndrome t c → u ≡ checkPass g alpha syndrome (take (i + 1) order) s
 unfolding checkPass
-checks-turn g alpha syndrome s t u order i c h e p q = rw (q, e, p, add-one) (sym (foldl-take _ _ order i 0 h))
+checks-turn g alpha syndrome s t u order i c h e p q = fold-turn _ s t u order i c 0 h e p q
 
 -- and all of them
 pub checks-done : (g : Graph) (alpha : Float) (syndrome : List ℕ) (s t : State) (order : List ℕ) (i : ℕ) → length order ≤ i
     → t ≡ checkPass g alpha syndrome (take i order) s → t ≡ checkPass g alpha syndrome order s
-checks-done g alpha syndrome s t order i h p = rw (take-all i order h) at p
+unfolding checkPass
+checks-done g alpha syndrome s t order i h p = fold-done _ s t order i h p
 
 -- one variable further
 pub variable-pass-turn : (g : Graph) (bias : List Float) (s t u : State) (v : ℕ) → t ≡ variablePass g bias s v → u ≡ updateVariable g bias t v → u ≡ variablePass g bias s (v + 1)
 unfolding variablePass
-variable-pass-turn g bias s t u v p q = rw (q, p, add-one)
+variable-pass-turn g bias s t u v p q = turns-turn _ s t u v p q
 
 -- one check of a serial pass further
 pub serial-turn : (g : Graph) (alpha : Float) (syndrome : List ℕ) (bias : List Float) (s t u : State) (order : List ℕ) (i c : ℕ) → i < length order
     → c ≡ getD order i 0 → t ≡ serialPass g alpha syndrome bias (take i order) s → u ≡ serialCheck g alpha syndrome bias t c
     → u ≡ serialPass g alpha syndrome bias (take (i + 1) order) s
 unfolding serialPass
-serial-turn g alpha syndrome bias s t u order i c h e p q = rw (q, e, p, add-one) (sym (foldl-take _ _ order i 0 h))
+serial-turn g alpha syndrome bias s t u order i c h e p q = fold-turn _ s t u order i c 0 h e p q
 
 -- and all of them
 pub serial-done : (g : Graph) (alpha : Float) (syndrome : List ℕ) (bias : List Float) (s t : State) (order : List ℕ) (i : ℕ) → length order ≤ i
     → t ≡ serialPass g alpha syndrome bias (take i order) s → t ≡ serialPass g alpha syndrome bias order s
-serial-done g alpha syndrome bias s t order i h p = rw (take-all i order h) at p
+unfolding serialPass
+serial-done g alpha syndrome bias s t order i h p = fold-done _ s t order i h p
 
 -- ---- one check, with its part as the code reads it
 

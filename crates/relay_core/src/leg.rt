@@ -9,7 +9,7 @@ ghost use Rattle.messages_core.specs.Needs.{Walks, walked, ofChecks};
 ghost use Rattle.relay_core.specs.Step.{state, iteration};
 ghost use Rattle.relay_core.specs.Leg.{hardBit, hardDecision, parity as parityOf, matches as matchesOf, satisfied as satisfiedBy, leg as legOf, runLeg, cost as costOf, correctionWeight};
 use crate::step::step;
-use messages_core::at;
+use graph_core::indices::at;
 use settings::Schedule;
 
 // A bit is 1 when its posterior is below 0.

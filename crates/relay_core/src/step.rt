@@ -9,7 +9,7 @@ ghost use Rattle.relay_core.specs.Step.{state, biasOf, computeBias, upda
 use crate::check::update_part;
 use crate::variable::update_variable;
 use crate::variable::update_variables;
-use messages_core::at;
+use graph_core::indices::at;
 use settings::Schedule;
 
 // A variable's bias.

@@ -8,7 +8,7 @@ ghost use Rattle.graph_core.specs.Messages.{total as totalOf};
 ghost use Rattle.graph_core.specs.Sound.{Keys};
 ghost use Rattle.messages_core.specs.Needs.{Walks, ofVariables};
 ghost use Rattle.relay_core.specs.Step.{written, state, updateVariable};
-use messages_core::at;
+use graph_core::indices::at;
 use messages_core::total;
 
 // p without each own message, written for each message that the entries name.

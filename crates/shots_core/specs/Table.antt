@@ -1,9 +1,8 @@
 -- The table behind 45: a model by 1 to 6, settings by 10 to 16, a shot by 20, 21 and 30, each out of the payload of its record. A model's bytes, the settings and
 -- a shot's bytes are all that a decode depends on. Definitions only. Assumes nothing.
 use Prim.Native.Nat.{ℕ, _+_}
-use mathlib.Core.Bool.{Bool, _&&_, cond}
+use mathlib.Core.Bool.{Bool, cond}
 use mathlib.Core.List.{List, []}
-use lib.Dec.{leb}
 use lib.Ieee.{Float}
 use lib.ListN.{take, replicate}
 use Rattle.numbers.specs.Floats.{zero⁺}
@@ -18,7 +17,7 @@ use Rattle.calls_core.specs.declared.Decoded.{Decoded}
 use Rattle.calls_core.specs.declared.Decoded.the-variants as Decoded
 use Rattle.calls_core.specs.Calls as Calls
 use Rattle.records_core.specs.declared.Counts.{Counts}
-use Rattle.records_core.specs.Stream.{seed, syndrome}
+use Rattle.records_core.specs.Stream.{countsWithin, seed, syndrome}
 use Rattle.records_core.specs.Fields.{countsOf, ModelLists, modelLists, modelRead, settingsOf}
 
 -- ---- the lists that the program lends: the first n of an array that is filled with one value
@@ -61,7 +60,7 @@ shotRoom c correction =
 
 -- a model is within the room. 44 has refused all others before: what follows asks once more, so that it is defined for all bytes
 unfoldable pub within : Counts → Bool
-within c = leb (c .checks) 128 && (leb (c .mechanisms) 256 && leb (c .edges) 512)
+within c = countsWithin (c .checks) (c .mechanisms) (c .edges)
 
 -- `build_sparse` of a payload, by way of lists l into the lists of a graph g
 unfoldable pub builtFrom : ℕ → List ℕ → ModelLists → Graph → Outcome

@@ -12,8 +12,6 @@ use records::Counts;
 use refusals::Answer;
 use refusals::Refusal;
 use settings::Settings;
-use tests_core::at_most;
-use tests_core::both;
 
 // n, or the length of a list that is shorter.
 pub fn front(list: &[u8], n: usize) -> usize
@@ -29,10 +27,7 @@ pub fn front(list: &[u8], n: usize) -> usize
 fn within(c: Counts) -> bool
     ensures { λ x. ⌜ x ≡ withinOf c ⌝ }
 {
-    both(
-        at_most(c.checks, 128),
-        both(at_most(c.mechanisms, 256), at_most(c.edges, 512)),
-    )
+    records_core::rules::counts_within(c.checks, c.mechanisms, c.edges)
 }
 
 // A model read and built, in lists of its sizes.

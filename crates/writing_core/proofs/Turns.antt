@@ -1,11 +1,9 @@
 -- One byte more of a piece. Assumes nothing.
 use Prim.Native.Nat.{ℕ, _+_, _<_, _≤_}
-use mathlib.Core.Path.{_≡_, sym, ap, _∙_}
+use mathlib.Core.Path.{_≡_, refl}
 use mathlib.Core.List.{List, foldl}
-use native.Mathlib.Numerals.{add-one}
 use lib.ListN.{length, getD, take}
-use lib.Seq.{take-all}
-use Rattle.numbers.proofs.Loops.{foldl-take}
+use Rattle.numbers.proofs.Turns.{fold-turn, fold-done}
 use Rattle.session.specs.Shots.{Left}
 use Rattle.writing_core.specs.Pieces.{nextByte, pieceTaken}
 
@@ -15,8 +13,8 @@ module _ (bytes : List ℕ) (start : Left) where
   Passed l i = l ≡ foldl nextByte start (take i bytes)
 
   pub piece-turn : (l after : Left) (i : ℕ) → i < length bytes → Passed l i → after ≡ nextByte l (getD bytes i 0) → Passed after (i + 1)
-  piece-turn l after i h e f = rw add-one (f ∙ ap (λ k. nextByte k (getD bytes i 0)) e ∙ sym (foldl-take nextByte start bytes i 0 h))
+  piece-turn l after i h e f = fold-turn nextByte start l after bytes i _ 0 h refl e f
 
   pub piece-done : (l : Left) (i : ℕ) → length bytes ≤ i → Passed l i → l ≡ pieceTaken bytes start
   unfolding pieceTaken
-  piece-done l i h e = e ∙ ap (foldl nextByte start) (take-all i bytes h)
+  piece-done l i h e = fold-done nextByte start l bytes i h e

@@ -51,7 +51,7 @@ from-matrix-requires c κs =
     let d = c .before .before .before .before .before .before .before .before .before .before .count-edges .ensures in (
       t .bytes-many,
       (
-        (omega (arith, t .checks-few), omega (arith, t .mechanisms-few), omega (arith, d, t .edges-few)),
+        (omega (arith, t .few .checks-few), omega (arith, t .few .mechanisms-few), omega (arith, d, t .few .edges-few)),
         ((f .check-var ∙ d, f .check-message ∙ d, f .check-offset), (f .var-check ∙ d, f .var-message ∙ d, f .var-offset)),
       ),
     )

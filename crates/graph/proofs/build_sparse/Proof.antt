@@ -46,7 +46,7 @@ from-detectors-requires c κs =
     let d = t .lengths .dets-many in (
       t .valid,
       (
-        (omega (arith, t .checks-few), omega (arith, t .mechanisms-few), omega (arith, d, t .edges-few)),
+        (omega (arith, t .few .checks-few), omega (arith, t .few .mechanisms-few), omega (arith, d, t .few .edges-few)),
         ((f .check-var ∙ sym d, f .check-message ∙ sym d, f .check-offset), (f .var-check ∙ sym d, f .var-message ∙ sym d, f .var-offset)),
       ),
     )

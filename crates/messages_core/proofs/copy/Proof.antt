@@ -2,9 +2,10 @@
 use mathlib.Core.Path.{_≡_, refl, sym, _∙_}
 use Prim.Native.Nat.{_≤_, _-_}
 use native.Mathlib.Omega.{arith}
+use lib.Ieee.{nan}
 use lib.ListN.{length, take, length-set}
 use lib.Seq.{take-all}
-use Rattle.messages_core.proofs.Turns.{copy-turn}
+use Rattle.numbers.proofs.Turns.{copy-turn}
 use Rattle.messages_core.proofs.copy.Statement.{statement}
 use Rattle.messages_core.proofs.copy.Tie as tie
 
@@ -36,7 +37,7 @@ loop-less : tie.Need-loop-less Inv-loop μ-loop
 loop-less c = omega arith
 
 loop-again : tie.Need-loop-again Inv-loop μ-loop
-loop-again c = (omega arith, simp length-set (omega arith), copy-turn _ (c .before .before .loop .to) (c .before .before .loop .i) (c .before .loop-test .taken) (omega arith) (c .before .before .loop .inv .2))
+loop-again c = (omega arith, simp length-set (omega arith), copy-turn _ (c .before .before .loop .to) (c .before .before .loop .i) nan (c .before .loop-test .taken) (omega arith) (c .before .before .loop .inv .2))
 
 same-length : tie.Need-same-length Inv-loop μ-loop
 same-length c = omega arith

@@ -1,35 +1,15 @@
--- `shots_core::within` meets its contract. The three tests joined. Assumes nothing.
+-- `shots_core::within` meets its contract. One call. Assumes nothing.
 use Rattle.shots_core.specs.Table.{within}
 use borrow.Author.Needs.{needs}
 use Rattle.shots_core.proofs.within.Statement.{statement}
 use Rattle.shots_core.proofs.within.Tie as tie
 
-at-most-requires : tie.Need-at-most-requires
-at-most-requires c κs = search needs
-
-at-most-requires-2 : tie.Need-at-most-requires-2
-at-most-requires-2 c κs = search needs
-
-at-most-requires-3 : tie.Need-at-most-requires-3
-at-most-requires-3 c κs = search needs
-
-both-requires : tie.Need-both-requires
-both-requires c κs = search needs
-
-both-requires-2 : tie.Need-both-requires-2
-both-requires-2 c κs = search needs
+counts-within-requires : tie.Need-counts-within-requires
+counts-within-requires c κs = search needs
 
 returns : tie.Need-returns
 unfolding within
-returns c = cc
+returns c = c .counts-within .ensures
 
 pub within-spec : {M : Type 1} → statement M
-within-spec =
-    tie.close
-    (tie.spec
-    at-most-requires
-    at-most-requires-2
-    at-most-requires-3
-    both-requires
-    both-requires-2
-    returns)
+within-spec = tie.close (tie.spec counts-within-requires returns)

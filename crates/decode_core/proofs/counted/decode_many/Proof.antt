@@ -7,8 +7,8 @@ use borrow.Author.Needs.{needs}
 use Rattle.decode_core.proofs.counted.decode_many.Statement.{statement}
 use Rattle.decode_core.proofs.counted.decode_many.Tie as tie
 
-sub-index-order : tie.Need-sub-index-order
-sub-index-order c = search needs
+sub-number : tie.Need-sub-number
+sub-number c = search needs
 
 part-order-start : tie.Need-part-order-start
 part-order-start c = search needs
@@ -16,8 +16,8 @@ part-order-start c = search needs
 part-order-end : tie.Need-part-order-end
 part-order-end c = search needs
 
-index-order-requires : tie.Need-index-order-requires
-index-order-requires c κs = search needs
+number-requires : tie.Need-number-requires
+number-requires c κs = search needs
 
 sub-decode-fronts : tie.Need-sub-decode-fronts
 sub-decode-fronts c = search needs
@@ -26,13 +26,13 @@ part-decode-fronts-start : tie.Need-part-decode-fronts-start
 part-decode-fronts-start c = search needs
 
 part-decode-fronts-end : tie.Need-part-decode-fronts-end
-part-decode-fronts-end c = counted-many 65536 (length (c .before .before .before .before .before .before .before .before .before .before .before .before .before .before .before .before .before .before .before .before .before .args .syndrome .now)) _ _ (c .before .before .before .before .before .before .before .before .before .before .before .before .before .before .before .before .before .before .before .before .before .pre .0) (length-replicate {A = ℕ} 65536 0) (c .before .before .index-order .ensures)
+part-decode-fronts-end c = counted-many 65536 (length (c .before .before .before .before .before .before .before .before .before .before .before .before .before .before .before .before .before .before .before .before .before .args .syndrome .now)) _ _ (c .before .before .before .before .before .before .before .before .before .before .before .before .before .before .before .before .before .before .before .before .before .pre .0) (length-replicate {A = ℕ} 65536 0) (c .before .before .number .ensures)
 
 decode-fronts-requires : tie.Need-decode-fronts-requires
 decode-fronts-requires c κs =
     let s = c .before .before .before .before .before .before .before .before .before .before .before .before .before .before .before .before .before .before .before .before .before .before .before .before .before .before .before .before .before .before .before .before in
     let a = s .args in
-    (reads-along (a .t) (a .gammas .now) (a .seed) (a .syndrome .now) (a .priors .now) (a .check-var .now) (a .check-offset .now) (a .var-message .now) (a .var-offset .now) _ _ (counted-is 65536 (length (a .syndrome .now)) _ _ (s .pre .0) (length-replicate {A = ℕ} 65536 0) (c .before .before .before .before .before .before .before .before .before .before .before .before .before .index-order .ensures)) (s .pre .1 .0), s .pre .1 .1)
+    (reads-along (a .t) (a .gammas .now) (a .seed) (a .syndrome .now) (a .priors .now) (a .check-var .now) (a .check-offset .now) (a .var-message .now) (a .var-offset .now) _ _ (counted-is 65536 (length (a .syndrome .now)) _ _ (s .pre .0) (length-replicate {A = ℕ} 65536 0) (c .before .before .before .before .before .before .before .before .before .before .before .before .before .number .ensures)) (s .pre .1 .0), s .pre .1 .1)
 
 same-length : tie.Need-same-length
 same-length c = search needs
@@ -68,16 +68,16 @@ returns : tie.Need-returns
 returns c =
     let s = c .before .before .before .before .before .before .before .before .before .before .before .before .before .before .before .before .before .before .before .before .before .before .before .before .before .before .before .before .before .before .before .before .before .before .before .before .before .before .before .before .before .before .before .before .before .before .before .before .before .before .before .before .before in
     let a = s .args in
-    along-order (a .t) (a .gammas .now) (a .seed) (a .syndrome .now) (a .priors .now) (a .check-var .now) (a .check-offset .now) (a .var-message .now) (a .var-offset .now) _ _ _ _ _ (counted-is 65536 (length (a .syndrome .now)) _ _ (s .pre .0) (length-replicate {A = ℕ} 65536 0) (c .before .before .before .before .before .before .before .before .before .before .before .before .before .before .before .before .before .before .before .before .before .before .before .before .before .before .before .before .before .before .before .before .before .before .index-order .ensures)) (c .before .before .before .before .before .before .before .before .before .before .before .before .before .before .before .before .before .before .before .before .decode-fronts .ensures)
+    along-order (a .t) (a .gammas .now) (a .seed) (a .syndrome .now) (a .priors .now) (a .check-var .now) (a .check-offset .now) (a .var-message .now) (a .var-offset .now) _ _ _ _ _ (counted-is 65536 (length (a .syndrome .now)) _ _ (s .pre .0) (length-replicate {A = ℕ} 65536 0) (c .before .before .before .before .before .before .before .before .before .before .before .before .before .before .before .before .before .before .before .before .before .before .before .before .before .before .before .before .before .before .before .before .before .before .number .ensures)) (c .before .before .before .before .before .before .before .before .before .before .before .before .before .before .before .before .before .before .before .before .decode-fronts .ensures)
 
 pub decode-many-spec : {M : Type 1} → statement M
 decode-many-spec =
     tie.close
     (tie.spec
-    sub-index-order
+    sub-number
     part-order-start
     part-order-end
-    index-order-requires
+    number-requires
     sub-decode-fronts
     part-decode-fronts-start
     part-decode-fronts-end

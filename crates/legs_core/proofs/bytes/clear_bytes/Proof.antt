@@ -4,7 +4,7 @@ use mathlib.Core.Path.{_≡_, refl}
 use Prim.Native.Nat.{_≤_, _-_}
 use native.Mathlib.Omega.{arith}
 use lib.ListN.{length, take, replicate, length-set}
-use Rattle.messages_core.proofs.Turns.{clear-turn, clear-done}
+use Rattle.numbers.proofs.Turns.{fill-turn, fill-done}
 use Rattle.legs_core.proofs.bytes.clear_bytes.Statement.{statement}
 use Rattle.legs_core.proofs.bytes.clear_bytes.Tie as tie
 
@@ -27,13 +27,13 @@ loop-less : tie.Need-loop-less Inv-loop μ-loop
 loop-less c = simp length-set (omega arith)
 
 loop-again : tie.Need-loop-again Inv-loop μ-loop
-loop-again c = (simp length-set (omega arith), simp length-set (omega arith), clear-turn (c .before .loop .xs) (c .before .loop .i) 0 (c .loop-test .taken) (c .before .loop .inv .2))
+loop-again c = (simp length-set (omega arith), simp length-set (omega arith), fill-turn (c .before .loop .xs) (c .before .loop .i) 0 (c .loop-test .taken) (c .before .loop .inv .2))
 
 same-length : tie.Need-same-length Inv-loop μ-loop
 same-length c = omega arith
 
 returns : tie.Need-returns Inv-loop μ-loop
-returns c = let l = c .before .loop in clear-done _ (l .i) _ _ (l .inv .1) (omega arith) (omega arith) (l .inv .2)
+returns c = let l = c .before .loop in fill-done _ (l .i) _ _ (l .inv .1) (omega arith) (omega arith) (l .inv .2)
 
 pub clear-bytes-spec : {M : Type 1} → statement M
 clear-bytes-spec =

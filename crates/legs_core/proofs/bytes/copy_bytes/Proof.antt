@@ -5,7 +5,7 @@ use Prim.Native.Nat.{_≤_, _-_}
 use native.Mathlib.Omega.{arith}
 use lib.ListN.{length, take, length-set}
 use lib.Seq.{take-all}
-use Rattle.legs_core.proofs.Copies.{bytes-turn}
+use Rattle.numbers.proofs.Turns.{copy-turn}
 use Rattle.legs_core.proofs.bytes.copy_bytes.Statement.{statement}
 use Rattle.legs_core.proofs.bytes.copy_bytes.Tie as tie
 
@@ -31,7 +31,7 @@ loop-less : tie.Need-loop-less Inv-loop μ-loop
 loop-less c = omega arith
 
 loop-again : tie.Need-loop-again Inv-loop μ-loop
-loop-again c = (omega arith, simp length-set (omega arith), bytes-turn _ (c .before .before .loop .to) (c .before .before .loop .i) (c .before .loop-test .taken) (omega arith) (c .before .before .loop .inv .2))
+loop-again c = (omega arith, simp length-set (omega arith), copy-turn _ (c .before .before .loop .to) (c .before .before .loop .i) 0 (c .before .loop-test .taken) (omega arith) (c .before .before .loop .inv .2))
 
 same-length : tie.Need-same-length Inv-loop μ-loop
 same-length c = omega arith

@@ -2,10 +2,10 @@
 use mathlib.Core.Path.{_≡_, refl, sym, _∙_}
 use Prim.Native.Nat.{_≤_, _<_, _-_}
 use native.Mathlib.Omega.{arith}
-use native.Mathlib.Numerals.{add-one}
 use lib.ListN.{length, take, length-set}
-use lib.Seq.{take-suc-set, take-all}
+use lib.Seq.{take-all}
 use borrow.Author.Needs.{needs}
+use Rattle.numbers.proofs.Turns.{table-turn}
 use Rattle.graph_core.specs.Messages.{scanOf}
 use Rattle.min_sum_core.specs.MinSum.{sentTo}
 use Rattle.min_sum_core.proofs.Sends.{one-minimum}
@@ -49,7 +49,7 @@ unfolding sentTo
 loop-again c =
     let l = c .before .before .before .loop in
     let h : l .i < length (l .c-to-v) = omega arith in
-    (omega arith, simp length-set (omega arith), rw (add-one, take-suc-set, h, l .inv .2, c .sent .ensures ∙ one-minimum _ _ _ _ (l .i)))
+    (omega arith, simp length-set (omega arith), table-turn _ _ (l .i) _ h (l .inv .2) (c .sent .ensures ∙ one-minimum _ _ _ _ (l .i)))
 
 same-length : tie.Need-same-length Inv-loop μ-loop
 same-length c = omega arith

@@ -7,7 +7,7 @@ use lib.ListN.{length, take}
 use lib.Seq.{take-all}
 use Rattle.messages_core.specs.Needs.{ofVariables}
 use Rattle.min_sum_core.specs.MinSum.{messages, updateVariable}
-use Rattle.min_sum_core.proofs.Variables.{variables-turn}
+use Rattle.numbers.proofs.Turns.{fold-turn}
 use Rattle.min_sum_core.proofs.variable.update_variables.Statement.{statement}
 use Rattle.min_sum_core.proofs.variable.update_variables.Tie as tie
 
@@ -41,7 +41,7 @@ loop-again : tie.Need-loop-again Inv-loop μ-loop
 loop-again c =
     let l = c .before .before .before .before .before .before .loop in
     let u = c .before .before .update-variable in
-    (omega arith, u .kept .1 .1 .1 .1 .1 .0 ∙ l .inv .1, variables-turn _ _ _ _ _ _ (l .i) _ (c .before .before .before .before .before .loop-test .taken) (c .before .before .before .before .at .ensures) (l .inv .2) (u .ensures .1))
+    (omega arith, u .kept .1 .1 .1 .1 .1 .0 ∙ l .inv .1, fold-turn (updateVariable _ _) _ _ _ _ (l .i) _ 0 (c .before .before .before .before .before .loop-test .taken) (c .before .before .before .before .at .ensures) (l .inv .2) (u .ensures .1))
 
 same-length : tie.Need-same-length Inv-loop μ-loop
 same-length c = omega arith

@@ -6,7 +6,7 @@ use Prim.Native.Nat.{_≤_, _-_}
 use lib.ListN.{length, take, length-set}
 use Rattle.numbers.specs.Loops.{table}
 use Rattle.records_core.specs.Stream.{detector}
-use Rattle.records_core.proofs.Fills.{table-turn, table-done}
+use Rattle.numbers.proofs.Turns.{table-turn, table-done}
 use Rattle.records_core.proofs.fields.detectors_in.Statement.{statement}
 use Rattle.records_core.proofs.fields.detectors_in.Tie as tie
 

@@ -8,7 +8,8 @@ use lib.ListN.{length, take, length-set}
 use Rattle.numbers.specs.Loops.{table}
 use Rattle.records_core.specs.Fields.{offset}
 use Rattle.records_core.specs.Stream.{degrees}
-use Rattle.records_core.proofs.Fills.{table-turn, table-done, offset-turn}
+use Rattle.numbers.proofs.Turns.{table-turn, table-done}
+use Rattle.records_core.proofs.Fills.{offset-turn}
 use Rattle.records_core.proofs.fields.offsets_in.Statement.{statement}
 use Rattle.records_core.proofs.fields.offsets_in.Tie as tie
 

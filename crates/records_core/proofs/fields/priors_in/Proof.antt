@@ -7,7 +7,7 @@ use lib.ListN.{length, take, length-set}
 use Rattle.numbers.specs.Loops.{table}
 use Rattle.records_core.specs.Fields.{prior}
 use Rattle.records_core.specs.Stream.{priorBits}
-use Rattle.records_core.proofs.Fills.{table-turn, table-done}
+use Rattle.numbers.proofs.Turns.{table-turn, table-done}
 use Rattle.records_core.proofs.fields.priors_in.Statement.{statement}
 use Rattle.records_core.proofs.fields.priors_in.Tie as tie
 

@@ -6,24 +6,12 @@ use borrow.Author.Needs.{needs}
 use Rattle.records_core.proofs.rules.room_good.Statement.{statement}
 use Rattle.records_core.proofs.rules.room_good.Tie as tie
 
-at-most-requires : tie.Need-at-most-requires
-at-most-requires c κs = search needs
-
-at-most-requires-2 : tie.Need-at-most-requires-2
-at-most-requires-2 c κs = search needs
-
-at-most-requires-3 : tie.Need-at-most-requires-3
-at-most-requires-3 c κs = search needs
-
-both-requires : tie.Need-both-requires
-both-requires c κs = search needs
-
-both-requires-2 : tie.Need-both-requires-2
-both-requires-2 c κs = search needs
+counts-within-requires : tie.Need-counts-within-requires
+counts-within-requires c κs = search needs
 
 returns : tie.Need-returns
 unfolding roomGood
-returns c = rw (eq-eqb _ _ (c .before .before .before .before .before .if1 .taken), c .both2 .ensures, c .before .both .ensures, c .before .before .at-most3 .ensures, c .before .before .before .at-most2 .ensures, c .before .before .before .before .at-most .ensures)
+returns c = rw (eq-eqb _ _ (c .before .if1 .taken), c .counts-within .ensures)
 
 returns-2 : tie.Need-returns-2
 unfolding roomGood
@@ -34,14 +22,4 @@ unfolding roomGood
 returns-3 c = rw (ne-eqb _ _ (c .before .if1 .left), ne-eqb _ _ (c .if2 .left))
 
 pub room-good-spec : {M : Type 1} → statement M
-room-good-spec =
-    tie.close
-    (tie.spec
-    at-most-requires
-    at-most-requires-2
-    at-most-requires-3
-    both-requires
-    both-requires-2
-    returns
-    returns-2
-    returns-3)
+room-good-spec = tie.close (tie.spec counts-within-requires returns returns-2 returns-3)

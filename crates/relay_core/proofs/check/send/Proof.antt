@@ -2,10 +2,10 @@
 use mathlib.Core.Path.{_≡_, refl, sym, _∙_}
 use Prim.Native.Nat.{_≤_, _<_, _-_}
 use native.Mathlib.Omega.{arith}
-use native.Mathlib.Numerals.{add-one}
 use lib.ListN.{length, take, length-set}
-use lib.Seq.{take-suc-set, take-all}
+use lib.Seq.{take-all}
 use borrow.Author.Needs.{needs}
+use Rattle.numbers.proofs.Turns.{table-turn}
 use Rattle.relay_core.specs.Places.{bySigns}
 use Rattle.relay_core.proofs.check.send.Statement.{statement}
 use Rattle.relay_core.proofs.check.send.Tie as tie
@@ -47,7 +47,7 @@ unfolding bySigns
 loop-again c =
     let l = c .before .before .before .loop in
     let h : l .i < length (l .c-to-v) = omega arith in
-    (omega arith, simp length-set (omega arith), rw (add-one, take-suc-set, h, l .inv .2, c .by-sign .ensures))
+    (omega arith, simp length-set (omega arith), table-turn _ _ (l .i) _ h (l .inv .2) (c .by-sign .ensures))
 
 same-length : tie.Need-same-length Inv-loop μ-loop
 same-length c = omega arith

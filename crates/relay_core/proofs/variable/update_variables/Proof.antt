@@ -8,7 +8,7 @@ use lib.ListN.{length, take}
 use lib.Seq.{take-all}
 use Rattle.messages_core.specs.Needs.{ofVariables}
 use Rattle.relay_core.specs.Step.{state, updateVariable}
-use Rattle.relay_core.proofs.Variables.{variables-turn}
+use Rattle.numbers.proofs.Turns.{fold-turn}
 use Rattle.relay_core.proofs.variable.update_variables.Statement.{statement}
 use Rattle.relay_core.proofs.variable.update_variables.Tie as tie
 
@@ -42,7 +42,7 @@ loop-again : tie.Need-loop-again Inv-loop μ-loop
 loop-again c =
     let l = c .before .before .before .before .before .before .before .before .before .loop in
     let u = c .before .before .before .before .update-variable in
-    (omega arith, u .kept .1 .1 .1 .1 .1 .0 ∙ l .inv .1, u .kept .1 .1 .1 .1 .1 .1 .0 ∙ l .inv .2, variables-turn _ _ _ _ _ _ (l .i) _ (c .before .before .before .before .before .before .before .before .loop-test .taken) (c .before .before .before .before .before .before .before .at .ensures) (l .inv .3) (u .ensures))
+    (omega arith, u .kept .1 .1 .1 .1 .1 .0 ∙ l .inv .1, u .kept .1 .1 .1 .1 .1 .1 .0 ∙ l .inv .2, fold-turn (updateVariable _ _) _ _ _ _ (l .i) _ 0 (c .before .before .before .before .before .before .before .before .loop-test .taken) (c .before .before .before .before .before .before .before .at .ensures) (l .inv .3) (u .ensures))
 
 same-length : tie.Need-same-length Inv-loop μ-loop
 same-length c = omega arith
