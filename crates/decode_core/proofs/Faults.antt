@@ -34,7 +34,7 @@ use Rattle.orders_core.specs.Order.{namesOnce, namesFault, exchangeFault}
 use Rattle.calls_core.proofs.Named.{names-entries, index-passes}
 use Rattle.calls_core.specs.Decode.{Shot, decodeLegs}
 use Rattle.calls_core.specs.Calls.{syndromeFault, Lists, Outcome, outcome, listsFit, decodeFault, afterLegs, decodeInOrder, decode}
-use Rattle.legs_core.specs.Kept.{Reads, shotOf, shotFault}
+use Rattle.tally_core.specs.Kept.{Reads, shotOf, shotFault}
 use Rattle.decode_core.proofs.WholeGraph.{whole, legs-read-four}
 use Rattle.decode_core.proofs.Shots.{along-order}
 

@@ -18,7 +18,7 @@ use Rattle.calls_core.specs.declared.Decoded.{Decoded}
 use Rattle.relay_core.specs.Leg.{Leg, hardDecision, correctionWeight}
 use Rattle.calls_core.specs.Decode.{Shot, Run, Ended, decoded, refused, Progress, running, finished, isNoneOr, executedLeg, startRun, recorded, judged, afterLeg, legs, decodeLegs, correctionOf}
 use Rattle.calls_core.specs.Calls.{answered}
-use Rattle.legs_core.specs.Kept.{Kept, kept, keptOf, corrected, keptWith, keptAfter, Blank, answerOf, isRefused, answerBy, Results, results, resultsOf, started}
+use Rattle.tally_core.specs.Kept.{Kept, kept, keptOf, corrected, keptWith, keptAfter, Blank, answerOf, isRefused, answerBy, Results, results, resultsOf, started}
 
 -- ---- what is kept of a run
 

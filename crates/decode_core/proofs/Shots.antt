@@ -20,7 +20,7 @@ use Rattle.numbers.specs.Loops.{upto}
 use Rattle.numbers.proofs.Loops.{length-table}
 use Rattle.calls_core.specs.Decode.{Shot, Run, Ended, decoded, refused, decodeLegs, correctionOf}
 use Rattle.calls_core.specs.Calls.{Lists, Outcome, outcome, answered, leftBy, zeroed, afterLegs}
-use Rattle.legs_core.specs.Kept.{shotOf, Reads, answerOf, isRefused, Results, results, resultsOf, started}
+use Rattle.tally_core.specs.Kept.{shotOf, Reads, answerOf, isRefused, Results, results, resultsOf, started}
 
 -- a run that has ended is not refused
 not-refused : (run : Run) (best : Option Float) → isRefused (answered run best) ≡ false

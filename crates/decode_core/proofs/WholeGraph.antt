@@ -14,7 +14,7 @@ use Rattle.relay_core.specs.Leg.{startLeg, runLeg, matches, satisfied}
 use Rattle.calls_core.specs.Decode.{Shot, Run, Ended, decoded, refused, running, iterationLimit, stepOf, executedLeg, startRun, recorded, afterLeg, decodeLegs}
 use Rattle.calls_core.specs.Calls.{Lists, Outcome, leftBy, zeroed, afterLegs}
 use Rattle.calls_core.proofs.Calls.{same-step, legs-agree}
-use Rattle.legs_core.specs.Kept.{shotOf}
+use Rattle.tally_core.specs.Kept.{shotOf}
 
 module _ (t : Settings) (flat : List Float) (seed : ℕ) (syndrome : List ℕ) (prior : List Float) (cv cm co vc vm vo order : List ℕ) where
   -- the shot over the four lists

@@ -6,18 +6,18 @@ ghost use lib.ListN.{length, replicate};
 ghost use Rattle.numbers.specs.Floats.{zero⁺};
 ghost use Rattle.calls_core.specs.Decode.{decodeLegs};
 ghost use Rattle.calls_core.specs.Calls.{outcome, afterLegs};
-ghost use Rattle.legs_core.specs.Kept.{shotOf, Reads, answerOf, isRefused, results, resultsOf, started};
+ghost use Rattle.tally_core.specs.Kept.{shotOf, Reads, answerOf, isRefused, results, resultsOf, started};
 use calls_core::Decoded;
-use legs_core::bytes::clear_bytes;
-use legs_core::one_leg::Tally;
-use legs_core::one_leg::answer;
-use legs_core::one_leg::answer_run;
-use legs_core::one_leg::ends;
 use legs_core::one_leg::next_leg;
 use messages_core::clear;
 use messages_core::copy;
 use messages_core::first_not_finite;
 use settings::Settings;
+use tally_core::Tally;
+use tally_core::answer;
+use tally_core::answer_run;
+use tally_core::bytes::clear_bytes;
+use tally_core::ends;
 
 // Leg after leg, from the posterior and the empty records that are lent. After a refusal the lists hold what the legs left.
 fn run_legs(

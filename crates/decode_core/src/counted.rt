@@ -5,7 +5,7 @@ ghost use lib.ListN.{length};
 ghost use Rattle.numbers.specs.Loops.{upto};
 ghost use Rattle.calls_core.specs.Decode.{decodeLegs};
 ghost use Rattle.calls_core.specs.Calls.{outcome, afterLegs};
-ghost use Rattle.legs_core.specs.Kept.{shotOf, Reads};
+ghost use Rattle.tally_core.specs.Kept.{shotOf, Reads};
 use crate::all_legs::decode_fronts;
 use calls_core::Decoded;
 use graph_core::indices::number;

@@ -11,7 +11,7 @@ ghost use Rattle.graph_core.specs.Sound.{Offsets, Keys};
 ghost use Rattle.messages_core.specs.Needs.{ofChecks};
 ghost use Rattle.orders_core.specs.Order.{namesFault, exchangeFault};
 ghost use Rattle.calls_core.specs.Calls.{decodeFault};
-ghost use Rattle.legs_core.specs.Kept.{shotFault};
+ghost use Rattle.tally_core.specs.Kept.{shotFault};
 use calls_core::tests::syndrome_fault;
 use orders_core::exchange_fault;
 use orders_core::is_index_order;

@@ -3,7 +3,7 @@ use mathlib.Core.Path.{_≡_, refl, sym, ap, _∙_}
 use mathlib.Core.Bool.{Bool, true, false, cond}
 use mathlib.Core.List.{List, [], _++_}
 use mathlib.Core.Logic.{inr}
-use mathlib.Core.Option.{Option, none, some}
+use mathlib.Core.Option.{Option}
 use Prim.Native.Nat.{ℕ, zero, suc, _+_, _-_, _*_, _<_, _≤_}
 use native.Mathlib.Nat.{mul-le-mul, mul-le-mul-right, suc-mul}
 use native.Mathlib.Omega.{arith}
@@ -20,8 +20,8 @@ use Rattle.settings.specs.declared.GammaSource.the-variants.{Explicit}
 use Rattle.relay_core.specs.Step.{State, state, iteration}
 use Rattle.gammas_core.specs.Gammas.{gammaOf}
 use Rattle.relay_core.specs.Leg.{Leg, leg, startLeg, hardDecision, matches, satisfied, runLeg, correctionWeight}
-use Rattle.calls_core.specs.Decode.{Shot, isNoneOr, iterationLimit, stepOf, executedLeg}
-use Rattle.legs_core.specs.Kept.{shotOf, Reads, bestOf, Kept, kept, bestAfter, corrected, keptWith, rowAfter, keptAfter, Blank}
+use Rattle.calls_core.specs.Decode.{Shot, iterationLimit, stepOf, executedLeg}
+use Rattle.tally_core.specs.Kept.{shotOf, Reads, Kept, kept, bestAfter, corrected, keptWith, rowAfter, keptAfter, Blank}
 use Rattle.relay_core.proofs.Parts.{Stands, out, within, stands}
 
 -- ---- the limit
@@ -88,32 +88,6 @@ module _ (t : Settings) (flat : List Float) (seed : ℕ) (syndrome : List ℕ) (
 
 -- ---- what a leg adds
 
--- a leg that converged with a weight below the best, or the first
-pub least-better : (best : Option Float) (w : Float) (b : Bool) → b ≡ isNoneOr best w → b ≡ true → some w ≡ bestAfter true best w
-least-better best w b e h = rw (sym e ∙ h)
-
--- one that is not better
-pub least-other : (best : Option Float) (w : Float) (b : Bool) → b ≡ isNoneOr best w → b ≡ false → best ≡ bestAfter true best w
-least-other best w b e h = rw (sym e ∙ h)
-
--- the correction of a leg that converged
-corrected-true : (best : Option Float) (w : Float) (bits old : List ℕ) → corrected true best w bits old ≡ cond (isNoneOr best w) bits old
-corrected-true none w bits old = refl
-corrected-true (some x) w bits old = refl
-
--- that, where it is better
-pub corrected-better : (best : Option Float) (w : Float) (bits old new : List ℕ) (b : Bool) → b ≡ isNoneOr best w → b ≡ true → new ≡ bits → new ≡ corrected true best w bits old
-corrected-better best w bits old new b e h q = rw (corrected-true best w bits old, sym e ∙ h) q
-
--- and where it is not
-pub corrected-other : (best : Option Float) (w : Float) (bits old : List ℕ) (b : Bool) → b ≡ isNoneOr best w → b ≡ false → old ≡ corrected true best w bits old
-corrected-other best w bits old b e h = rw (corrected-true best w bits old, sym e ∙ h)
-
--- and of one that ran out
-corrected-out : (found : Bool) (x w : Float) (bits old new : List ℕ) → new ≡ cond found old bits → new ≡ corrected false (bestOf found x) w bits old
-corrected-out true x w bits old new q = q
-corrected-out false x w bits old new q = q
-
 module _ (x : Shot) (r : ℕ) (best best′ : Option Float) (num num′ total total′ : ℕ) (ss ss′ is is′ : List ℕ) (ws ws′ : List Float) (row row′ cor cor′ : List ℕ) (p′ : List Float) (l : Leg) where
   -- all that it adds: `row` is its hard decision, and `row′` what it leaves of it
   pub row-turn : (c v : List Float) (b : Bool) (k : ℕ) → leg b k (state c v p′) ≡ l → row ≡ hardDecision p′ → length row ≡ x .graph .mechanisms
@@ -173,27 +147,6 @@ module _ (rows : List ℕ) (m r : ℕ) (z : Blank (r * m) rows) (h : r * m + m �
         rw (d, own) (row-spliced (l .converged) (hardDecision (l .left .posterior))) in
         ap (λ (k : Kept). kept (k .best) (k .numConverged) (k .totalIterations) (k .executedLegs) (k .legState) (k .legIterations) (k .legWeight) (take (r * m) rows ++ (row ++ tail)) (k .correction) (k .posterior)) e
         ∙ rw (back, mechanisms)
-
--- ---- a leg that converged, and one that ran out
-
-module _ (b : Bool) (best best′ : Option Float) (num num′ total total′ : ℕ) (ss is : List ℕ) (ws : List Float) (ss′ is′ : List ℕ) (ws′ : List Float) (row cor cor′ : List ℕ) (r k : ℕ) (w weight : Float) where
-  -- what the code wrote of one that converged is what a leg adds
-  pub record-converged : b ≡ true → w ≡ weight → (ss′ ≡ set ss r 2) × (is′ ≡ set is r k) × (ws′ ≡ set ws r w) → best′ ≡ bestAfter true best w
-      → (num′ ≡ num + 1) × (total′ ≡ total + k) → cor′ ≡ corrected true best w row cor
-      → (best′ ≡ bestAfter b best weight)
-      × (((num′ ≡ num + cond b 1 0) × (total′ ≡ total + k))
-      × (((ss′ ≡ set ss r (cond b 2 1)) × (is′ ≡ set is r k) × (ws′ ≡ set ws r (cond b weight zero⁺)))
-      × ((row ≡ cond b row (replicate (length row) 0)) × (cor′ ≡ corrected b best weight row cor))))
-  record-converged h e s q n o = rw (h, ← e) (q, (n, (s, (refl, o))))
-
-module _ (b found : Bool) (x weight : Float) (num total : ℕ) (ss is : List ℕ) (ws : List Float) (ss′ is′ : List ℕ) (ws′ : List Float) (row row′ cor cor′ : List ℕ) (r k : ℕ) where
-  -- and of one that ran out
-  pub record-out : b ≡ false → (ss′ ≡ set ss r 1) × (is′ ≡ set is r k) × (ws′ ≡ set ws r zero⁺) → row′ ≡ replicate (length row) 0 → cor′ ≡ cond found cor row
-      → (bestOf found x ≡ bestAfter b (bestOf found x) weight)
-      × (((num ≡ num + cond b 1 0) × (total + k ≡ total + k))
-      × (((ss′ ≡ set ss r (cond b 2 1)) × (is′ ≡ set is r k) × (ws′ ≡ set ws r (cond b weight zero⁺)))
-      × ((row′ ≡ cond b row (replicate (length row) 0)) × (cor′ ≡ corrected b (bestOf found x) weight row cor))))
-  record-out h s z q = rw h (refl, ((omega arith, refl), (s, (z, corrected-out found x weight row cor cor′ q))))
 
 -- how far the counts go
 pub counts-few : (b : Bool) (k num num′ total total′ : ℕ) → (num′ ≡ num + cond b 1 0) × (total′ ≡ total + k) → k ≤ 65535

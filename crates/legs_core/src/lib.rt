@@ -1,3 +1,2 @@
 // One leg of a decode, with its record in its place: `decode_core` alone calls it.
-pub mod bytes;
 pub mod one_leg;

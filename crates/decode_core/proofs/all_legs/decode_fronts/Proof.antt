@@ -6,7 +6,7 @@ use native.Mathlib.Omega.{arith}
 use lib.ListN.{length}
 use borrow.Rule.Slice.PartMut.{same-len-mid}
 use Rattle.calls_core.specs.Decode.{decodeLegs}
-use Rattle.legs_core.specs.Kept.{shotOf}
+use Rattle.tally_core.specs.Kept.{shotOf}
 use Rattle.decode_core.proofs.Faults.{cells-small}
 use Rattle.decode_core.proofs.Shots.{shot-is, front-lent, cells-lent, front-tail}
 use borrow.Author.Needs.{needs}

@@ -5,7 +5,7 @@ use mathlib.Core.Option.{none}
 use Prim.Native.Nat.{suc, _-_, _*_, _≤_}
 use native.Mathlib.Omega.{arith}
 use lib.ListN.{length}
-use Rattle.legs_core.specs.Kept.{shotOf, bestOf, kept, Results, Blank}
+use Rattle.tally_core.specs.Kept.{shotOf, bestOf, kept, Results, Blank}
 use borrow.Author.Needs.{needs}
 use Rattle.decode_core.proofs.Runs.{Reached, reached-start, run-on, run-ended, run-over, blank-start, blank-along}
 use Rattle.decode_core.proofs.all_legs.run_legs.Statement.{statement}

@@ -3,7 +3,7 @@
 use mathlib.Core.Path.{ap, _∙_}
 use lib.ListN.{replicate}
 use Rattle.numbers.specs.Floats.{zero⁺}
-use Rattle.legs_core.specs.Kept.{shotOf}
+use Rattle.tally_core.specs.Kept.{shotOf}
 use Rattle.calls_core.specs.Decode.{decodeLegs}
 use Rattle.decode_core.proofs.Shots.{starts-at, ends-at}
 use borrow.Author.Needs.{needs}

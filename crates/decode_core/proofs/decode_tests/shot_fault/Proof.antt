@@ -2,7 +2,7 @@
 -- Assumes nothing.
 use mathlib.Core.List.{[]}
 use Rattle.graph_core.specs.Graph.{graph}
-use Rattle.legs_core.specs.Kept.{shotFault}
+use Rattle.tally_core.specs.Kept.{shotFault}
 use Rattle.decode_core.proofs.WholeGraph.{whole}
 use Rattle.refusals.proofs.Tests.{or-refused, or-passed}
 use Rattle.decode_core.proofs.Faults.{mechanisms-few, lists-fault, legs-few}

@@ -1,7 +1,7 @@
 -- `legs_core::one_leg::leg_in_row` meets its contract. The leg is the definition's, and so is what it adds.
 -- Assumes nothing.
 use mathlib.Core.Path.{_∙_}
-use Rattle.legs_core.specs.Kept.{shotOf, bestOf}
+use Rattle.tally_core.specs.Kept.{shotOf, bestOf}
 use Rattle.legs_core.proofs.Records.{row-turn, counts-few}
 use borrow.Author.Needs.{needs}
 use Rattle.legs_core.proofs.one_leg.leg_in_row.Statement.{statement}

@@ -5,7 +5,7 @@ use Prim.Native.Nat.{_+_, _*_}
 use native.Mathlib.Omega.{arith}
 use lib.ListN.{length}
 use borrow.Rule.Slice.PartMut.{post-is, mid-len}
-use Rattle.legs_core.specs.Kept.{shotOf, bestOf}
+use Rattle.tally_core.specs.Kept.{shotOf, bestOf}
 use Rattle.legs_core.proofs.Records.{row-within, row-small, blank-after, rows-turn}
 use borrow.Author.Needs.{needs}
 use Rattle.legs_core.proofs.one_leg.next_leg.Statement.{statement}

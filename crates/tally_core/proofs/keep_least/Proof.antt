@@ -1,11 +1,11 @@
--- `legs_core::one_leg::keep_least` meets its contract. Each arm is the definition's, by whether the weight is better.
+-- `tally_core::keep_least` meets its contract. Each arm is the definition's, by whether the weight is better.
 -- Assumes nothing.
 use mathlib.Core.Path.{refl}
-use Rattle.legs_core.specs.Kept.{bestOf}
-use Rattle.legs_core.proofs.Records.{least-better, least-other, corrected-better, corrected-other}
+use Rattle.tally_core.specs.Kept.{bestOf}
+use Rattle.tally_core.proofs.Tallies.{least-better, least-other, corrected-better, corrected-other}
 use borrow.Author.Needs.{needs}
-use Rattle.legs_core.proofs.one_leg.keep_least.Statement.{statement}
-use Rattle.legs_core.proofs.one_leg.keep_least.Tie as tie
+use Rattle.tally_core.proofs.keep_least.Statement.{statement}
+use Rattle.tally_core.proofs.keep_least.Tie as tie
 
 add-converged : tie.Need-add-converged
 add-converged c = search needs

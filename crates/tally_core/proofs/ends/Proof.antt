@@ -1,9 +1,9 @@
--- `legs_core::one_leg::ends` meets its contract. A refusal ends the legs, and so do enough that converged.
+-- `tally_core::ends` meets its contract. A refusal ends the legs, and so do enough that converged.
 -- Assumes nothing.
 use Rattle.numbers.proofs.Cases.{was-true}
 use borrow.Author.Needs.{needs}
-use Rattle.legs_core.proofs.one_leg.ends.Statement.{statement}
-use Rattle.legs_core.proofs.one_leg.ends.Tie as tie
+use Rattle.tally_core.proofs.ends.Statement.{statement}
+use Rattle.tally_core.proofs.ends.Tie as tie
 
 is-done-requires : tie.Need-is-done-requires
 is-done-requires c κs = search needs

@@ -1,12 +1,12 @@
--- `legs_core::bytes::clear_bytes` meets its contract. The invariant: the elements passed are 0.
+-- `tally_core::bytes::clear_bytes` meets its contract. The invariant: the elements passed are 0.
 -- Assumes nothing.
 use mathlib.Core.Path.{_≡_, refl}
 use Prim.Native.Nat.{_≤_, _-_}
 use native.Mathlib.Omega.{arith}
 use lib.ListN.{length, take, replicate, length-set}
 use Rattle.numbers.proofs.Turns.{fill-turn, fill-done}
-use Rattle.legs_core.proofs.bytes.clear_bytes.Statement.{statement}
-use Rattle.legs_core.proofs.bytes.clear_bytes.Tie as tie
+use Rattle.tally_core.proofs.bytes.clear_bytes.Statement.{statement}
+use Rattle.tally_core.proofs.bytes.clear_bytes.Tie as tie
 
 abbrev Inv-loop : tie.InvT-loop
 Inv-loop xs₀ i₀ xs i = (i ≤ length xs) × (length xs ≡ length xs₀) × (take i xs ≡ replicate i 0)

@@ -1,11 +1,11 @@
--- `legs_core::one_leg::record_leg` meets its contract. A leg that converged, and one that ran out, each as the definition records it.
+-- `tally_core::record_leg` meets its contract. A leg that converged, and one that ran out, each as the definition records it.
 -- Assumes nothing.
 use lib.Ieee.{ofBits}
-use Rattle.legs_core.specs.Kept.{bestOf}
-use Rattle.legs_core.proofs.Records.{record-converged, record-out}
+use Rattle.tally_core.specs.Kept.{bestOf}
+use Rattle.tally_core.proofs.Tallies.{record-converged, record-out}
 use borrow.Author.Needs.{needs}
-use Rattle.legs_core.proofs.one_leg.record_leg.Statement.{statement}
-use Rattle.legs_core.proofs.one_leg.record_leg.Tie as tie
+use Rattle.tally_core.proofs.record_leg.Statement.{statement}
+use Rattle.tally_core.proofs.record_leg.Tie as tie
 
 correction-weight-requires : tie.Need-correction-weight-requires
 correction-weight-requires c κs = search needs

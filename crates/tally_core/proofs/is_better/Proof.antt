@@ -1,8 +1,8 @@
--- `legs_core::one_leg::is_better` meets its contract. The first weight is better than none, and another where it is below the best.
+-- `tally_core::is_better` meets its contract. The first weight is better than none, and another where it is below the best.
 -- Assumes nothing.
 use borrow.Author.Needs.{needs}
-use Rattle.legs_core.proofs.one_leg.is_better.Statement.{statement}
-use Rattle.legs_core.proofs.one_leg.is_better.Tie as tie
+use Rattle.tally_core.proofs.is_better.Statement.{statement}
+use Rattle.tally_core.proofs.is_better.Tie as tie
 
 returns : tie.Need-returns
 returns c = rw (c .if1 .taken)

@@ -1,4 +1,4 @@
--- `legs_core::bytes::copy_bytes` meets its contract. The invariant: the elements passed are the same.
+-- `tally_core::bytes::copy_bytes` meets its contract. The invariant: the elements passed are the same.
 -- Assumes nothing.
 use mathlib.Core.Path.{_≡_, refl, sym, _∙_}
 use Prim.Native.Nat.{_≤_, _-_}
@@ -6,8 +6,8 @@ use native.Mathlib.Omega.{arith}
 use lib.ListN.{length, take, length-set}
 use lib.Seq.{take-all}
 use Rattle.numbers.proofs.Turns.{copy-turn}
-use Rattle.legs_core.proofs.bytes.copy_bytes.Statement.{statement}
-use Rattle.legs_core.proofs.bytes.copy_bytes.Tie as tie
+use Rattle.tally_core.proofs.bytes.copy_bytes.Statement.{statement}
+use Rattle.tally_core.proofs.bytes.copy_bytes.Tie as tie
 
 abbrev Inv-loop : tie.InvT-loop
 Inv-loop from to₀ i₀ to i = (i ≤ length from) × (length to ≡ length from) × (take i to ≡ take i from)

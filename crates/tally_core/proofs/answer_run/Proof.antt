@@ -1,7 +1,7 @@
--- `legs_core::one_leg::answer_run` meets its contract. By whether a leg converged.
+-- `tally_core::answer_run` meets its contract. By whether a leg converged.
 -- Assumes nothing.
-use Rattle.legs_core.proofs.one_leg.answer_run.Statement.{statement}
-use Rattle.legs_core.proofs.one_leg.answer_run.Tie as tie
+use Rattle.tally_core.proofs.answer_run.Statement.{statement}
+use Rattle.tally_core.proofs.answer_run.Tie as tie
 
 returns : tie.Need-returns
 returns c = rw (c .if1 .taken)

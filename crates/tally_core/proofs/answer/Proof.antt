@@ -1,8 +1,8 @@
--- `legs_core::one_leg::answer` meets its contract. Each arm answers what the definition says.
+-- `tally_core::answer` meets its contract. Each arm answers what the definition says.
 -- Assumes nothing.
 use borrow.Author.Needs.{needs}
-use Rattle.legs_core.proofs.one_leg.answer.Statement.{statement}
-use Rattle.legs_core.proofs.one_leg.answer.Tie as tie
+use Rattle.tally_core.proofs.answer.Statement.{statement}
+use Rattle.tally_core.proofs.answer.Tie as tie
 
 enum-known-a : tie.Need-enum-known-a
 enum-known-a c = search needs
