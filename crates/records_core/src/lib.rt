@@ -1,4 +1,4 @@
-// The grammar of the record stream: 41 to 45, test by test, and the fields of payloads. `records` alone calls it. What they mean stands in specs/.
+// The grammar of the record stream: 41 to 45, test by test, and the fields of payloads. `records` and `shots_core` alone call it. What they mean stands in specs/.
 pub mod fields;
 pub mod rules;
 
