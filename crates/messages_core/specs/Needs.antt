@@ -1,4 +1,4 @@
--- What inner functions ask of the lists that they walk, beside `Offsets` and `Keys` of `graph`: entries that rise; and of two least magnitudes. Records for private contracts, and no
+-- What inner functions ask of the lists that they walk, beside `Offsets` and `Keys` of `graph_core`: entries that rise; and of two least magnitudes. Records for private contracts, and no
 -- part of what a reader must believe: no public contract cites them. Definitions only. Assumes nothing.
 use Prim.Native.Nat.{ℕ, _<_}
 use mathlib.Core.Path.{_≡_}
