@@ -1,6 +1,6 @@
-// The public calls with the C calling convention: numbers and slices only, each one call with its contract. A slice passes as a pointer and then a length, a list of fixed
-// length as a pointer alone, a bool as 1 or 0, an answer as its code. No call has a proof of its own, so an edit of must-fail/ can comment out
-// those that it does not try.
+// The public calls with the C calling convention, for users: numbers and slices only, each one call with its contract. A slice passes as a
+// pointer and then a length, a list of fixed length as a pointer alone, a bool as 1 or 0, an answer as its code. No call has a proof of its
+// own, so an edit of must-fail/ can comment out those that it does not try.
 ghost use mathlib.Core.Path.{_≡_};
 ghost use mathlib.Core.Bool.{false, not};
 ghost use mathlib.Core.List.{[], _∷_};
@@ -10,30 +10,30 @@ ghost use lib.ListN.{length};
 ghost use Rattle.numbers.specs.Floats.{abs, isFinite, isNegative, messageSign};
 ghost use Rattle.numbers.specs.Draw.{product, advanced, mixed, unit as unitOf, gamma as gammaOf};
 ghost use Rattle.numbers.specs.Loops.{over};
-ghost use Rattle.graph_core.specs.Graph.{graph as graphOf};
-ghost use Rattle.graph_core.specs.Model.{buildSparse, countEdges, buildDense, graphFault};
+ghost use Rattle.graph_lists.specs.Graph.{graph as graphOf};
+ghost use Rattle.graph_lists.specs.Model.{buildSparse, countEdges, buildDense, graphFault};
 ghost use Rattle.min_sum.specs.Beliefs.{lists, beliefs as beliefsOf};
-ghost use Rattle.settings.specs.Settings.{published, alphaGood, settingsFault};
-ghost use Rattle.relay_core.specs.Step.{state};
-ghost use Rattle.calls_core.specs.Calls.{stepLists, iterationCall, decode as decodeOf, decodeInOrder, legRecord, valuesOf};
-ghost use Rattle.records_core.specs.Stream.{seed as seedOf, isOfShot};
-ghost use Rattle.records.specs.Reading.{fresh, isWhole, held, pushed, verdict as verdictOf, atEnd};
-ghost use Rattle.records_core.specs.Fields.{countsOf, modelLists, modelRead, settingsOf as settingsRead};
-ghost use Rattle.lines.specs.Lines.{shotLine, refusedLine, stoppedLine, endLine, unlessTooLong};
-ghost use Rattle.session.specs.Shots.{start, byteTaken, endText};
-ghost use Rattle.codes_core.specs.Codes.{bitOf, codeOf, numberIn, placeIn, scheduleOf, settingsOf, byteOf, floatsIn, countsIn};
-ghost use Rattle.words_core.specs.Words.{readerOf, readerWords, isSet, sessionOf, sessionWords, sessionFloats};
-ghost use Rattle.handing_core.specs.Answers.{sent, sentOf, left, leftBy, stepLeft, stepLeftBy, listsOf, decodeLeft, decodeLeftBy};
-use codes_core::answers;
-use handing_core::beliefs;
-use handing_core::decodes;
-use handing_core::floats;
-use handing_core::graphs;
-use handing_core::legs;
-use handing_core::point;
-use handing_core::reading;
-use handing_core::sessions;
-use handing_core::steps;
+ghost use Rattle.relay_settings.specs.Settings.{published, alphaGood, settingsFault};
+ghost use Rattle.relay_step.specs.Step.{state};
+ghost use Rattle.relay_calls.specs.Calls.{stepLists, iterationCall, decode as decodeOf, decodeInOrder, legRecord, valuesOf};
+ghost use Rattle.stream_grammar.specs.Stream.{seed as seedOf, isOfShot};
+ghost use Rattle.stream_reader.specs.Reading.{fresh, isWhole, held, pushed, verdict as verdictOf, atEnd};
+ghost use Rattle.stream_grammar.specs.Fields.{countsOf, modelLists, modelRead, settingsOf as settingsRead};
+ghost use Rattle.stream_lines.specs.Lines.{shotLine, refusedLine, stoppedLine, endLine, unlessTooLong};
+ghost use Rattle.stream_session.specs.Shots.{start, byteTaken, endText};
+ghost use Rattle.exports_values.specs.Codes.{bitOf, codeOf, numberIn, placeIn, scheduleOf, settingsOf, byteOf, floatsIn, countsIn};
+ghost use Rattle.exports_words.specs.Words.{readerOf, readerWords, isSet, sessionOf, sessionWords, sessionFloats};
+ghost use Rattle.exports_bodies.specs.Answers.{sent, sentOf, left, leftBy, stepLeft, stepLeftBy, listsOf, decodeLeft, decodeLeftBy};
+use exports_bodies::beliefs;
+use exports_bodies::decodes;
+use exports_bodies::floats;
+use exports_bodies::graphs;
+use exports_bodies::legs;
+use exports_bodies::point;
+use exports_bodies::reading;
+use exports_bodies::sessions;
+use exports_bodies::steps;
+use exports_values::answers;
 
 // ---- the graph
 
@@ -189,7 +189,7 @@ pub extern "C" fn chowderkite_beliefs(
 
 // ---- Relay
 
-// `settings::Settings::published`.
+// `relay_settings::Settings::published`.
 #[no_mangle]
 pub extern "C" fn chowderkite_published(floats: &mut [f64; 4], counts: &mut [u64; 4]) -> u8
     ensures schedule { λ r. ⌜ r ≡ byteOf (published .schedule) ⌝ }
@@ -199,7 +199,7 @@ pub extern "C" fn chowderkite_published(floats: &mut [f64; 4], counts: &mut [u64
     point::published(floats, counts)
 }
 
-// `settings::alpha_good`.
+// `relay_settings::alpha_good`.
 #[no_mangle]
 pub extern "C" fn chowderkite_alpha_good(alpha: f64) -> u8
     ensures { λ r. ⌜ r ≡ bitOf (alphaGood alpha) ⌝ }
@@ -207,7 +207,7 @@ pub extern "C" fn chowderkite_alpha_good(alpha: f64) -> u8
     floats::alpha_good(alpha)
 }
 
-// `settings::check_settings`.
+// `relay_settings::check_settings`.
 #[no_mangle]
 pub extern "C" fn chowderkite_check_settings(
     schedule: u8,
@@ -576,7 +576,7 @@ pub extern "C" fn chowderkite_gamma(low: f64, high: f64, draw: u64) -> f64
 
 // ---- the record stream
 
-// `records::Reader::new`.
+// `stream_reader::Reader::new`.
 #[no_mangle]
 pub extern "C" fn chowderkite_reader_new(offset: usize, reader: &mut [usize; 8])
     ensures { λ _. ⌜ now (reader .exit) ≡ readerWords (fresh offset) ⌝ }
@@ -584,7 +584,7 @@ pub extern "C" fn chowderkite_reader_new(offset: usize, reader: &mut [usize; 8])
     reading::reader_new(offset, reader);
 }
 
-// `records::is_whole`.
+// `stream_reader::is_whole`.
 #[no_mangle]
 pub extern "C" fn chowderkite_is_whole(reader: &[usize; 8]) -> u8
     ensures { λ r. ⌜ r ≡ bitOf (isWhole (readerOf (now (reader .entry)))) ⌝ }
@@ -592,7 +592,7 @@ pub extern "C" fn chowderkite_is_whole(reader: &[usize; 8]) -> u8
     reading::is_whole(reader)
 }
 
-// `records::push`.
+// `stream_reader::push`.
 #[no_mangle]
 pub extern "C" fn chowderkite_push(reader: &mut [usize; 8], byte: u8, payload: &mut [u8])
     ensures reader { λ _. ⌜ now (reader .exit) ≡ readerWords (pushed (held (readerOf (now (reader .entry))) (now (payload .entry))) byte .reader) ⌝ }
@@ -601,7 +601,7 @@ pub extern "C" fn chowderkite_push(reader: &mut [usize; 8], byte: u8, payload: &
     reading::push(reader, byte, payload);
 }
 
-// `records::verdict`.
+// `stream_reader::verdict`.
 #[no_mangle]
 pub extern "C" fn chowderkite_verdict(
     reader: &[usize; 8],
@@ -614,7 +614,7 @@ pub extern "C" fn chowderkite_verdict(
     reading::verdict(reader, payload, has_model, has_settings)
 }
 
-// `records::at_end`.
+// `stream_reader::at_end`.
 #[no_mangle]
 pub extern "C" fn chowderkite_at_end(reader: &[usize; 8]) -> u64
     ensures { λ r. ⌜ r ≡ codeOf (atEnd (readerOf (now (reader .entry)))) ⌝ }
@@ -622,7 +622,7 @@ pub extern "C" fn chowderkite_at_end(reader: &[usize; 8]) -> u64
     reading::at_end(reader)
 }
 
-// `records::read_counts`.
+// `stream_reader::read_counts`.
 #[no_mangle]
 pub extern "C" fn chowderkite_read_counts(payload: &[u8], counts: &mut [usize; 3])
     ensures { λ _. ⌜ now (counts .exit) ≡ countsOf (now (payload .entry)) .checks ∷ (countsOf (now (payload .entry)) .mechanisms ∷ (countsOf (now (payload .entry)) .edges ∷ [])) ⌝ }
@@ -630,7 +630,7 @@ pub extern "C" fn chowderkite_read_counts(payload: &[u8], counts: &mut [usize; 3
     reading::read_counts(payload, counts);
 }
 
-// `records::read_model`.
+// `stream_reader::read_model`.
 #[no_mangle]
 pub extern "C" fn chowderkite_read_model(
     payload: &[u8],
@@ -640,10 +640,10 @@ pub extern "C" fn chowderkite_read_model(
 )
     ensures { λ _. ⌜ modelLists (now (priors .exit)) (now («detector_offsets» .exit)) (now (detectors .exit)) ≡ modelRead (now (payload .entry)) (modelLists (now (priors .entry)) (now («detector_offsets» .entry)) (now (detectors .entry))) ⌝ }
 {
-    records::read_model(payload, priors, detector_offsets, detectors);
+    stream_reader::read_model(payload, priors, detector_offsets, detectors);
 }
 
-// `records::read_settings`.
+// `stream_reader::read_settings`.
 #[no_mangle]
 pub extern "C" fn chowderkite_read_settings(
     payload: &[u8],
@@ -657,15 +657,15 @@ pub extern "C" fn chowderkite_read_settings(
     reading::read_settings(payload, floats, counts)
 }
 
-// `records::read_seed`.
+// `stream_reader::read_seed`.
 #[no_mangle]
 pub extern "C" fn chowderkite_read_seed(payload: &[u8]) -> u64
     ensures { λ r. ⌜ r ≡ seedOf (now (payload .entry)) ⌝ }
 {
-    records::read_seed(payload)
+    stream_reader::read_seed(payload)
 }
 
-// `records::is_of_shot`.
+// `stream_reader::is_of_shot`.
 #[no_mangle]
 pub extern "C" fn chowderkite_is_of_shot(number: usize) -> u8
     ensures { λ r. ⌜ r ≡ bitOf (isOfShot number) ⌝ }
@@ -675,7 +675,7 @@ pub extern "C" fn chowderkite_is_of_shot(number: usize) -> u8
 
 // ---- the lines of `shots`
 
-// `lines::shot_line`.
+// `stream_lines::shot_line`.
 #[no_mangle]
 pub extern "C" fn chowderkite_shot_line(
     number: usize,
@@ -691,7 +691,7 @@ pub extern "C" fn chowderkite_shot_line(
     sessions::shot_line(number, converged, total, legs, bits, line)
 }
 
-// `lines::refused_line`.
+// `stream_lines::refused_line`.
 #[no_mangle]
 pub extern "C" fn chowderkite_refused_line(
     number: usize,
@@ -700,10 +700,10 @@ pub extern "C" fn chowderkite_refused_line(
 ) -> usize
     ensures { λ r. ⌜ (r ≡ length (refusedLine number code)) × (now (line .exit) ≡ over (refusedLine number code) (now (line .entry))) ⌝ }
 {
-    lines::refused_line(number, code, line)
+    stream_lines::refused_line(number, code, line)
 }
 
-// `lines::stopped_line`.
+// `stream_lines::stopped_line`.
 #[no_mangle]
 pub extern "C" fn chowderkite_stopped_line(
     code: usize,
@@ -712,20 +712,20 @@ pub extern "C" fn chowderkite_stopped_line(
 ) -> usize
     ensures { λ r. ⌜ (r ≡ length (stoppedLine code offset)) × (now (line .exit) ≡ over (stoppedLine code offset) (now (line .entry))) ⌝ }
 {
-    lines::stopped_line(code, offset, line)
+    stream_lines::stopped_line(code, offset, line)
 }
 
-// `lines::end_line`.
+// `stream_lines::end_line`.
 #[no_mangle]
 pub extern "C" fn chowderkite_end_line(shots: usize, line: &mut [u8; 512]) -> usize
     ensures { λ r. ⌜ (r ≡ length (endLine shots)) × (now (line .exit) ≡ over (endLine shots) (now (line .entry))) ⌝ }
 {
-    lines::end_line(shots, line)
+    stream_lines::end_line(shots, line)
 }
 
 // ---- a session of `shots`
 
-// `session::Session::new`.
+// `stream_session::Session::new`.
 #[no_mangle]
 pub extern "C" fn chowderkite_session_new(words: &mut [usize; 21], floats: &mut [f64; 4])
     ensures words { λ _. ⌜ now (words .exit) ≡ sessionWords start ⌝ }
@@ -734,7 +734,7 @@ pub extern "C" fn chowderkite_session_new(words: &mut [usize; 21], floats: &mut 
     sessions::session_new(words, floats);
 }
 
-// `session::take`.
+// `stream_session::take`.
 #[no_mangle]
 pub extern "C" fn chowderkite_take(
     words: &mut [usize; 21],
@@ -753,7 +753,7 @@ pub extern "C" fn chowderkite_take(
     sessions::take(words, floats, byte, payload, model, line);
 }
 
-// `session::finish`.
+// `stream_session::finish`.
 #[no_mangle]
 pub extern "C" fn chowderkite_finish(
     words: &[usize; 21],

@@ -13,17 +13,17 @@ use Rattle.refusals.proofs.Tests.{or-done}
 use Rattle.refusals.specs.Tests.{firstOf, unlessRefused}
 use Rattle.refusals.specs.declared.Answer.{Answer}
 use Rattle.refusals.specs.declared.Answer.the-variants.{Done}
-use Rattle.graph_core.specs.Graph.{Graph, graphOf, among, marked, told}
-use Rattle.graph_core.specs.Lists.{has}
-use Rattle.graph_core.specs.Model.{edgesGood, graphFits, denseFits, priorGood, priorFault, isGraph, Outcome, outcome, built, sparseFault, buildSparse, countEdges, denseFault, buildDense, graphFault, countsGood}
-use Rattle.graph_core.specs.Steps.{Valid}
-use Rattle.graph_core.proofs.Built.{sparse-length}
-use Rattle.graph_core.proofs.DenseTests.{dense-5, DenseTold, dense-told, dense-done}
-use Rattle.graph_core.proofs.GraphTests.{graph-told}
-use Rattle.graph_core.proofs.Matrix.{matrix-edges}
-use Rattle.graph_core.proofs.Models.{GoodPriors, good-none, none-good, mechanisms-good, built-from, graph-checked}
-use Rattle.graph_core.proofs.Sameness.{graph-agrees, is-graph-told, is-graph-some}
-use Rattle.graph_core.proofs.SparseTests.{Told, sparse-told}
+use Rattle.graph_lists.specs.Graph.{Graph, graphOf, among, marked, told}
+use Rattle.graph_lists.specs.Lists.{has}
+use Rattle.graph_lists.specs.Model.{edgesGood, graphFits, denseFits, priorGood, priorFault, isGraph, Outcome, outcome, built, sparseFault, buildSparse, countEdges, denseFault, buildDense, graphFault, countsGood}
+use Rattle.graph_lists.specs.Steps.{Valid}
+use Rattle.graph_lists.proofs.Built.{sparse-length}
+use Rattle.graph_lists.proofs.DenseTests.{dense-5, DenseTold, dense-told, dense-done}
+use Rattle.graph_lists.proofs.GraphTests.{graph-told}
+use Rattle.graph_lists.proofs.Matrix.{matrix-edges}
+use Rattle.graph_lists.proofs.Models.{GoodPriors, good-none, none-good, mechanisms-good, built-from, graph-checked}
+use Rattle.graph_lists.proofs.Sameness.{graph-agrees, is-graph-told, is-graph-some}
+use Rattle.graph_lists.proofs.SparseTests.{Told, sparse-told}
 
 -- ---- the lists that a builder wrote
 

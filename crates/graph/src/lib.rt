@@ -1,24 +1,24 @@
-// The Tanner graph of a model: its sizes, its six lists from a sparse or a dense model, and the test of lists that a caller lends.
-// Every call takes every input; a refusal writes nothing.
+// The Tanner graph of a model, for users: its sizes, its six lists from a sparse or a dense model, and the test of lists that a caller
+// lends. Every call takes every input; a refusal writes nothing.
 ghost use mathlib.Core.Path.{_≡_};
-ghost use Rattle.graph_core.specs.Graph.{graph};
-ghost use Rattle.graph_core.specs.Model.{outcome, buildSparse, countEdges, buildDense, graphFault};
-use graph_core::build::from_detectors;
-use graph_core::dense::from_matrix;
-use model_core::dense_fault;
-use model_core::lists_fit;
-use model_core::priors_fault;
-use model_core::seven::is_graph;
-use model_core::sizes_good;
-use model_core::sparse_fault;
+ghost use Rattle.graph_lists.specs.Graph.{graph};
+ghost use Rattle.graph_lists.specs.Model.{outcome, buildSparse, countEdges, buildDense, graphFault};
+use graph_lists::build::from_detectors;
+use graph_lists::dense::from_matrix;
+use graph_tests::dense_fault;
+use graph_tests::lists_fit;
+use graph_tests::priors_fault;
+use graph_tests::seven::is_graph;
+use graph_tests::sizes_good;
+use graph_tests::sparse_fault;
 use refusals::Answer;
 use refusals::Refusal;
-use tests_core::both;
-use tests_core::is_done;
-use tests_core::same_number;
+use refusals_tests::both;
+use refusals_tests::is_done;
+use refusals_tests::same_number;
 
 // How many checks, mechanisms and edges a model has.
-pub type Size = graph_core::Size;
+pub type Size = graph_lists::Size;
 
 // The graph of a sparse model, in the caller's lists: mechanism m's detectors stand in `detectors` from offset m to offset m + 1.
 pub fn build_sparse(

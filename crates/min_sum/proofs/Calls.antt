@@ -12,13 +12,13 @@ use Rattle.refusals.proofs.Tests.{done-is, or-done, unless-done}
 use Rattle.refusals.specs.declared.Answer.{Answer}
 use Rattle.refusals.specs.declared.Answer.the-variants.{Done, Refused}
 use Rattle.refusals.specs.Tests.{isDone, firstOf, unlessRefused}
-use Rattle.graph_core.specs.Graph.{Graph, graph}
-use Rattle.graph_core.specs.Messages.{cleared, fromVariables, valueFault, posteriorFault}
-use Rattle.graph_core.proofs.GraphTests.{graph-told}
-use Rattle.messages_core.specs.Needs.{Walks, walked}
-use Rattle.messages_core.proofs.Parts.{walks-both}
-use Rattle.messages_core.proofs.Walks.{graph-walks}
-use Rattle.min_sum_core.specs.MinSum.{skipped, updateCheck, rawPosterior, updateVariable, parallelCheck, checksTo, variablesTo, parallelIteration, serialCheck, serialTo, serialIteration, averagedTo, averaged, startRound, turned, turn, roundTo, round, rounds, chosenTo, minSumBp}
+use Rattle.graph_lists.specs.Graph.{Graph, graph}
+use Rattle.graph_lists.specs.Messages.{cleared, fromVariables, valueFault, posteriorFault}
+use Rattle.graph_lists.proofs.GraphTests.{graph-told}
+use Rattle.graph_messages.specs.Needs.{Walks, walked}
+use Rattle.graph_messages.proofs.Parts.{walks-both}
+use Rattle.graph_messages.proofs.Walks.{graph-walks}
+use Rattle.min_sum_pass.specs.MinSum.{skipped, updateCheck, rawPosterior, updateVariable, parallelCheck, checksTo, variablesTo, parallelIteration, serialCheck, serialTo, serialIteration, averagedTo, averaged, startRound, turned, turn, roundTo, round, rounds, chosenTo, minSumBp}
 use Rattle.min_sum.specs.Beliefs.{Lists, lists, Outcome, outcome, listsFit, beliefsFault, ran, afterTests, beliefs}
 
 -- ---- what a run leaves

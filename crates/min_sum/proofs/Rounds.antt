@@ -10,10 +10,10 @@ use lib.ListN.{length, getD, take, set, replicate}
 use borrow.Author.Tests.{not-true, not-false, le-leb, lt-leb}
 use Rattle.numbers.specs.Floats.{zero⁺, abs}
 use Rattle.numbers.proofs.Turns.{turns-turn, table-turn}
-use Rattle.graph_core.specs.Graph.{Graph}
-use Rattle.graph_core.specs.Messages.{cleared, fromVariables}
-use Rattle.messages_core.specs.Needs.{walked, ofChecks, ofVariables}
-use Rattle.min_sum_core.specs.MinSum.{Messages, messages, Belief, belief, skipped, updateCheck, parallelCheck, rawPosterior, updateVariable, checksTo, variablesTo, serialTo, parallelIteration, serialIteration, averagedTo, averaged, weightOf, startRound, turned, turn, roundTo, round, rounds, chosen, chosenTo, minSumBp}
+use Rattle.graph_lists.specs.Graph.{Graph}
+use Rattle.graph_lists.specs.Messages.{cleared, fromVariables}
+use Rattle.graph_messages.specs.Needs.{walked, ofChecks, ofVariables}
+use Rattle.min_sum_pass.specs.MinSum.{Messages, messages, Belief, belief, skipped, updateCheck, parallelCheck, rawPosterior, updateVariable, checksTo, variablesTo, serialTo, parallelIteration, serialIteration, averagedTo, averaged, weightOf, startRound, turned, turn, roundTo, round, rounds, chosen, chosenTo, minSumBp}
 
 module _ (checks mechanisms : ℕ) (cv co vm vo : List ℕ) where
   -- the checks read nothing of the variables' side

@@ -5,7 +5,7 @@ use mathlib.Core.List.{List}
 use Prim.Native.Nat.{ℕ}
 use lib.Ieee.{Float}
 use Rattle.refusals.specs.declared.Answer.{Answer}
-use Rattle.graph_core.specs.Graph.{Graph}
+use Rattle.graph_lists.specs.Graph.{Graph}
 use Rattle.min_sum.specs.Beliefs.{Lists, Outcome, outcome, beliefs}
 
 -- two results that the contract of `beliefs` allows for one input coincide: the answer, and each lent list

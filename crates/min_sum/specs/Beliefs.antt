@@ -10,10 +10,10 @@ use Rattle.refusals.specs.declared.Refusal.the-variants.{BadIterations, Syndrom
 use Rattle.refusals.specs.declared.Answer.{Answer}
 use Rattle.refusals.specs.declared.Answer.the-variants.{Done, Refused}
 use Rattle.refusals.specs.Tests.{unless, orElse, unlessRefused}
-use Rattle.graph_core.specs.Graph.{Graph}
-use Rattle.graph_core.specs.Messages.{posteriorFault}
-use Rattle.graph_core.specs.Model.{graphFault}
-use Rattle.min_sum_core.specs.MinSum.{minSumBp}
+use Rattle.graph_lists.specs.Graph.{Graph}
+use Rattle.graph_lists.specs.Messages.{posteriorFault}
+use Rattle.graph_lists.specs.Model.{graphFault}
+use Rattle.min_sum_pass.specs.MinSum.{minSumBp}
 
 -- the lent lists: the posterior is the result, and the others are for work
 pub record Lists : Type 0 where

@@ -1,12 +1,12 @@
-// Min-sum beliefs over a Tanner graph: `min_sum_bp_into` of min_sum.rs, with the tests of document 01 before it.
+// Min-sum beliefs over a Tanner graph, for users: `min_sum_bp_into` of min_sum.rs, with its tests before it.
 mod run;
 mod tests;
 
 ghost use mathlib.Core.Path.{_≡_};
-ghost use Rattle.graph_core.specs.Graph.{graph};
+ghost use Rattle.graph_lists.specs.Graph.{graph};
 ghost use Rattle.min_sum.specs.Beliefs.{lists, outcome, beliefs as beliefsOf};
 use refusals::Answer;
-use tests_core::is_done;
+use refusals_tests::is_done;
 
 // The beliefs after so many iterations, serial or not. The posterior is the result; the running posterior and the messages are for work, and are zero after
 // any run. A call that its tests refuse writes nothing; refusal 30 zeroes the posterior.

@@ -3,13 +3,13 @@ ghost use mathlib.Core.Path.{_≡_};
 ghost use mathlib.Core.Bool.{true, false};
 ghost use mathlib.Core.List.{[]};
 ghost use lib.ListN.{length};
-ghost use Rattle.messages_core.specs.Needs.{Walks, walked, ofVariables};
-ghost use Rattle.min_sum_core.specs.MinSum.{messages, belief, weightOf, turned, round as roundOf, rounds as roundsOf, chosen as chosenOf, chosenTo, minSumBp};
+ghost use Rattle.graph_messages.specs.Needs.{Walks, walked, ofVariables};
+ghost use Rattle.min_sum_pass.specs.MinSum.{messages, belief, weightOf, turned, round as roundOf, rounds as roundsOf, chosen as chosenOf, chosenTo, minSumBp};
 ghost use Rattle.min_sum.specs.Beliefs.{lists, outcome, ran as ranOf};
 use refusals::Answer;
-use tests_core::both;
-use tests_core::is_done;
-use tests_core::same_number;
+use refusals_tests::both;
+use refusals_tests::is_done;
+use refusals_tests::same_number;
 
 // The weight of an iteration: 1 in the very first, else 0.3.
 fn weight(outer: usize, i: usize) -> f64
@@ -40,8 +40,8 @@ fn parallel_turn(
     requires { ⌜ (length (now «c_to_v») ≡ length (now «check_var»)) × (length (now «v_to_c») ≡ length (now «check_var»)) × (length (now «ewa_posterior») ≡ length (now priors)) ⌝ }
     ensures { λ _. ⌜ belief (messages (now («c_to_v» .exit)) (now («v_to_c» .exit))) (now («ewa_posterior» .exit)) ≡ turned (walked (length (now (syndrome .entry))) (length (now (priors .entry))) (now («check_var» .entry)) (now («check_offset» .entry)) (now («var_message» .entry)) (now («var_offset» .entry))) false scale (now (syndrome .entry)) (now (priors .entry)) weight (belief (messages (now («c_to_v» .entry)) (now («v_to_c» .entry))) (now («ewa_posterior» .entry))) ⌝ }
 {
-    min_sum_core::pass::parallel_checks(scale, syndrome, check_var, check_offset, v_to_c, c_to_v);
-    min_sum_core::pass::update_and_average(
+    min_sum_pass::pass::parallel_checks(scale, syndrome, check_var, check_offset, v_to_c, c_to_v);
+    min_sum_pass::pass::update_and_average(
         weight,
         priors,
         var_message,
@@ -71,7 +71,7 @@ fn serial_turn(
     requires { ⌜ (length (now «c_to_v») ≡ length (now «check_var»)) × (length (now «v_to_c») ≡ length (now «check_var»)) × (length (now «ewa_posterior») ≡ length (now priors)) ⌝ }
     ensures { λ _. ⌜ belief (messages (now («c_to_v» .exit)) (now («v_to_c» .exit))) (now («ewa_posterior» .exit)) ≡ turned (walked (length (now (syndrome .entry))) (length (now (priors .entry))) (now («check_var» .entry)) (now («check_offset» .entry)) (now («var_message» .entry)) (now («var_offset» .entry))) true scale (now (syndrome .entry)) (now (priors .entry)) weight (belief (messages (now («c_to_v» .entry)) (now («v_to_c» .entry))) (now («ewa_posterior» .entry))) ⌝ }
 {
-    min_sum_core::pass::serial_checks(
+    min_sum_pass::pass::serial_checks(
         scale,
         syndrome,
         priors,
@@ -82,7 +82,7 @@ fn serial_turn(
         c_to_v,
         v_to_c,
     );
-    min_sum_core::pass::average(
+    min_sum_pass::pass::average(
         weight,
         priors,
         var_message,
@@ -164,8 +164,8 @@ fn round(
     requires { ⌜ (length (now «c_to_v») ≡ length (now «check_var»)) × (length (now «v_to_c») ≡ length (now «check_var»)) × (length (now «ewa_posterior») ≡ length (now priors)) ⌝ }
     ensures { λ _. ⌜ belief (messages (now («c_to_v» .exit)) (now («v_to_c» .exit))) (now («ewa_posterior» .exit)) ≡ roundOf (walked (length (now (syndrome .entry))) (length (now (priors .entry))) (now («check_var» .entry)) (now («check_offset» .entry)) (now («var_message» .entry)) (now («var_offset» .entry))) serial scale (now (syndrome .entry)) (now (priors .entry)) inner outer (belief (messages (now («c_to_v» .entry)) (now («v_to_c» .entry))) (now («ewa_posterior» .entry))) ⌝ }
 {
-    messages_core::clear(c_to_v);
-    messages_core::from_variables(check_var, ewa_posterior, v_to_c);
+    graph_messages::clear(c_to_v);
+    graph_messages::from_variables(check_var, ewa_posterior, v_to_c);
     let mut i = 0;
     while i < inner {
         turn(
@@ -258,7 +258,7 @@ fn rounds(
     requires { ⌜ (length (now «c_to_v») ≡ length (now «check_var»)) × (length (now «v_to_c») ≡ length (now «check_var»)) × (length (now «ewa_posterior») ≡ length (now priors)) ⌝ }
     ensures { λ _. ⌜ belief (messages (now («c_to_v» .exit)) (now («v_to_c» .exit))) (now («ewa_posterior» .exit)) ≡ roundsOf (walked (length (now (syndrome .entry))) (length (now (priors .entry))) (now («check_var» .entry)) (now («check_offset» .entry)) (now («var_message» .entry)) (now («var_offset» .entry))) serial scale (now (syndrome .entry)) (now (priors .entry)) n ⌝ }
 {
-    messages_core::copy(priors, ewa_posterior);
+    graph_messages::copy(priors, ewa_posterior);
     if n < 6 {
         round(
             n,
@@ -321,7 +321,7 @@ fn choose(
 {
     let mut v = 0;
     while v < priors.len() {
-        let raw = min_sum_core::variable::raw_posterior(v, priors, var_message, var_offset, c_to_v);
+        let raw = min_sum_pass::variable::raw_posterior(v, priors, var_message, var_offset, c_to_v);
         posterior[v] = chosen(ewa_posterior[v], raw);
         v += 1;
     }
@@ -410,12 +410,12 @@ pub(crate) fn ran(
         ewa_posterior,
         posterior,
     );
-    messages_core::clear(ewa_posterior);
-    messages_core::clear(c_to_v);
-    messages_core::clear(v_to_c);
-    let a = messages_core::first_not_finite(posterior);
+    graph_messages::clear(ewa_posterior);
+    graph_messages::clear(c_to_v);
+    graph_messages::clear(v_to_c);
+    let a = graph_messages::first_not_finite(posterior);
     if !is_done(a) {
-        messages_core::clear(posterior);
+        graph_messages::clear(posterior);
     }
     a
 }

@@ -4,14 +4,14 @@ ghost use mathlib.Core.Bool.{_&&_};
 ghost use lib.Dec.{eqb, leb};
 ghost use Rattle.refusals.specs.declared.Refusal.the-variants.{BadIterations, SyndromeLength, LentListLength};
 ghost use Rattle.refusals.specs.Tests.{unless, orElse};
-ghost use Rattle.graph_core.specs.Graph.{graph};
-ghost use Rattle.graph_core.specs.Model.{graphFault};
+ghost use Rattle.graph_lists.specs.Graph.{graph};
+ghost use Rattle.graph_lists.specs.Model.{graphFault};
 use refusals::Answer;
 use refusals::Refusal;
-use tests_core::at_most;
-use tests_core::both;
-use tests_core::is_done;
-use tests_core::same_number;
+use refusals_tests::at_most;
+use refusals_tests::both;
+use refusals_tests::is_done;
+use refusals_tests::same_number;
 
 // How long the syndrome and the lent lists are.
 pub(crate) struct Lengths {

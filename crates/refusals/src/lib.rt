@@ -1,4 +1,4 @@
-// Every refusal of document 01 under one type, with its number and its place.
+// Every refusal under one type, with its number and its place, for users: docs/REFERENCE.md has the table.
 ghost use mathlib.Core.Path.{_≡_};
 ghost use Rattle.refusals.specs.Refusal.{numberOf, placeOf};
 

@@ -6,16 +6,16 @@ use mathlib.Core.Logic.{_↔_}
 use Rattle.refusals.specs.declared.Answer.{Answer}
 use Rattle.refusals.specs.declared.Answer.the-variants.{Done, Refused}
 use Rattle.refusals.proofs.Tests.{or-done}
-use Rattle.graph_core.specs.Graph.{Graph}
-use Rattle.graph_core.proofs.Sound.{Sound, passes-sound}
-use Rattle.graph_core.proofs.GraphTests.{graph-told}
-use Rattle.settings.specs.declared.Schedule.the-variants.{Flooding, CheckSerial}
+use Rattle.graph_lists.specs.Graph.{Graph}
+use Rattle.graph_lists.proofs.Sound.{Sound, passes-sound}
+use Rattle.graph_lists.proofs.GraphTests.{graph-told}
+use Rattle.relay_settings.specs.declared.Schedule.the-variants.{Flooding, CheckSerial}
 use Rattle.numbers.specs.Loops.{upto}
-use Rattle.orders_core.specs.Order.{NamesOnce, KeepsOrder, namesFault, exchangeFault}
-use Rattle.calls_core.specs.Decode.{Shot, Ended, decoded, refused, decodeLegs}
-use Rattle.calls_core.specs.Calls.{Lists, listsFit, decodeFault, leftBy, zeroed, afterLegs, afterTests, decodeInOrder, decode}
-use Rattle.orders_core.proofs.OrderWords.{upto-names, index-taken, none-exchanged-is}
-use Rattle.calls_core.proofs.Named.{names-told, names-taken}
+use Rattle.relay_orders.specs.Order.{NamesOnce, KeepsOrder, namesFault, exchangeFault}
+use Rattle.relay_calls.specs.Decode.{Shot, Ended, decoded, refused, decodeLegs}
+use Rattle.relay_calls.specs.Calls.{Lists, listsFit, decodeFault, leftBy, zeroed, afterLegs, afterTests, decodeInOrder, decode}
+use Rattle.relay_orders.proofs.OrderWords.{upto-names, index-taken, none-exchanged-is}
+use Rattle.relay_calls.proofs.Named.{names-told, names-taken}
 use Rattle.relay.proofs.SameOutcome.{inIndexOrder, decode-same}
 
 module _ (edges : ℕ) (x : Shot) (l : Lists) (names : namesFault (x .graph .checks) (x .order) ≡ Done) (free : exchangeFault (x .settings .schedule) (x .graph) (x .order) ≡ Done) where

@@ -12,15 +12,15 @@ use borrow.Author.Tests.{eqb-false}
 use Rattle.numbers.specs.Floats.{_+ᶠ_, _-ᶠ_, zero⁻}
 use Rattle.numbers.specs.Loops.{part, row, spliced}
 use Rattle.numbers.proofs.Loops.{length-table, Outside, length-part, getD-part, length-spliced, spliced-out}
-use Rattle.graph_core.specs.Lists.{has}
-use Rattle.graph_core.specs.Graph.{Graph, checkEntries, varEntries}
-use Rattle.graph_core.specs.Messages.{total}
-use Rattle.graph_core.proofs.Sound.{Sound}
-use Rattle.graph_core.proofs.Cuts.{offsets-rise, row-end}
-use Rattle.relay_core.specs.Step.{State, state, sentTo, checkMessages, updateCheck, written, updateVariable, serialCheck}
-use Rattle.orders_core.specs.Order.{shares}
-use Rattle.orders_core.proofs.All.{All, nil, cons, all-map, all-places, all-at, all-head, all-tail, any-none, or-left, or-right}
-use Rattle.relay_core.proofs.Parts.{Stands, out, within, stands, part-set, spliced-swap}
+use Rattle.graph_lists.specs.Lists.{has}
+use Rattle.graph_lists.specs.Graph.{Graph, checkEntries, varEntries}
+use Rattle.graph_lists.specs.Messages.{total}
+use Rattle.graph_lists.proofs.Sound.{Sound}
+use Rattle.graph_lists.proofs.Cuts.{offsets-rise, row-end}
+use Rattle.relay_step.specs.Step.{State, state, sentTo, checkMessages, updateCheck, written, updateVariable, serialCheck}
+use Rattle.relay_orders.specs.Order.{shares}
+use Rattle.relay_orders.proofs.All.{All, nil, cons, all-map, all-places, all-at, all-head, all-tail, any-none, or-left, or-right}
+use Rattle.relay_step.proofs.Parts.{Stands, out, within, stands, part-set, spliced-swap}
 
 -- ---- what the graph and the state are like
 

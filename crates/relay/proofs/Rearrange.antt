@@ -4,7 +4,7 @@ use mathlib.Core.Path.{_≡_, refl, sym, _∙_, ap}
 use mathlib.Core.List.{List, [], _∷_, _++_, foldl, foldl-append}
 use native.Mathlib.Omega.{arith}
 use Rattle.numbers.specs.Loops.{upto}
-use Rattle.orders_core.proofs.All.{All, nil, cons, all-map, all-left, all-right, all-append}
+use Rattle.relay_orders.proofs.All.{All, nil, cons, all-map, all-left, all-right, all-append}
 
 -- xs names 0 .. n - 1 once each, and the greatest may change places with all that stand after it; so does the next, among the rest; and so on
 pub data Orders (Free : ℕ → ℕ → Type 0) : ℕ → List ℕ → Type 0 where

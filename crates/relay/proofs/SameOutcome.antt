@@ -7,20 +7,20 @@ use native.Mathlib.Omega.{arith}
 use lib.Ieee.{Float}
 use lib.ListN.{length-replicate, length-map}
 use Rattle.refusals.specs.declared.Answer.the-variants.{Done}
-use Rattle.graph_core.specs.Graph.{Graph, checkEntries}
-use Rattle.graph_core.specs.Messages.{fromVariables, cleared}
-use Rattle.graph_core.proofs.Sound.{Sound}
-use Rattle.settings.specs.declared.Schedule.{Schedule}
-use Rattle.settings.specs.declared.Schedule.the-variants.{Flooding, CheckSerial}
-use Rattle.relay_core.specs.Step.{State, updateCheck, computeBias, checkPass, variablePass, floodingIteration, serialCheck, serialPass, checkSerialIteration, iteration}
+use Rattle.graph_lists.specs.Graph.{Graph, checkEntries}
+use Rattle.graph_lists.specs.Messages.{fromVariables, cleared}
+use Rattle.graph_lists.proofs.Sound.{Sound}
+use Rattle.relay_settings.specs.declared.Schedule.{Schedule}
+use Rattle.relay_settings.specs.declared.Schedule.the-variants.{Flooding, CheckSerial}
+use Rattle.relay_step.specs.Step.{State, updateCheck, computeBias, checkPass, variablePass, floodingIteration, serialCheck, serialPass, checkSerialIteration, iteration}
 use Rattle.numbers.specs.Loops.{upto}
-use Rattle.orders_core.specs.Order.{NamesOnce, exchanged, exchangeFault}
-use Rattle.relay_core.specs.Leg.{startLeg, runLeg, satisfied}
-use Rattle.gammas_core.specs.Gammas.{gammaOf}
-use Rattle.calls_core.specs.Decode.{Shot, Run, running, iterationLimit, stepOf, executedLeg, startRun, recorded, afterLeg, decodeLegs}
-use Rattle.calls_core.specs.Calls.{withOrder}
-use Rattle.calls_core.proofs.Calls.{legs-agree}
-use Rattle.orders_core.proofs.Counts.{names-below}
+use Rattle.relay_orders.specs.Order.{NamesOnce, exchanged, exchangeFault}
+use Rattle.relay_step.specs.Leg.{startLeg, runLeg, satisfied}
+use Rattle.relay_gammas.specs.Gammas.{gammaOf}
+use Rattle.relay_calls.specs.Decode.{Shot, Run, running, iterationLimit, stepOf, executedLeg, startRun, recorded, afterLeg, decodeLegs}
+use Rattle.relay_calls.specs.Calls.{withOrder}
+use Rattle.relay_calls.proofs.Calls.{legs-agree}
+use Rattle.relay_orders.proofs.Counts.{names-below}
 use Rattle.relay.proofs.Rearrange.{keeps, same}
 use Rattle.relay.proofs.Witness.{FreeIf, orders, Apart, keeps-order, keeps-any}
 use Rattle.relay.proofs.Exchange.{Sized, keep-check, keep-variable, keep-serial, swap-checks, swap-serial}

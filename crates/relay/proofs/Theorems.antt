@@ -10,18 +10,18 @@ use lib.Ieee.{Float}
 use Rattle.refusals.specs.declared.Refusal.the-variants.{OrderExchanged}
 use Rattle.refusals.specs.declared.Answer.{Answer}
 use Rattle.refusals.specs.declared.Answer.the-variants.{Done, Refused}
-use Rattle.graph_core.specs.Graph.{Graph, checkEntries}
-use Rattle.settings.specs.declared.Schedule.{Schedule}
-use Rattle.settings.specs.declared.Schedule.the-variants.{Flooding, CheckSerial}
-use Rattle.calls_core.specs.declared.LegRecord.{LegRecord}
-use Rattle.orders_core.specs.Order.{NamesOnce, KeepsOrder, FirstLate, namesFault, exchangeFault, exchanged}
-use Rattle.calls_core.specs.declared.Decoded.{Decoded}
-use Rattle.relay_core.specs.Step.{State, iteration}
-use Rattle.relay_core.specs.Leg.{startLeg, runLeg, satisfied}
-use Rattle.gammas_core.specs.Gammas.{gammaOf}
-use Rattle.calls_core.specs.Decode.{Shot, iterationLimit, stepOf, executedLeg}
-use Rattle.calls_core.specs.Calls.{StepLists, StepOutcome, stepOutcome, stepFault, stepped, iterationCall, legRecord, Lists, Outcome, outcome, decodeInOrder, decode}
-use Rattle.orders_core.proofs.OrderWords.{exchanged-is}
+use Rattle.graph_lists.specs.Graph.{Graph, checkEntries}
+use Rattle.relay_settings.specs.declared.Schedule.{Schedule}
+use Rattle.relay_settings.specs.declared.Schedule.the-variants.{Flooding, CheckSerial}
+use Rattle.relay_calls.specs.declared.LegRecord.{LegRecord}
+use Rattle.relay_orders.specs.Order.{NamesOnce, KeepsOrder, FirstLate, namesFault, exchangeFault, exchanged}
+use Rattle.relay_calls.specs.declared.Decoded.{Decoded}
+use Rattle.relay_step.specs.Step.{State, iteration}
+use Rattle.relay_step.specs.Leg.{startLeg, runLeg, satisfied}
+use Rattle.relay_gammas.specs.Gammas.{gammaOf}
+use Rattle.relay_calls.specs.Decode.{Shot, iterationLimit, stepOf, executedLeg}
+use Rattle.relay_calls.specs.Calls.{StepLists, StepOutcome, stepOutcome, stepFault, stepped, iterationCall, legRecord, Lists, Outcome, outcome, decodeInOrder, decode}
+use Rattle.relay_orders.proofs.OrderWords.{exchanged-is}
 use Rattle.relay.proofs.AnyOrder.{order-free, flooding-takes, serial-takes}
 
 -- two results that the contract of `iteration` allows for one input coincide: the answer, and each lent list

@@ -11,9 +11,9 @@ use Rattle.refusals.specs.declared.Refusal.the-variants.{OrderExchanged}
 use Rattle.refusals.specs.declared.Answer.{Answer}
 use Rattle.refusals.specs.declared.Answer.the-variants.{Done, Refused}
 use Rattle.refusals.specs.Tests.{isDone}
-use Rattle.orders_core.specs.Order.{count, NamesOnce, shares, above, late, exchanged}
-use Rattle.orders_core.proofs.All.{All, nil, cons, all-map, all-zip, all-always, all-left, all-right, all-without, all-head, any-none}
-use Rattle.orders_core.proofs.Counts.{count-same, count-other, count-insert, found, names-below}
+use Rattle.relay_orders.specs.Order.{count, NamesOnce, shares, above, late, exchanged}
+use Rattle.relay_orders.proofs.All.{All, nil, cons, all-map, all-zip, all-always, all-left, all-right, all-without, all-head, any-none}
+use Rattle.relay_orders.proofs.Counts.{count-same, count-other, count-insert, found, names-below}
 use Rattle.relay.proofs.Rearrange.{Orders}
 
 -- R of each two that stand the other way round: x before a lower y

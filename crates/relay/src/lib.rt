@@ -1,24 +1,25 @@
-// Relay-BP over a Tanner graph: one iteration in any order, a decode in index order or another, and the reading of a leg's record. What they mean stands in calls_core/specs.
+// Relay-BP over a Tanner graph, for users: one iteration in any order, a decode in index order or another, and the reading of a leg's
+// record. What they mean stands in relay_calls/specs.
 ghost use mathlib.Core.Path.{_≡_};
 ghost use mathlib.Core.List.{[]};
-ghost use Rattle.graph_core.specs.Graph.{graph};
-ghost use Rattle.relay_core.specs.Step.{state};
-ghost use Rattle.calls_core.specs.Calls.{stepLists, stepOutcome, iterationCall, legRecord, outcome, decodeInOrder, decode as decodeOf};
-use graph_core::indices::at;
+ghost use Rattle.graph_lists.specs.Graph.{graph};
+ghost use Rattle.relay_step.specs.Step.{state};
+ghost use Rattle.relay_calls.specs.Calls.{stepLists, stepOutcome, iterationCall, legRecord, outcome, decodeInOrder, decode as decodeOf};
+use graph_lists::indices::at;
 use refusals::Answer;
-use tests_core::is_done;
+use refusals_tests::is_done;
 
-// The settings' types, which `settings` declares.
-pub type Schedule = settings::Schedule;
+// The settings' types, which `relay_settings` declares.
+pub type Schedule = relay_settings::Schedule;
 
-pub type GammaSource = settings::GammaSource;
+pub type GammaSource = relay_settings::GammaSource;
 
-pub type Settings = settings::Settings;
+pub type Settings = relay_settings::Settings;
 
-// What a decode answers, and a leg's record, which `calls_core` declares.
-pub type Decoded = calls_core::Decoded;
+// What a decode answers, and a leg's record, which `relay_calls` declares.
+pub type Decoded = relay_calls::Decoded;
 
-pub type LegRecord = calls_core::LegRecord;
+pub type LegRecord = relay_calls::LegRecord;
 
 // The record of the leg r, out of the leg lists of a decode; outside one of them it was not executed.
 pub fn leg_record(
@@ -38,7 +39,7 @@ pub fn leg_record(
     if r >= leg_weight.len() {
         return LegRecord::NotExecuted;
     }
-    calls_core::record_of(leg_state[r], at(leg_iterations, r), leg_weight[r])
+    relay_calls::record_of(leg_state[r], at(leg_iterations, r), leg_weight[r])
 }
 
 // One iteration of the schedule in the order given. The messages and the posterior go in and come back; the bias is for work, and is zero after any call past
@@ -64,7 +65,7 @@ pub fn iteration(
 ) -> Answer
     ensures { λ r. ⌜ stepOutcome r (stepLists (state (now («c_to_v» .exit)) (now («v_to_c» .exit)) (now (posterior .exit))) (now (bias .exit))) ≡ iterationCall (size .edges) (now (priors .entry)) (graph (size .checks) (size .mechanisms) (now («check_var» .entry)) (now («check_message» .entry)) (now («check_offset» .entry)) (now («var_check» .entry)) (now («var_message» .entry)) (now («var_offset» .entry))) schedule alpha (now (gamma .entry)) (now (syndrome .entry)) (now (order .entry)) (stepLists (state (now («c_to_v» .entry)) (now («v_to_c» .entry)) (now (posterior .entry))) (now (bias .entry))) ⌝ }
 {
-    let a = calls_core::tests::fault(
+    let a = relay_calls::tests::fault(
         size,
         priors,
         check_var,
@@ -85,7 +86,7 @@ pub fn iteration(
     if !is_done(a) {
         return a;
     }
-    calls_core::iterate::stepped(
+    relay_calls::iterate::stepped(
         schedule,
         alpha,
         syndrome,
@@ -132,7 +133,7 @@ pub fn decode_in_order(
 ) -> Decoded
     ensures { λ r. ⌜ outcome r (record { legState = now («leg_state» .exit); legIterations = now («leg_iterations» .exit); legWeight = now («leg_weight» .exit); rows = now (rows .exit); correction = now (correction .exit); posterior = now (posterior .exit); gamma = now (gamma .exit); bias = now (bias .exit); cToV = now («c_to_v» .exit); vToC = now («v_to_c» .exit) }) ≡ decodeInOrder (size .edges) (record { graph = graph (size .checks) (size .mechanisms) (now («check_var» .entry)) (now («check_message» .entry)) (now («check_offset» .entry)) (now («var_check» .entry)) (now («var_message» .entry)) (now («var_offset» .entry)); prior = now (priors .entry); settings = settings; gammas = now (gammas .entry); order = now (order .entry); syndrome = now (syndrome .entry); seed = seed }) (record { legState = now («leg_state» .entry); legIterations = now («leg_iterations» .entry); legWeight = now («leg_weight» .entry); rows = now (rows .entry); correction = now (correction .entry); posterior = now (posterior .entry); gamma = now (gamma .entry); bias = now (bias .entry); cToV = now («c_to_v» .entry); vToC = now («v_to_c» .entry) }) ⌝ }
 {
-    let a = decode_core::decode_tests::decode_fault(
+    let a = relay_decode::decode_tests::decode_fault(
         size,
         priors,
         check_var,
@@ -158,7 +159,7 @@ pub fn decode_in_order(
     );
     match a {
         Answer::Refused(r) => Decoded::Refused(r),
-        Answer::Done => decode_core::all_legs::decode_fronts(
+        Answer::Done => relay_decode::all_legs::decode_fronts(
             settings,
             gammas,
             seed,
@@ -210,7 +211,7 @@ pub fn decode(
 ) -> Decoded
     ensures { λ r. ⌜ outcome r (record { legState = now («leg_state» .exit); legIterations = now («leg_iterations» .exit); legWeight = now («leg_weight» .exit); rows = now (rows .exit); correction = now (correction .exit); posterior = now (posterior .exit); gamma = now (gamma .exit); bias = now (bias .exit); cToV = now («c_to_v» .exit); vToC = now («v_to_c» .exit) }) ≡ decodeOf (size .edges) (record { graph = graph (size .checks) (size .mechanisms) (now («check_var» .entry)) (now («check_message» .entry)) (now («check_offset» .entry)) (now («var_check» .entry)) (now («var_message» .entry)) (now («var_offset» .entry)); prior = now (priors .entry); settings = settings; gammas = now (gammas .entry); order = []; syndrome = now (syndrome .entry); seed = seed }) (record { legState = now («leg_state» .entry); legIterations = now («leg_iterations» .entry); legWeight = now («leg_weight» .entry); rows = now (rows .entry); correction = now (correction .entry); posterior = now (posterior .entry); gamma = now (gamma .entry); bias = now (bias .entry); cToV = now («c_to_v» .entry); vToC = now («v_to_c» .entry) }) ⌝ }
 {
-    let a = decode_core::decode_tests::shot_fault(
+    let a = relay_decode::decode_tests::shot_fault(
         size,
         priors,
         check_var,
@@ -235,7 +236,7 @@ pub fn decode(
     );
     match a {
         Answer::Refused(r) => Decoded::Refused(r),
-        Answer::Done => decode_core::counted::decode_counted(
+        Answer::Done => relay_decode::counted::decode_counted(
             settings,
             gammas,
             seed,

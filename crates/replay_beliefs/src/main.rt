@@ -2,22 +2,22 @@
 // Rust's. It reads the list from standard input, which the file stdin holds. Room: 63 checks and mechanisms, 128 edges.
 use graph::Size;
 use refusals::Answer;
-use replay_core::Counts;
-use replay_core::Same;
-use replay_core::count;
-use replay_core::float;
-use replay_core::is_answer;
-use replay_core::is_cleared;
-use replay_core::line_end;
-use replay_core::read_bytes;
-use replay_core::read_graph;
-use replay_core::read_sizes;
-use replay_core::report;
-use replay_core::same_floats;
-use replay_core::text_room;
-use replay_core::word_at;
-use tests_core::both;
-use tests_core::is_done;
+use refusals_tests::both;
+use refusals_tests::is_done;
+use replay_cases::Counts;
+use replay_cases::Same;
+use replay_cases::count;
+use replay_cases::float;
+use replay_cases::is_answer;
+use replay_cases::is_cleared;
+use replay_cases::line_end;
+use replay_cases::read_bytes;
+use replay_cases::read_graph;
+use replay_cases::read_sizes;
+use replay_cases::report;
+use replay_cases::same_floats;
+use replay_cases::text_room;
+use replay_cases::word_at;
 
 // Whether the line goes on with this answer and, where the run took place, with this posterior, and then ends.
 fn answered(line: &[u8], at: usize, a: Answer, posterior: &[f64]) -> bool {

@@ -3,19 +3,19 @@
 use graph::Size;
 use numbers::wrapping_mul;
 use refusals::Answer;
+use refusals_tests::both;
 use relay::Decoded;
-use replay_core::Left;
-use replay_core::Same;
-use replay_core::float;
-use replay_core::is_answer;
-use replay_core::left_at;
-use replay_core::left_bytes;
-use replay_core::left_floats;
-use replay_core::same_float;
-use replay_core::wide;
-use replay_core::word_at;
+use replay_cases::Left;
+use replay_cases::Same;
+use replay_cases::float;
+use replay_cases::is_answer;
+use replay_cases::left_at;
+use replay_cases::left_bytes;
+use replay_cases::left_floats;
+use replay_cases::same_float;
+use replay_cases::wide;
+use replay_cases::word_at;
 use std::num::wrapping_add_usize;
-use tests_core::both;
 
 // What the lists were lent full of: as a number, and as a float's bits.
 const LENT: u64 = 7;

@@ -5,21 +5,21 @@ mod compare;
 use compare::same_decode;
 use graph::Size;
 use numbers::wrapping_mul;
-use replay_core::Counts;
-use replay_core::count;
-use replay_core::float;
-use replay_core::line_end;
-use replay_core::read_bytes;
-use replay_core::read_floats;
-use replay_core::read_graph;
-use replay_core::read_sizes;
-use replay_core::report;
-use replay_core::text_room;
-use replay_core::word_at;
-use settings::GammaSource;
-use settings::Schedule;
-use settings::Settings;
-use tests_core::is_done;
+use refusals_tests::is_done;
+use relay_settings::GammaSource;
+use relay_settings::Schedule;
+use relay_settings::Settings;
+use replay_cases::Counts;
+use replay_cases::count;
+use replay_cases::float;
+use replay_cases::line_end;
+use replay_cases::read_bytes;
+use replay_cases::read_floats;
+use replay_cases::read_graph;
+use replay_cases::read_sizes;
+use replay_cases::report;
+use replay_cases::text_room;
+use replay_cases::word_at;
 
 fn schedule_of(number: u64) -> Schedule {
     if number == 1 {

@@ -3,20 +3,20 @@
 use graph::Size;
 use numbers::wrapping_mul;
 use refusals::Answer;
-use replay_core::Counts;
-use replay_core::Same;
-use replay_core::count;
-use replay_core::is_answer;
-use replay_core::line_end;
-use replay_core::read_bytes;
-use replay_core::read_floats;
-use replay_core::read_graph;
-use replay_core::read_sizes;
-use replay_core::report;
-use replay_core::same_numbers;
-use replay_core::text_room;
-use replay_core::word_at;
-use tests_core::is_done;
+use refusals_tests::is_done;
+use replay_cases::Counts;
+use replay_cases::Same;
+use replay_cases::count;
+use replay_cases::is_answer;
+use replay_cases::line_end;
+use replay_cases::read_bytes;
+use replay_cases::read_floats;
+use replay_cases::read_graph;
+use replay_cases::read_sizes;
+use replay_cases::report;
+use replay_cases::same_numbers;
+use replay_cases::text_room;
+use replay_cases::word_at;
 
 // Whether the line goes on with this answer and, where nothing is refused, with these lists, and then ends.
 fn answered(

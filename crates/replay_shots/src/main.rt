@@ -1,8 +1,8 @@
 // Runs the session of `shots` over many streams, one after the other, each with its length before it, and writes what it says of each: the fixed lines in `stdout` are what
 // the published Rust and the stream's rules, written apart, say (`oracle/streams`).
 ghost use Prim.Native.Nat.{_<_};
-use replay_core::text_room;
-use session::Session;
+use replay_cases::text_room;
+use stream_session::Session;
 
 // A stream, whole.
 fn stream(bytes: &[u8]) {
@@ -10,8 +10,8 @@ fn stream(bytes: &[u8]) {
     let mut payload = [0u8; 5132];
     let mut model = [0u8; 5132];
     let mut line = [0u8; 512];
-    let s = writing_core::piece(Session::new(), bytes, &mut payload, &mut model, &mut line);
-    writing_core::end(s, &mut line);
+    let s = stream_writing::piece(Session::new(), bytes, &mut payload, &mut model, &mut line);
+    stream_writing::end(s, &mut line);
 }
 
 // A byte as a number.

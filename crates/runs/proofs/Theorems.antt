@@ -4,19 +4,19 @@ use lib.Ieee.{add, sub, mul, neg, lt, le, eq, ofInt}
 use Rattle.numbers.specs.Floats as Floats
 use Rattle.numbers.specs.Draw as Draw
 use Rattle.refusals.specs.Tests as Tests
-use Rattle.graph_core.specs.Lists as Lists
-use Rattle.graph_core.specs.Graph as Graph
-use Rattle.graph_core.specs.Messages as Messages
-use Rattle.graph_core.specs.Model as Model
-use Rattle.min_sum_core.specs.MinSum as MinSum
+use Rattle.graph_lists.specs.Lists as Lists
+use Rattle.graph_lists.specs.Graph as Graph
+use Rattle.graph_lists.specs.Messages as Messages
+use Rattle.graph_lists.specs.Model as Model
+use Rattle.min_sum_pass.specs.MinSum as MinSum
 use Rattle.min_sum.specs.Beliefs as Beliefs
-use Rattle.settings.specs.Settings as Settings
-use Rattle.relay_core.specs.Step as Step
-use Rattle.orders_core.specs.Order as Order
-use Rattle.relay_core.specs.Leg as Leg
-use Rattle.gammas_core.specs.Gammas as Gammas
-use Rattle.calls_core.specs.Decode as Decode
-use Rattle.calls_core.specs.Calls as Calls
+use Rattle.relay_settings.specs.Settings as Settings
+use Rattle.relay_step.specs.Step as Step
+use Rattle.relay_orders.specs.Order as Order
+use Rattle.relay_step.specs.Leg as Leg
+use Rattle.relay_gammas.specs.Gammas as Gammas
+use Rattle.relay_calls.specs.Decode as Decode
+use Rattle.relay_calls.specs.Calls as Calls
 use Rattle.runs.specs.Runs.{Table}
 
 -- the twelve runs

@@ -14,17 +14,17 @@ use Rattle.refusals.specs.declared.Answer.{Answer}
 use Rattle.refusals.specs.declared.Answer.the-variants.{Done, Refused}
 use Rattle.refusals.specs.declared.Place.the-variants.{At}
 use Rattle.refusals.specs.Refusal.{answerNumber, answerPlace}
-use Rattle.graph_core.specs.Graph.{Graph, graph, varEntries}
-use Rattle.graph_core.specs.Model as Model
-use Rattle.graph_core.specs.Model.{buildSparse}
+use Rattle.graph_lists.specs.Graph.{Graph, graph, varEntries}
+use Rattle.graph_lists.specs.Model as Model
+use Rattle.graph_lists.specs.Model.{buildSparse}
 use Rattle.min_sum.specs.Beliefs as Beliefs
-use Rattle.settings.specs.declared.Settings.{Settings}
-use Rattle.settings.specs.declared.Schedule.{Schedule}
-use Rattle.settings.specs.declared.Schedule.the-variants.{Flooding, CheckSerial}
-use Rattle.settings.specs.declared.GammaSource.the-variants.{Seeded}
-use Rattle.relay_core.specs.Leg.{startLeg}
-use Rattle.calls_core.specs.Calls as Calls
-use Rattle.calls_core.specs.Calls.{iterationCall, decodeInOrder, stepLists, told, tellOf}
+use Rattle.relay_settings.specs.declared.Settings.{Settings}
+use Rattle.relay_settings.specs.declared.Schedule.{Schedule}
+use Rattle.relay_settings.specs.declared.Schedule.the-variants.{Flooding, CheckSerial}
+use Rattle.relay_settings.specs.declared.GammaSource.the-variants.{Seeded}
+use Rattle.relay_step.specs.Leg.{startLeg}
+use Rattle.relay_calls.specs.Calls as Calls
+use Rattle.relay_calls.specs.Calls.{iterationCall, decodeInOrder, stepLists, told, tellOf}
 
 -- ---- numbers
 

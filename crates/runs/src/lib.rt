@@ -1,1 +1,1 @@
-// The twelve small runs of document 01. What they say stands in specs/, and that it holds in proofs/.
+// The twelve small runs of docs/REFERENCE.md. What they say stands in specs/, and that it holds in proofs/.

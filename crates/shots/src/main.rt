@@ -1,6 +1,6 @@
 // `shots`: reads a record stream from standard input, in whatever pieces it comes, and writes a line for each shot and one at the end. It decides nothing itself: the session
-// does (`session`). It ends with the input, or with the refusal that ends the run.
-use session::Session;
+// does (`stream_session`). It ends with the input, or with the refusal that ends the run.
+use stream_session::Session;
 
 // Reads to the end of the input, or until a refusal. A proved loop has to end, so it counts its turns down, from a number that no run uses up.
 fn main() {
@@ -19,10 +19,10 @@ fn main() {
         }
         let n = io::count(got, &room);
         if n == 0 {
-            writing_core::end(s, &mut line);
+            stream_writing::end(s, &mut line);
             return;
         }
-        s = writing_core::piece(s, &room[..n], &mut payload, &mut model, &mut line);
+        s = stream_writing::piece(s, &room[..n], &mut payload, &mut model, &mut line);
         if s.stopped {
             return;
         }

@@ -7,7 +7,7 @@ use borrow.Author.Tests.{leb-true, eqb-true}
 use Rattle.numbers.proofs.Cases.{and-both}
 use Rattle.refusals.specs.declared.Answer.the-variants.{Done}
 use Rattle.refusals.proofs.Tests.{or-done, unless-done}
-use Rattle.records_core.specs.Stream.{countsFit, lengthGood, timeGood, roomGood, tested}
+use Rattle.stream_grammar.specs.Stream.{countsFit, lengthGood, timeGood, roomGood, tested}
 
 module _ (hasModel hasSettings : Bool) (kind size checks mechanisms edges sum legs schedule : ℕ) where
   -- 42, 43 and 44 hold

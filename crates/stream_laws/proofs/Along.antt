@@ -12,9 +12,9 @@ use Rattle.numbers.proofs.Cases.{either}
 use Rattle.refusals.specs.declared.Answer.{Answer}
 use Rattle.refusals.specs.declared.Answer.the-variants.{Done}
 use Rattle.refusals.specs.Tests.{unless}
-use Rattle.records.specs.declared.Reader.{Reader}
-use Rattle.records_core.specs.Stream.{AreBytes, Rec, Sayable, lengthSaid}
-use Rattle.records.specs.Reading.{fresh, holding, isWhole, opened, keptOf, Held, held, pushed, fed, met, atEnd}
+use Rattle.stream_reader.specs.declared.Reader.{Reader}
+use Rattle.stream_grammar.specs.Stream.{AreBytes, Rec, Sayable, lengthSaid}
+use Rattle.stream_reader.specs.Reading.{fresh, holding, isWhole, opened, keptOf, Held, held, pushed, fed, met, atEnd}
 use Rattle.stream_laws.proofs.Encoding.{encoded, length-encode, length-said, payload-said, bytes-encode}
 use Rattle.stream_laws.proofs.Whole.{not-whole, read-first, read-all}
 

@@ -8,8 +8,8 @@ use native.Mathlib.Nat.{suc-mul, mul-le-mul-right}
 use native.Mathlib.Omega.{arith}
 use lib.ListN.{length}
 use Rattle.numbers.proofs.Cases.{last-or-before}
-use Rattle.records_core.specs.Stream.{AreBytes, degree, degrees}
-use Rattle.records_core.proofs.Bytes.{number-past, number-bound, number-before, number-within, number-after}
+use Rattle.stream_grammar.specs.Stream.{AreBytes, degree, degrees}
+use Rattle.stream_grammar.proofs.Bytes.{number-past, number-bound, number-before, number-within, number-after}
 
 -- the place is no byte of the mechanism m's degree
 abbrev Apart : ℕ → ℕ → Type 0

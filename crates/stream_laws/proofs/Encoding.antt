@@ -6,8 +6,8 @@ use native.Mathlib.Nat.{pow-zero, pow-succ'}
 use native.Mathlib.Omega.{arith}
 use lib.ListN.{length, take, drop, length-append, length-drop, take-append-drop}
 use lib.Seq.{take-at, drop-at, drop-drop, length-take-le}
-use Rattle.records_core.specs.Stream.{AreBytes, number, bytesOf, numberAt, encode, Rec, lengthSaid, kindSaid}
-use Rattle.records_core.proofs.Bytes.{bytes-take, bytes-drop, bytes-append}
+use Rattle.stream_grammar.specs.Stream.{AreBytes, number, bytesOf, numberAt, encode, Rec, lengthSaid, kindSaid}
+use Rattle.stream_grammar.proofs.Bytes.{bytes-take, bytes-drop, bytes-append}
 
 -- ---- numbers
 

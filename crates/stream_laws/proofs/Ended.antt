@@ -5,16 +5,16 @@ use mathlib.Core.Bool.{Bool, true, false, cond}
 use mathlib.Core.List.{List, [], _∷_, _++_}
 use native.Mathlib.Omega.{arith}
 use lib.ListN.{length}
-use Rattle.records.specs.declared.Reader.{Reader}
-use Rattle.records_core.specs.Stream.{Rec, AllSayable, more, leftOver}
-use Rattle.records.specs.Reading.{keptOf, toMeet}
+use Rattle.stream_reader.specs.declared.Reader.{Reader}
+use Rattle.stream_grammar.specs.Stream.{Rec, AllSayable, more, leftOver}
+use Rattle.stream_reader.specs.Reading.{keptOf, toMeet}
 use Rattle.stream_laws.proofs.Whole.{length-kept}
 use Rattle.stream_laws.proofs.Along.{endOf}
 use Rattle.stream_laws.proofs.Theorems.{offsetAfter}
-use Rattle.session.specs.declared.Session.{Session}
-use Rattle.session.specs.Shots.{Taken, reads, lastText, endText, textOf}
-use Rattle.session.specs.Text.{recordSaid, recordsText}
-use Rattle.session.proofs.Cases.{other}
+use Rattle.stream_session.specs.declared.Session.{Session}
+use Rattle.stream_session.specs.Shots.{Taken, reads, lastText, endText, textOf}
+use Rattle.stream_session.specs.Text.{recordSaid, recordsText}
+use Rattle.stream_session.proofs.Cases.{other}
 use Rattle.stream_laws.proofs.Recorded.{record-told}
 use Rattle.stream_laws.proofs.Written.{metText}
 

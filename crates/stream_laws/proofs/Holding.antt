@@ -8,11 +8,11 @@ use native.Mathlib.Omega.{arith}
 use lib.ListN.{length, getD, set, take, drop, length-append, length-drop, length-take, drop-of-length-le}
 use lib.Seq.{take-all, drop-cons, drop-append-le, take-append-le, set-at, set-out, append-snoc}
 use Rattle.numbers.proofs.Cases.{less-or-not}
-use Rattle.records_core.specs.Stream.{AreBytes, numberAt, lengthSaid, kindSaid, checks, mechanisms, edges, degrees}
-use Rattle.records.specs.Reading.{holding, grown, summed, added, keptOf}
-use Rattle.records_core.proofs.Bytes.{bytes-more, bytes-drop, number-bound, number-drop, number-before, number-within, number-after}
+use Rattle.stream_grammar.specs.Stream.{AreBytes, numberAt, lengthSaid, kindSaid, checks, mechanisms, edges, degrees}
+use Rattle.stream_reader.specs.Reading.{holding, grown, summed, added, keptOf}
+use Rattle.stream_grammar.proofs.Bytes.{bytes-more, bytes-drop, number-bound, number-drop, number-before, number-within, number-after}
 use Rattle.stream_laws.proofs.Degrees.{degrees-none, degrees-same, degrees-more, degrees-small}
-use Rattle.records.proofs.Steps.{grown-before, grown-after, grown-within, summed-before, summed-after, summed-within}
+use Rattle.stream_reader.proofs.Steps.{grown-before, grown-after, grown-within, summed-before, summed-after, summed-within}
 
 -- a number of at most 4 bytes, one byte further
 field-grows : (n at : ℕ) (xs : List ℕ) (b : ℕ) → n ≤ 4 → AreBytes xs → b < 256 → grown (numberAt n at xs) at n (length xs) b ≡ numberAt n at (xs ++ (b ∷ []))

@@ -11,8 +11,8 @@ use Rattle.numbers.proofs.Cases.{equal-or-not}
 use Rattle.refusals.specs.declared.Answer.{Answer}
 use Rattle.refusals.specs.declared.Refusal.the-variants.{UnknownKind, PayloadLength}
 use Rattle.refusals.specs.Tests.{unless, orElse}
-use Rattle.records_core.specs.Stream.{lengthSaid, kindSaid, checks, mechanisms, edges, degrees, legs, scheduleByte, kindGood, lengthGood, roomGood, scheduleGood, tested, judge}
-use Rattle.records.specs.Reading.{holding, keptOf, verdict}
+use Rattle.stream_grammar.specs.Stream.{lengthSaid, kindSaid, checks, mechanisms, edges, degrees, legs, scheduleByte, kindGood, lengthGood, roomGood, scheduleGood, tested, judge}
+use Rattle.stream_reader.specs.Reading.{holding, keptOf, verdict}
 use Rattle.stream_laws.proofs.Kept.{kept-number, kept-byte}
 
 -- 41, then a 42 that refuses: what comes after does not matter

@@ -5,8 +5,8 @@ use Prim.Native.Nat.{ℕ, _+_, _≤_}
 use native.Mathlib.Omega.{arith}
 use lib.ListN.{length, getD, drop, length-drop, List·getD-append}
 use lib.Seq.{take-all, take-append-le, drop-append-le}
-use Rattle.records_core.specs.Stream.{numberAt}
-use Rattle.records.specs.Reading.{keptOf}
+use Rattle.stream_grammar.specs.Stream.{numberAt}
+use Rattle.stream_reader.specs.Reading.{keptOf}
 
 module _ (p room : List ℕ) (fits : length p ≤ length room) where
   -- the payload stands at the front

@@ -1,4 +1,4 @@
--- The record stream: what its reader and a session of `shots` say, against the grammar. No code: these stand apart from `records` and `session` so that an edit there is tried quickly.
+-- The record stream: what its reader and a session of `shots` say, against the grammar. No code: these stand apart from `stream_reader` and `stream_session` so that an edit there is tried quickly.
 pub mod Encoding
 pub mod Holding
 pub mod Degrees

@@ -5,8 +5,8 @@ use Prim.Native.Nat.{ℕ, zero, suc, _+_, _*_, _^_, _<_}
 use native.Mathlib.Omega.{arith}
 use lib.ListN.{length, getD, length-append}
 use lib.Seq.{take-at, drop-append-add}
-use Rattle.records_core.specs.Stream.{bytesOf, numberAt, seed, syndrome, checks, mechanisms, edges, priorBits, degree, detector, scheduleByte, alphaBits, gamma0Bits, preIterations, legs, legIterations, lowBits, highBits, stop}
-use Rattle.records_core.specs.Payloads.{encodeShot, SettingsFields, encodeSettings, Mechanism, encodeMechanisms, encodeDetectors, encodeModel}
+use Rattle.stream_grammar.specs.Stream.{bytesOf, numberAt, seed, syndrome, checks, mechanisms, edges, priorBits, degree, detector, scheduleByte, alphaBits, gamma0Bits, preIterations, legs, legIterations, lowBits, highBits, stop}
+use Rattle.stream_grammar.specs.Payloads.{encodeShot, SettingsFields, encodeSettings, Mechanism, encodeMechanisms, encodeDetectors, encodeModel}
 use Rattle.stream_laws.proofs.Encoding.{length-bytesOf, number-bytesOf}
 
 -- ---- where a field stands

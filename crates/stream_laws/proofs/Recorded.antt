@@ -14,20 +14,20 @@ use Rattle.refusals.specs.declared.Refusal.{Refusal}
 use Rattle.refusals.specs.declared.Answer.{Answer}
 use Rattle.refusals.specs.declared.Answer.the-variants.{Done, Refused}
 use Rattle.refusals.specs.Refusal.{numberOf}
-use Rattle.calls_core.specs.declared.Decoded.{Decoded}
-use Rattle.calls_core.specs.declared.Decoded.the-variants as Decoded
-use Rattle.records.specs.declared.Reader.{Reader}
-use Rattle.records_core.specs.Stream.{Rec, Sayable, lengthSaid, mechanisms, isOfShot, lengthGood, roomGood}
-use Rattle.records.specs.Reading.{holding, keptOf, verdict}
+use Rattle.relay_calls.specs.declared.Decoded.{Decoded}
+use Rattle.relay_calls.specs.declared.Decoded.the-variants as Decoded
+use Rattle.stream_reader.specs.declared.Reader.{Reader}
+use Rattle.stream_grammar.specs.Stream.{Rec, Sayable, lengthSaid, mechanisms, isOfShot, lengthGood, roomGood}
+use Rattle.stream_reader.specs.Reading.{holding, keptOf, verdict}
 use Rattle.stream_laws.proofs.Accepted.{passed, model-within}
 use Rattle.stream_laws.proofs.Kept.{kept-front}
 use Rattle.stream_laws.proofs.Along.{said}
 use Rattle.stream_laws.proofs.Encoding.{encoded}
 use Rattle.stream_laws.proofs.Theorems.{judges}
-use Rattle.shots_core.specs.Table.{modelFault, settingsAnswer, shotDecoded}
-use Rattle.session.specs.declared.Session.{Session}
-use Rattle.session.specs.Shots.{Told, Taken, taken, stops, says, refuses, finds, answers, tells, shotTaken, goesOn, settingsTaken, modelTaken, kindTaken, judged, recordTaken, reads}
-use Rattle.session.specs.Text.{recordSaid}
+use Rattle.stream_table.specs.Table.{modelFault, settingsAnswer, shotDecoded}
+use Rattle.stream_session.specs.declared.Session.{Session}
+use Rattle.stream_session.specs.Shots.{Told, Taken, taken, stops, says, refuses, finds, answers, tells, shotTaken, goesOn, settingsTaken, modelTaken, kindTaken, judged, recordTaken, reads}
+use Rattle.stream_session.specs.Text.{recordSaid}
 
 -- ---- the reader stays
 

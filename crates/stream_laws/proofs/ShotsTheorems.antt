@@ -5,11 +5,11 @@ use mathlib.Core.Bool.{false}
 use mathlib.Core.List.{List, _++_}
 use lib.ListN.{length, take, drop}
 use lib.Seq.{take-append-seam}
-use Rattle.records_core.specs.Stream.{AreBytes, Rec, AllSayable, stream, isComplete}
-use Rattle.records.specs.Reading.{fresh, held, fed, keptOf}
-use Rattle.session.specs.declared.Session.{Session}
-use Rattle.session.specs.Shots.{Left, start, byteTaken, lastText, endText, written}
-use Rattle.session.specs.Text.{recordsText}
+use Rattle.stream_grammar.specs.Stream.{AreBytes, Rec, AllSayable, stream, isComplete}
+use Rattle.stream_reader.specs.Reading.{fresh, held, fed, keptOf}
+use Rattle.stream_session.specs.declared.Session.{Session}
+use Rattle.stream_session.specs.Shots.{Left, start, byteTaken, lastText, endText, written}
+use Rattle.stream_session.specs.Text.{recordsText}
 use Rattle.stream_laws.proofs.Kept.{kept-front}
 use Rattle.stream_laws.proofs.Theorems.{Apart, told-apart, meets, ends-at}
 use Rattle.stream_laws.proofs.Written.{metText, written-met}

@@ -11,18 +11,18 @@ use lib.ListN.{length, take, drop, length-drop}
 use lib.Seq.{length-take-le}
 use borrow.Author.Tests.{leb-true, leb-false, eqb-true, ne-eqb}
 use Rattle.numbers.proofs.Cases.{either, and-both}
-use Rattle.records_core.specs.Stream.{seed, syndrome, AreBytes, Rec, rec, Sayable, AllSayable, none, more, encode, stream, lengthSaid, kindSaid, isComplete, checks, mechanisms, edges, degrees, legs, lengthGood, timeGood, roomGood, judge, leftOver, isOfShot}
+use Rattle.stream_grammar.specs.Stream.{seed, syndrome, AreBytes, Rec, rec, Sayable, AllSayable, none, more, encode, stream, lengthSaid, kindSaid, isComplete, checks, mechanisms, edges, degrees, legs, lengthGood, timeGood, roomGood, judge, leftOver, isOfShot}
 use Rattle.refusals.specs.declared.Answer.{Answer}
 use Rattle.refusals.specs.declared.Answer.the-variants.{Done}
-use Rattle.settings.specs.declared.Settings.{Settings}
-use Rattle.records.specs.declared.Reader.{Reader}
-use Rattle.records_core.specs.declared.Counts.{Counts}
-use Rattle.records_core.specs.Fields.{offset, countsOf, ModelLists, modelRead, settingsOf}
-use Rattle.records.specs.Reading.{fresh, holding, isWhole, opened, keptOf, Held, held, pushed, fed, met, toMeet, verdict, atEnd}
-use Rattle.records_core.proofs.Bytes.{bytes-take, bytes-drop, number-bound}
+use Rattle.relay_settings.specs.declared.Settings.{Settings}
+use Rattle.stream_reader.specs.declared.Reader.{Reader}
+use Rattle.stream_grammar.specs.declared.Counts.{Counts}
+use Rattle.stream_grammar.specs.Fields.{offset, countsOf, ModelLists, modelRead, settingsOf}
+use Rattle.stream_reader.specs.Reading.{fresh, holding, isWhole, opened, keptOf, Held, held, pushed, fed, met, toMeet, verdict, atEnd}
+use Rattle.stream_grammar.proofs.Bytes.{bytes-take, bytes-drop, number-bound}
 use Rattle.stream_laws.proofs.Encoding.{encoded, length-said, kind-said, payload-said, complete-is}
 use Rattle.stream_laws.proofs.Whole.{read-all}
-use Rattle.records_core.specs.Payloads.{encodeShot, SettingsFields, encodeSettings, Mechanism, encodeModel}
+use Rattle.stream_grammar.specs.Payloads.{encodeShot, SettingsFields, encodeSettings, Mechanism, encodeModel}
 use Rattle.stream_laws.proofs.Judging.{judged}
 use Rattle.stream_laws.proofs.ReadBack.{shot-seed, shot-syndrome, SettingsFit, SettingsRead, settings-read, ModelFit, ModelRead, model-read}
 use Rattle.stream_laws.proofs.Along.{met-append, met-cut, met-then, endOf, end-then, follows, to-its-end}

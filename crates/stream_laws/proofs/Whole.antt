@@ -10,11 +10,11 @@ use lib.Seq.{take-all, take-length, take-take, take-suc, length-take-le, drop-ap
 use borrow.Author.Tests.{ne-eqb}
 use Rattle.numbers.proofs.Loops.{foldl-take}
 use Rattle.numbers.proofs.Cases.{less-or-not}
-use Rattle.records_core.specs.Stream.{AreBytes, number, numberAt, lengthSaid, kindSaid, checks, mechanisms, edges, degrees}
-use Rattle.records.specs.Reading.{fresh, holding, isWhole, opened, keptWith, keptOf, held, pushed, fed}
-use Rattle.records_core.proofs.Bytes.{bytes-take, number-bound}
+use Rattle.stream_grammar.specs.Stream.{AreBytes, number, numberAt, lengthSaid, kindSaid, checks, mechanisms, edges, degrees}
+use Rattle.stream_reader.specs.Reading.{fresh, holding, isWhole, opened, keptWith, keptOf, held, pushed, fed}
+use Rattle.stream_grammar.proofs.Bytes.{bytes-take, number-bound}
 use Rattle.stream_laws.proofs.Holding.{holding-more, kept-more}
-use Rattle.records.proofs.Steps.{head-only, keep-none, keep-in}
+use Rattle.stream_reader.proofs.Steps.{head-only, keep-none, keep-in}
 
 -- before any byte
 holding-none : (offset : ℕ) → holding offset [] ≡ fresh offset

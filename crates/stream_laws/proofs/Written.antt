@@ -5,11 +5,11 @@ use mathlib.Core.Bool.{true, false, cond}
 use mathlib.Core.List.{List, [], _∷_, _++_}
 use mathlib.Core.Logic.{⊎-elim}
 use Rattle.numbers.proofs.Cases.{either}
-use Rattle.records.specs.declared.Reader.{Reader}
-use Rattle.records.specs.Reading.{Held, held, pushed, fed, met, isWhole}
-use Rattle.session.specs.declared.Session.{Session}
-use Rattle.session.specs.Shots.{told, Taken, taken, recordTaken, Left, left, reads, byteTaken, endText, textOf, written}
-use Rattle.session.proofs.Cases.{chosen, other, byte-after, byte-whole, byte-more}
+use Rattle.stream_reader.specs.declared.Reader.{Reader}
+use Rattle.stream_reader.specs.Reading.{Held, held, pushed, fed, met, isWhole}
+use Rattle.stream_session.specs.declared.Session.{Session}
+use Rattle.stream_session.specs.Shots.{told, Taken, taken, recordTaken, Left, left, reads, byteTaken, endText, textOf, written}
+use Rattle.stream_session.proofs.Cases.{chosen, other, byte-after, byte-whole, byte-more}
 use Rattle.stream_laws.proofs.Recorded.{record-stays}
 
 -- the text of the records that a reader meets, until one ends the run; then the end, with what the reader holds there

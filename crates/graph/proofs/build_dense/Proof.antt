@@ -5,11 +5,11 @@ use lib.ListN.{length}
 use borrow.Author.Needs.{needs}
 use Rattle.numbers.proofs.Cases.{was-true, was-false}
 use Rattle.refusals.proofs.Tests.{done-is}
-use Rattle.graph_core.specs.Graph.{Graph, graph}
-use Rattle.graph_core.specs.Model.{graphFits}
-use Rattle.graph_core.specs.Sound.{Long}
-use Rattle.graph_core.proofs.DenseTests.{DenseTold, dense-told, dense-done, dense-refused}
-use Rattle.graph_core.proofs.SparseTests.{long-told}
+use Rattle.graph_lists.specs.Graph.{Graph, graph}
+use Rattle.graph_lists.specs.Model.{graphFits}
+use Rattle.graph_lists.specs.Sound.{Long}
+use Rattle.graph_lists.proofs.DenseTests.{DenseTold, dense-told, dense-done, dense-refused}
+use Rattle.graph_lists.proofs.SparseTests.{long-told}
 use Rattle.graph.proofs.build_dense.Statement.{statement}
 use Rattle.graph.proofs.build_dense.Tie as tie
 

@@ -4,10 +4,10 @@ use native.Mathlib.Omega.{arith}
 use borrow.Author.Needs.{needs}
 use Rattle.numbers.proofs.Cases.{was-true, was-false}
 use Rattle.refusals.proofs.Tests.{done-is}
-use Rattle.graph_core.specs.Graph.{Graph, graph}
-use Rattle.graph_core.specs.Model.{graphFits}
-use Rattle.graph_core.specs.Sound.{Long}
-use Rattle.graph_core.proofs.SparseTests.{Told, sparse-told, long-told, sparse-done, sparse-refused}
+use Rattle.graph_lists.specs.Graph.{Graph, graph}
+use Rattle.graph_lists.specs.Model.{graphFits}
+use Rattle.graph_lists.specs.Sound.{Long}
+use Rattle.graph_lists.proofs.SparseTests.{Told, sparse-told, long-told, sparse-done, sparse-refused}
 use Rattle.graph.proofs.build_sparse.Statement.{statement}
 use Rattle.graph.proofs.build_sparse.Tie as tie
 

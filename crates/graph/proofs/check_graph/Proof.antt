@@ -9,11 +9,11 @@ use borrow.Author.Tests.{not-true, not-false, eqb-true}
 use Rattle.numbers.proofs.Cases.{and-both, was-true, was-false}
 use Rattle.refusals.specs.Tests.{firstOf}
 use Rattle.refusals.specs.declared.Answer.{Answer}
-use Rattle.graph_core.specs.Graph.{Graph, graph}
-use Rattle.graph_core.specs.Model.{graphFits, priorFault, sizesGood}
-use Rattle.graph_core.specs.Sound.{Long}
-use Rattle.graph_core.proofs.GraphTests.{fault-1, fault-2, fault-4, fault-7, fault-none}
-use Rattle.graph_core.proofs.SparseTests.{long-told}
+use Rattle.graph_lists.specs.Graph.{Graph, graph}
+use Rattle.graph_lists.specs.Model.{graphFits, priorFault, sizesGood}
+use Rattle.graph_lists.specs.Sound.{Long}
+use Rattle.graph_lists.proofs.GraphTests.{fault-1, fault-2, fault-4, fault-7, fault-none}
+use Rattle.graph_lists.proofs.SparseTests.{long-told}
 use Rattle.graph.proofs.check_graph.Statement.{statement}
 use Rattle.graph.proofs.check_graph.Tie as tie
 

@@ -5,9 +5,9 @@ use Prim.Native.Nat.{_-_, _≤_}
 use native.Mathlib.Omega.{arith}
 use lib.ListN.{length, take}
 use lib.Seq.{take-all}
-use Rattle.graph_core.specs.Model.{countEdges}
-use Rattle.graph_core.proofs.Matrix.{count-none}
-use Rattle.graph_core.proofs.MatrixTurns.{count-more, count-same-turn, count-place}
+use Rattle.graph_lists.specs.Model.{countEdges}
+use Rattle.graph_lists.proofs.Matrix.{count-none}
+use Rattle.graph_lists.proofs.MatrixTurns.{count-more, count-same-turn, count-place}
 use Rattle.graph.proofs.count_edges.Statement.{statement}
 use Rattle.graph.proofs.count_edges.Tie as tie
 

@@ -2,7 +2,7 @@
 -- Assumes nothing.
 use mathlib.Core.Path.{_∙_}
 use native.Mathlib.Omega.{arith}
-use Rattle.decode_core.proofs.Faults.{index-refused, index-told, index-ran, shot-seed}
+use Rattle.relay_decode.proofs.Faults.{index-refused, index-told, index-ran, shot-seed}
 use borrow.Author.Needs.{needs}
 use Rattle.relay.proofs.decode.Statement.{statement}
 use Rattle.relay.proofs.decode.Tie as tie

@@ -1,7 +1,7 @@
 -- `relay::decode_in_order` meets its contract. A refused call leaves the lists; else the tests told all that the legs ask, and the legs read no more of the graph than the four lists.
 -- Assumes nothing.
 use mathlib.Core.Path.{_∙_}
-use Rattle.decode_core.proofs.Faults.{in-order-refused, in-order-told, in-order-ran, fault-seed}
+use Rattle.relay_decode.proofs.Faults.{in-order-refused, in-order-told, in-order-ran, fault-seed}
 use borrow.Author.Needs.{needs}
 use Rattle.relay.proofs.decode_in_order.Statement.{statement}
 use Rattle.relay.proofs.decode_in_order.Tie as tie

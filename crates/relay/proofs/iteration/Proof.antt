@@ -1,9 +1,9 @@
 -- `relay::iteration` meets its contract. A refused call leaves the lists; else the tests told all that the step asks, and the step reads no more of the graph
 -- than the four lists.
 -- Assumes nothing.
-use Rattle.relay_core.specs.Step.{state}
-use Rattle.calls_core.specs.Calls.{StepLists, stepLists}
-use Rattle.calls_core.proofs.Calls.{Passed, passed, iteration-refused, iteration-ran}
+use Rattle.relay_step.specs.Step.{state}
+use Rattle.relay_calls.specs.Calls.{StepLists, stepLists}
+use Rattle.relay_calls.proofs.Calls.{Passed, passed, iteration-refused, iteration-ran}
 use borrow.Author.Needs.{needs}
 use Rattle.relay.proofs.iteration.Statement.{statement}
 use Rattle.relay.proofs.iteration.Tie as tie

@@ -1,7 +1,7 @@
 -- `relay::leg_record` meets its contract. Outside a list nothing is read; inside all three the values give the record.
 -- Assumes nothing.
 use borrow.Author.Needs.{needs}
-use Rattle.calls_core.proofs.Calls.{record-no-state, record-no-iterations, record-no-weight, record-read}
+use Rattle.relay_calls.proofs.Calls.{record-no-state, record-no-iterations, record-no-weight, record-read}
 use Rattle.relay.proofs.leg_record.Statement.{statement}
 use Rattle.relay.proofs.leg_record.Tie as tie
 

@@ -6,8 +6,8 @@ use native.Mathlib.Omega.{arith}
 use lib.ListN.{length, take, length-set}
 use lib.Seq.{take-all}
 use borrow.Author.Needs.{needs}
-use Rattle.messages_core.specs.Needs.{ofVariables}
-use Rattle.min_sum_core.specs.MinSum.{messages, belief, chosenTo}
+use Rattle.graph_messages.specs.Needs.{ofVariables}
+use Rattle.min_sum_pass.specs.MinSum.{messages, belief, chosenTo}
 use Rattle.min_sum.proofs.Rounds.{chosen-turn}
 use Rattle.min_sum.proofs.run.choose.Statement.{statement}
 use Rattle.min_sum.proofs.run.choose.Tie as tie

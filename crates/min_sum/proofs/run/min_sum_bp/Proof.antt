@@ -1,7 +1,7 @@
 -- `min_sum::run::min_sum_bp` meets its contract. What the rounds and the end rule leave is the run of the whole graph. Assumes nothing.
 use mathlib.Core.Path.{sym, _∙_}
 use borrow.Author.Needs.{needs}
-use Rattle.messages_core.proofs.Parts.{walks-along}
+use Rattle.graph_messages.proofs.Parts.{walks-along}
 use Rattle.min_sum.proofs.Rounds.{run-is}
 use Rattle.min_sum.proofs.run.min_sum_bp.Statement.{statement}
 use Rattle.min_sum.proofs.run.min_sum_bp.Tie as tie

@@ -6,9 +6,9 @@ use native.Mathlib.Omega.{arith}
 use lib.ListN.{length, replicate}
 use borrow.Author.Needs.{needs}
 use Rattle.numbers.specs.Floats.{zero⁺}
-use Rattle.messages_core.specs.Needs.{walked}
-use Rattle.messages_core.proofs.Parts.{entries-along}
-use Rattle.min_sum_core.specs.MinSum.{messages, belief, roundTo}
+use Rattle.graph_messages.specs.Needs.{walked}
+use Rattle.graph_messages.proofs.Parts.{entries-along}
+use Rattle.min_sum_pass.specs.MinSum.{messages, belief, roundTo}
 use Rattle.min_sum.proofs.Rounds.{round-starts, round-turn, round-done}
 use Rattle.min_sum.proofs.run.round.Statement.{statement}
 use Rattle.min_sum.proofs.run.round.Tie as tie

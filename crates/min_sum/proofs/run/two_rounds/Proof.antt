@@ -1,7 +1,7 @@
 -- `min_sum::run::two_rounds` meets its contract. The second round starts from what the first leaves. Assumes nothing.
 use mathlib.Core.Path.{ap, _∙_}
 use borrow.Author.Needs.{needs}
-use Rattle.min_sum_core.specs.MinSum.{round}
+use Rattle.min_sum_pass.specs.MinSum.{round}
 use Rattle.min_sum.proofs.run.two_rounds.Statement.{statement}
 use Rattle.min_sum.proofs.run.two_rounds.Tie as tie
 

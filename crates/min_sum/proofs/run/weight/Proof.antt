@@ -4,7 +4,7 @@ use mathlib.Core.Bool.{_&&_}
 use lib.Dec.{eqb}
 use lib.Ieee.{ofBits}
 use borrow.Author.Needs.{needs}
-use Rattle.min_sum_core.specs.MinSum.{weightOf}
+use Rattle.min_sum_pass.specs.MinSum.{weightOf}
 use Rattle.min_sum.proofs.run.weight.Statement.{statement}
 use Rattle.min_sum.proofs.run.weight.Tie as tie
 

@@ -1,0 +1,81 @@
+-- What an exported call leaves: the code of its answer, and the lent lists as the call below left them. How an answer is a code: `exports_values` `Codes`. Definitions only. Assumes nothing.
+use Prim.Native.Nat.{ℕ}
+use mathlib.Core.List.{List}
+use lib.Ieee.{Float}
+use Rattle.graph_lists.specs.Graph.{Graph}
+use Rattle.graph_lists.specs.Model.{Outcome}
+use Rattle.relay_calls.specs.Calls.{StepLists, StepOutcome, Lists as DecodeLists, Outcome as DecodeOutcome}
+use Rattle.min_sum.specs.Beliefs.{Lists, Outcome as BeliefsOutcome}
+use Rattle.exports_values.specs.Codes.{codeOf, decodedCode, countsOf, weightOf}
+
+-- ---- a call that fills graph lists
+
+-- the code, and the graph lists as the call leaves them
+pub record Sent : Type 0 where
+  pub code : ℕ
+  pub lists : Graph
+
+abbrev pub sent : ℕ → Graph → Sent
+sent code g = record { code = code; lists = g }
+
+-- an outcome, its answer as a code
+abbrev pub sentOf : Outcome → Sent
+sentOf o = sent (codeOf (o .answer)) (o .lists)
+
+-- ---- beliefs
+
+-- the code, and the lent lists as the call leaves them
+pub record Left : Type 0 where
+  pub code : ℕ
+  pub lists : Lists
+
+abbrev pub left : ℕ → Lists → Left
+left code l = record { code = code; lists = l }
+
+-- an outcome of `beliefs`, its answer as a code
+abbrev pub leftBy : BeliefsOutcome → Left
+leftBy o = left (codeOf (o .answer)) (o .left)
+
+-- ---- Relay
+
+-- the code of a single iteration, and its lent lists as the call leaves them
+pub record StepLeft : Type 0 where
+  pub code : ℕ
+  pub lists : StepLists
+
+abbrev pub stepLeft : ℕ → StepLists → StepLeft
+stepLeft code l = record { code = code; lists = l }
+
+-- an outcome of `iteration`, its answer as a code
+abbrev pub stepLeftBy : StepOutcome → StepLeft
+stepLeftBy o = stepLeft (codeOf (o .answer)) (o .left)
+
+-- a decode's lent lists by themselves, in the order of the call
+abbrev pub listsOf : List ℕ → List ℕ → List Float → List ℕ → List ℕ → List Float → List Float → List Float → List Float → List Float → DecodeLists
+listsOf state iterations weight rows correction posterior gamma bias cToV vToC =
+    record {
+      legState = state;
+      legIterations = iterations;
+      legWeight = weight;
+      rows = rows;
+      correction = correction;
+      posterior = posterior;
+      gamma = gamma;
+      bias = bias;
+      cToV = cToV;
+      vToC = vToC;
+    }
+
+-- the code of a decode, its counts, its weight, and its lent lists as the call leaves them
+pub record DecodeLeft : Type 0 where
+  pub code : ℕ
+  pub counts : List ℕ
+  pub weight : List Float
+  pub lists : DecodeLists
+
+abbrev pub decodeLeft : ℕ → List ℕ → List Float → DecodeLists → DecodeLeft
+decodeLeft code counts weight l = record { code = code; counts = counts; weight = weight; lists = l }
+
+-- an outcome of `decode`, over the counts and the weight as they were
+abbrev pub decodeLeftBy : DecodeOutcome → List ℕ → List Float → DecodeLeft
+decodeLeftBy o counts weight = decodeLeft (decodedCode (o .answer)) (countsOf (o .answer) counts) (weightOf (o .answer) weight) (o .left)

@@ -1,0 +1,112 @@
+// The calls of `graph`. An answer passes as its code, and sizes as numbers.
+ghost use mathlib.Core.Path.{_≡_};
+ghost use Rattle.graph_lists.specs.Graph.{graph as graphOf};
+ghost use Rattle.graph_lists.specs.Model.{buildSparse, countEdges, buildDense, graphFault};
+ghost use Rattle.exports_values.specs.Codes.{codeOf};
+ghost use Rattle.exports_bodies.specs.Answers.{sent, sentOf};
+use exports_values::answers::code;
+use graph::Size;
+
+// `graph::build_sparse`.
+pub fn build_sparse(
+    checks: usize,
+    mechanisms: usize,
+    edges: usize,
+    priors: &[f64],
+    detector_offsets: &[u32],
+    detectors: &[u32],
+    check_var: &mut [u32],
+    check_message: &mut [u32],
+    check_offset: &mut [u32],
+    var_check: &mut [u32],
+    var_message: &mut [u32],
+    var_offset: &mut [u32],
+) -> u64
+    ensures { λ r. ⌜ sent r (graphOf checks mechanisms (now («check_var» .exit)) (now («check_message» .exit)) (now («check_offset» .exit)) (now («var_check» .exit)) (now («var_message» .exit)) (now («var_offset» .exit))) ≡ sentOf (buildSparse edges (now (priors .entry)) (now («detector_offsets» .entry)) (now (detectors .entry)) (graphOf checks mechanisms (now («check_var» .entry)) (now («check_message» .entry)) (now («check_offset» .entry)) (now («var_check» .entry)) (now («var_message» .entry)) (now («var_offset» .entry)))) ⌝ }
+{
+    let size = Size {
+        checks: checks,
+        mechanisms: mechanisms,
+        edges: edges,
+    };
+    code(graph::build_sparse(
+        size,
+        priors,
+        detector_offsets,
+        detectors,
+        check_var,
+        check_message,
+        check_offset,
+        var_check,
+        var_message,
+        var_offset,
+    ))
+}
+
+// `graph::count_edges`.
+pub fn count_edges(matrix: &[u8]) -> usize
+    ensures { λ r. ⌜ r ≡ countEdges (now (matrix .entry)) ⌝ }
+{
+    graph::count_edges(matrix)
+}
+
+// `graph::build_dense`.
+pub fn build_dense(
+    checks: usize,
+    mechanisms: usize,
+    priors: &[f64],
+    matrix: &[u8],
+    check_var: &mut [u32],
+    check_message: &mut [u32],
+    check_offset: &mut [u32],
+    var_check: &mut [u32],
+    var_message: &mut [u32],
+    var_offset: &mut [u32],
+) -> u64
+    ensures { λ r. ⌜ sent r (graphOf checks mechanisms (now («check_var» .exit)) (now («check_message» .exit)) (now («check_offset» .exit)) (now («var_check» .exit)) (now («var_message» .exit)) (now («var_offset» .exit))) ≡ sentOf (buildDense (now (priors .entry)) (now (matrix .entry)) (graphOf checks mechanisms (now («check_var» .entry)) (now («check_message» .entry)) (now («check_offset» .entry)) (now («var_check» .entry)) (now («var_message» .entry)) (now («var_offset» .entry)))) ⌝ }
+{
+    code(graph::build_dense(
+        checks,
+        mechanisms,
+        priors,
+        matrix,
+        check_var,
+        check_message,
+        check_offset,
+        var_check,
+        var_message,
+        var_offset,
+    ))
+}
+
+// `graph::check_graph`.
+pub fn check_graph(
+    checks: usize,
+    mechanisms: usize,
+    edges: usize,
+    priors: &[f64],
+    check_var: &[u32],
+    check_message: &[u32],
+    check_offset: &[u32],
+    var_check: &[u32],
+    var_message: &[u32],
+    var_offset: &[u32],
+) -> u64
+    ensures { λ r. ⌜ r ≡ codeOf (graphFault edges (now (priors .entry)) (graphOf checks mechanisms (now («check_var» .entry)) (now («check_message» .entry)) (now («check_offset» .entry)) (now («var_check» .entry)) (now («var_message» .entry)) (now («var_offset» .entry)))) ⌝ }
+{
+    let size = Size {
+        checks: checks,
+        mechanisms: mechanisms,
+        edges: edges,
+    };
+    code(graph::check_graph(
+        size,
+        priors,
+        check_var,
+        check_message,
+        check_offset,
+        var_check,
+        var_message,
+        var_offset,
+    ))
+}

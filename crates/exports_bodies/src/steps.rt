@@ -1,0 +1,60 @@
+// The single iteration of `relay`. A schedule passes as a byte: 0 is Flooding, and any other is CheckSerial.
+ghost use mathlib.Core.Path.{_≡_};
+ghost use Rattle.graph_lists.specs.Graph.{graph as graphOf};
+ghost use Rattle.relay_step.specs.Step.{state};
+ghost use Rattle.relay_calls.specs.Calls.{stepLists, iterationCall};
+ghost use Rattle.exports_values.specs.Codes.{scheduleOf};
+ghost use Rattle.exports_bodies.specs.Answers.{stepLeft, stepLeftBy};
+use exports_values::answers::code;
+use exports_values::given::schedule_of;
+use graph::Size;
+
+// `relay::iteration`.
+pub fn iteration(
+    checks: usize,
+    mechanisms: usize,
+    edges: usize,
+    priors: &[f64],
+    check_var: &[u32],
+    check_message: &[u32],
+    check_offset: &[u32],
+    var_check: &[u32],
+    var_message: &[u32],
+    var_offset: &[u32],
+    schedule: u8,
+    alpha: f64,
+    gamma: &[f64],
+    syndrome: &[u8],
+    order: &[u32],
+    c_to_v: &mut [f64],
+    v_to_c: &mut [f64],
+    posterior: &mut [f64],
+    bias: &mut [f64],
+) -> u64
+    ensures { λ r. ⌜ stepLeft r (stepLists (state (now («c_to_v» .exit)) (now («v_to_c» .exit)) (now (posterior .exit))) (now (bias .exit))) ≡ stepLeftBy (iterationCall edges (now (priors .entry)) (graphOf checks mechanisms (now («check_var» .entry)) (now («check_message» .entry)) (now («check_offset» .entry)) (now («var_check» .entry)) (now («var_message» .entry)) (now («var_offset» .entry))) (scheduleOf schedule) alpha (now (gamma .entry)) (now (syndrome .entry)) (now (order .entry)) (stepLists (state (now («c_to_v» .entry)) (now («v_to_c» .entry)) (now (posterior .entry))) (now (bias .entry)))) ⌝ }
+{
+    let size = Size {
+        checks: checks,
+        mechanisms: mechanisms,
+        edges: edges,
+    };
+    code(relay::iteration(
+        size,
+        priors,
+        check_var,
+        check_message,
+        check_offset,
+        var_check,
+        var_message,
+        var_offset,
+        schedule_of(schedule as usize),
+        alpha,
+        gamma,
+        syndrome,
+        order,
+        c_to_v,
+        v_to_c,
+        posterior,
+        bias,
+    ))
+}

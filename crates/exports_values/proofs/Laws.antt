@@ -1,0 +1,65 @@
+-- A code fits 64 bits, and whether its number is 30. Assumes nothing.
+use Prim.Native.Nat.{ℕ, _<_, _+_}
+use mathlib.Core.Path.{_≡_, _∙_, ap, sym}
+use native.Mathlib.Omega.{arith}
+use mathlib.Core.Bool.{true, false}
+use lib.Dec.{eqb}
+use borrow.Author.Tests.{eq-eqb, ne-eqb}
+use Rattle.refusals.specs.declared.Refusal.{Refusal}
+use Rattle.refusals.specs.declared.Refusal.the-variants.{SizeAboveLimit, ModelListLength, BadDetectorOffsets, BadPrior, DetectorOutOfRange, DetectorRepeated, NoSuchGraph, BadAlpha, BadGamma0, BadIterations, TooManyLegs, BadLegIterations, BadGammaInterval, BadStop, NoGammaSets, GammaSetsLength, GammaNotFinite, SyndromeLength, SyndromeNotBinary, LentListLength, OrderNotEachOnce, OrderExchanged, StateNotFinite, NonFinite, CutRecord, UnknownKind, PayloadLength, ShotTooEarly, BeyondRoom, BadSchedule}
+use Rattle.refusals.specs.declared.Answer.{Answer}
+use Rattle.refusals.specs.declared.Answer.the-variants.{Refused}
+use Rattle.refusals.specs.declared.Place.{Place}
+use Rattle.refusals.specs.declared.Place.the-variants.{Nowhere, At}
+use Rattle.refusals.specs.Refusal.{numberOf, placeOf}
+use Rattle.exports_values.specs.Codes.{placeCode, codeOf}
+
+-- a refusal's number is far below 65,536
+pub number-small : (r : Refusal) → numberOf r < 65536
+number-small SizeAboveLimit = omega arith
+number-small ModelListLength = omega arith
+number-small BadDetectorOffsets = omega arith
+number-small (BadPrior place) = omega arith
+number-small (DetectorOutOfRange place) = omega arith
+number-small (DetectorRepeated place) = omega arith
+number-small NoSuchGraph = omega arith
+number-small BadAlpha = omega arith
+number-small BadGamma0 = omega arith
+number-small BadIterations = omega arith
+number-small TooManyLegs = omega arith
+number-small BadLegIterations = omega arith
+number-small BadGammaInterval = omega arith
+number-small BadStop = omega arith
+number-small NoGammaSets = omega arith
+number-small GammaSetsLength = omega arith
+number-small (GammaNotFinite place) = omega arith
+number-small SyndromeLength = omega arith
+number-small (SyndromeNotBinary place) = omega arith
+number-small LentListLength = omega arith
+number-small OrderNotEachOnce = omega arith
+number-small (OrderExchanged place) = omega arith
+number-small StateNotFinite = omega arith
+number-small (NonFinite place) = omega arith
+number-small CutRecord = omega arith
+number-small UnknownKind = omega arith
+number-small PayloadLength = omega arith
+number-small ShotTooEarly = omega arith
+number-small BeyondRoom = omega arith
+number-small BadSchedule = omega arith
+
+-- 65,536 times a place leaves room for it
+pub place-small : (p : Place) → placeCode p < 281474976710656
+place-small Nowhere = omega arith
+place-small (At place) = omega arith
+
+-- a number and a place's code together are the code of the refusal
+pub code-as : (a : Answer) (r : Refusal) (p : Place) (n k : ℕ) → a ≡ Refused r → n ≡ numberOf r → p ≡ placeOf r → k ≡ placeCode p → n + k ≡ codeOf a
+code-as a r p n k is-refused is-number is-place is-code =
+    ap (λ x. x + k) is-number ∙ (ap (λ x. numberOf r + x) (is-code ∙ ap placeCode is-place) ∙ sym (ap codeOf is-refused))
+
+-- whether a refusal's number is 30, as the code finds it
+pub thirty : (n m : ℕ) → n ≡ m → n ≡ 30 → eqb m 30 ≡ true
+thirty n m e h = eq-eqb m 30 (sym e ∙ h)
+
+pub not-thirty : (n m : ℕ) → n ≡ m → (n ≡ 30 → ⊥) → eqb m 30 ≡ false
+not-thirty n m e h = ne-eqb m 30 (λ q. h (e ∙ q))

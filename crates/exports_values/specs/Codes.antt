@@ -1,0 +1,106 @@
+-- How answers and settings pass through the C calling convention, as numbers and lists of fixed length. Definitions only. Assumes nothing.
+use Prim.Native.Nat.{ℕ, zero, suc, _+_, _*_, _/_, _%_}
+use mathlib.Core.Bool.{Bool, true, false, cond}
+use mathlib.Core.List.{List, [], _∷_}
+use lib.Dec.{eqb}
+use lib.Ieee.{Float}
+use Rattle.numbers.specs.Floats.{zero⁺}
+use Rattle.refusals.specs.declared.Answer.{Answer}
+use Rattle.refusals.specs.declared.Answer.the-variants.{Done, Refused}
+use Rattle.refusals.specs.declared.Place.{Place}
+use Rattle.refusals.specs.declared.Place.the-variants.{Nowhere, At}
+use Rattle.refusals.specs.Refusal.{numberOf, placeOf}
+use Rattle.relay_settings.specs.declared.Schedule.{Schedule}
+use Rattle.relay_settings.specs.declared.Schedule.the-variants.{Flooding, CheckSerial}
+use Rattle.relay_settings.specs.declared.GammaSource.{GammaSource}
+use Rattle.relay_settings.specs.declared.GammaSource.the-variants.{Explicit, Seeded}
+use Rattle.relay_settings.specs.declared.Settings.{Settings}
+use Rattle.relay_calls.specs.declared.Decoded.{Decoded}
+use Rattle.relay_calls.specs.declared.Decoded.the-variants as Decoded
+
+-- ---- answers
+
+-- 1 for true, 0 for false
+abbrev pub bitOf : Bool → ℕ
+bitOf true = 1
+bitOf false = 0
+
+-- 65,536 times the place, 0 where there is none. The remainder keeps the code within 64 bits for every number; no place of document 01 reaches 2^32, for
+-- the largest is an index of at most 65,535 times 65,536 gammas.
+abbrev pub placeCode : Place → ℕ
+placeCode Nowhere = 0
+placeCode (At place) = 65536 * (place % 4294967296)
+
+-- an answer as one number: the refusal's number plus 65,536 times its place, 0 for none
+abbrev pub codeOf : Answer → ℕ
+codeOf Done = 0
+codeOf (Refused r) = numberOf r + placeCode (placeOf r)
+
+-- a refusal's number, out of its code
+abbrev pub numberIn : ℕ → ℕ
+numberIn code = code % 65536
+
+-- and its place, where it has one
+abbrev pub placeIn : ℕ → ℕ
+placeIn code = code / 65536
+
+-- ---- settings
+
+-- a byte that is 0 is Flooding
+abbrev pub scheduleOf : ℕ → Schedule
+scheduleOf zero = Flooding
+scheduleOf (suc n) = CheckSerial
+
+-- where a byte is 0 the gammas are drawn, and else they are explicit sets
+abbrev pub sourceOf : ℕ → ℕ → GammaSource
+sourceOf zero sets = Seeded
+sourceOf (suc n) sets = Explicit sets
+
+-- the settings of a call, in its order
+abbrev pub settingsOf : ℕ → Float → Float → ℕ → ℕ → ℕ → Float → Float → ℕ → ℕ → ℕ → Settings
+settingsOf schedule alpha gamma0 pre legs iterations low high stop explicit sets =
+    record {
+      schedule = scheduleOf schedule;
+      alpha = alpha;
+      gamma0 = gamma0;
+      «pre_iterations» = pre;
+      «num_legs» = legs;
+      «leg_iterations» = iterations;
+      «gamma_low» = low;
+      «gamma_high» = high;
+      «stop_after_converged» = stop;
+      «gamma_source» = sourceOf explicit sets;
+    }
+
+-- a schedule as a byte
+abbrev pub byteOf : Schedule → ℕ
+byteOf Flooding = 0
+byteOf CheckSerial = 1
+
+-- the floats of settings: alpha, gamma0 and the interval's ends
+abbrev pub floatsIn : Settings → List Float
+floatsIn t = t .alpha ∷ (t .gamma0 ∷ (t .«gamma_low» ∷ (t .«gamma_high» ∷ [])))
+
+-- and their counts: pre_iterations, num_legs, leg_iterations, stop_after_converged
+abbrev pub countsIn : Settings → List ℕ
+countsIn t = t .«pre_iterations» ∷ (t .«num_legs» ∷ (t .«leg_iterations» ∷ (t .«stop_after_converged» ∷ [])))
+
+-- ---- a decode
+
+-- a decode's answer as a code
+abbrev pub decodedCode : Decoded → ℕ
+decodedCode (Decoded.Converged n t w) = 0
+decodedCode (Decoded.NotConverged n t) = 0
+decodedCode (Decoded.Refused r) = codeOf (Refused r)
+
+-- beside it three counts: converged (1 or 0), executed legs, total iterations. Refusal 30 zeroes them, as it does all results, and any other writes nothing
+abbrev pub countsOf : Decoded → List ℕ → List ℕ
+countsOf (Decoded.Converged n t w) old = 1 ∷ (n ∷ (t ∷ []))
+countsOf (Decoded.NotConverged n t) old = 0 ∷ (n ∷ (t ∷ []))
+countsOf (Decoded.Refused r) old = cond (eqb (numberOf r) 30) (0 ∷ (0 ∷ (0 ∷ []))) old
+
+-- and the weight, positive zero where there is none
+abbrev pub weightOf : Decoded → List Float → List Float
+weightOf (Decoded.Converged n t w) old = w ∷ []
+weightOf (Decoded.NotConverged n t) old = zero⁺ ∷ []
+weightOf (Decoded.Refused r) old = cond (eqb (numberOf r) 30) (zero⁺ ∷ []) old

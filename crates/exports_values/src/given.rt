@@ -1,0 +1,58 @@
+// Settings out of the numbers that they pass as.
+use relay_settings::GammaSource;
+use relay_settings::Schedule;
+use relay_settings::Settings;
+ghost use mathlib.Core.Path.{_≡_};
+ghost use Rattle.exports_values.specs.Codes.{scheduleOf, sourceOf, settingsOf};
+
+// The schedule of a word.
+pub fn schedule_of(word: usize) -> Schedule
+    ensures { λ r. ⌜ r ≡ scheduleOf word ⌝ }
+{
+    if word == 0 {
+        return Schedule::Flooding;
+    }
+    Schedule::CheckSerial
+}
+
+// Where the gammas come from.
+fn source_of(explicit: usize, sets: usize) -> GammaSource
+    ensures { λ r. ⌜ r ≡ sourceOf explicit sets ⌝ }
+{
+    if explicit == 0 {
+        return GammaSource::Seeded;
+    }
+    GammaSource::Explicit(sets)
+}
+
+// The settings of a call.
+pub fn settings_of(
+    schedule: usize,
+    alpha: f64,
+    gamma0: f64,
+    pre_iterations: usize,
+    num_legs: usize,
+    leg_iterations: usize,
+    gamma_low: f64,
+    gamma_high: f64,
+    stop_after_converged: usize,
+    explicit: usize,
+    sets: usize,
+) -> Settings
+    ensures { λ r. ⌜ r ≡ settingsOf schedule alpha gamma0 «pre_iterations» «num_legs» «leg_iterations» «gamma_low» «gamma_high» «stop_after_converged» explicit sets ⌝ }
+{
+    let order = schedule_of(schedule);
+    let source = source_of(explicit, sets);
+    Settings {
+        schedule: order,
+        alpha: alpha,
+        gamma0: gamma0,
+        pre_iterations: pre_iterations,
+        num_legs: num_legs,
+        leg_iterations: leg_iterations,
+        gamma_low: gamma_low,
+        gamma_high: gamma_high,
+        stop_after_converged: stop_after_converged,
+        gamma_source: source,
+    }
+}

@@ -1,0 +1,158 @@
+-- Tests 3 to 6 of document 01 one by one: what each tells where it is passed, and each as the code has it. Assumes nothing.
+use mathlib.Core.Bool.{Bool, true, false, _||_, not, or-assoc, true≢false, false≢true}
+use mathlib.Core.List.{List, [], _∷_, _++_}
+use mathlib.Core.Path.{_≡_, refl, sym, ap, _∙_}
+use Prim.Native.Nat.{ℕ, suc, _+_, _-_, _<_, _≤_}
+use native.Mathlib.Numerals.{add-one}
+use native.Mathlib.Omega.{arith}
+use lib.Dec.{eqb}
+use lib.Ieee.{Float, nan, fin, le, neg}
+use lib.IntN.{pos}
+use lib.ListN.{length, getD, take, drop}
+use lib.Seq.{getD-take, length-take-le, take-suc}
+use borrow.Author.Tests.{le-leb, lt-leb, le-ltb, ltb-true, leb-true, eqb-true, lt-ltb, ne-eqb}
+use Rattle.numbers.proofs.Cases.{and-both}
+use Rattle.numbers.proofs.Loops.{every-at, length-part, getD-part}
+use Rattle.numbers.specs.Loops.{part}
+use Rattle.refusals.proofs.Tests.{or-done, unless-done, first-all}
+use Rattle.refusals.specs.Tests.{unless, orElse, firstOf}
+use Rattle.refusals.specs.declared.Answer.{Answer}
+use Rattle.refusals.specs.declared.Answer.the-variants.{Done, Refused}
+use Rattle.refusals.specs.declared.Refusal.the-variants.{BadPrior, DetectorOutOfRange, DetectorRepeated}
+use Rattle.graph_lists.specs.Lists.{has}
+use Rattle.graph_lists.specs.Model.{rising, offsetsGood, priorGood, detectorFault, mechanismFault, mechanismTest}
+use Rattle.graph_lists.specs.Sound.{Offsets}
+use Rattle.graph_lists.specs.Steps.{Valid}
+use Rattle.graph_lists.proofs.Cuts.{Row, row-is, row-end}
+use Rattle.graph_lists.proofs.Rows.{has-at}
+
+-- ---- repeats
+
+-- what is in two lists, one after the other, is in one of them
+has-append : (xs ys : List ℕ) (x : ℕ) → has (xs ++ ys) x ≡ (has xs x || has ys x)
+unfolding has
+has-append [] ys x = refl
+has-append (y ∷ xs) ys x = rw (has-append xs ys x) (sym (or-assoc (eqb y x) (has xs x) (has ys x)))
+
+-- one detector more that is another
+pub repeat-turn : (ds : List ℕ) (j d e : ℕ) → j < length ds → e ≡ getD ds j 0 → has (take j ds) d ≡ false → (e ≡ d → ⊥) → has (take (j + 1) ds) d ≡ false
+unfolding has
+repeat-turn ds j d e l q h n = rw (add-one, take-suc ds j 0 l, has-append, h, ne-eqb (getD ds j 0) d (λ z. n (q ∙ z)))
+
+-- one that is the same
+pub repeat-found : (ds : List ℕ) (i j d e : ℕ) → j < i → i ≤ length ds → e ≡ getD ds j 0 → e ≡ d → has (take i ds) d ≡ true
+repeat-found ds i j d e l m q z = has-at (take i ds) j d (rw (length-take-le i ds m) l) (getD-take i ds j 0 l ∙ sym q ∙ z)
+
+-- ---- what the tests tell
+
+-- offsets that pass 3 cut the list
+pub offsets-told : (rows n : ℕ) (off : List ℕ) → length off ≡ suc rows → offsetsGood rows n off ≡ true → Offsets rows n off
+unfolding offsetsGood rising
+offsets-told rows n off l h =
+    let a = and-both _ _ h in
+    let b = and-both _ _ (a .1) in
+    record {
+      many = l;
+      starts = eqb-true _ _ (a .0);
+      rises = λ r m. leb-true _ _ (every-at rows (rising off) (b .0) r m);
+      ends = eqb-true _ _ (b .1);
+    }
+
+-- a detector that passes 5 and 6 is in range and new
+detector-told : (checks m : ℕ) (ds : List ℕ) (i : ℕ) → detectorFault checks m ds i ≡ Done → (getD ds i 0 < checks) × (has (take i ds) (getD ds i 0) ≡ false)
+unfolding detectorFault
+detector-told checks m ds i h =
+    let w = or-done _ _ h in
+    (ltb-true _ _ (unless-done _ (DetectorOutOfRange m) (w .0)), flip _ (unless-done _ (DetectorRepeated m) (w .1)))
+  where
+    flip : (b : Bool) → not b ≡ true → b ≡ false
+    flip true e = absurd (false≢true e)
+    flip false e = refl
+
+-- so is each of a mechanism's
+mech-told : (checks m : ℕ) (prior : Float) (ds : List ℕ) → mechanismTest checks m prior ds ≡ Done → (i : ℕ) → i < length ds → (getD ds i 0 < checks) × (has (take i ds) (getD ds i 0) ≡ false)
+unfolding mechanismTest
+mech-told checks m prior ds h i l = detector-told checks m ds i (first-all (detectorFault checks m ds) (length ds) (or-done _ _ h .1) i l)
+
+module _ (checks mechanisms : ℕ) (priors : List Float) (off dets : List ℕ) (o : Offsets mechanisms (length dets) off)
+    (h : firstOf mechanisms (mechanismFault checks priors off dets) ≡ Done) where
+  -- of the place i of m's part
+  at-told : (m i : ℕ) → Row mechanisms (length dets) off o i m
+      → (getD dets i 0 < checks) × ((j : ℕ) → getD off m 0 ≤ j → j < i → getD dets j 0 ≡ getD dets i 0 → ⊥)
+  unfolding mechanismFault
+  at-told m i r =
+      let a = getD off m 0 in
+      let e = getD off (suc m) 0 in
+      let room : e ≤ length dets = row-end mechanisms (length dets) off o m (r .below) in
+      let long : length (part a e dets) ≡ e - a = length-part a e dets room in
+      let place : i - a < e - a = omega (arith, r .from, r .to) in
+      let t = mech-told checks m (getD priors m nan) (part a e dets) (first-all _ mechanisms h m (r .below)) (i - a) (rw long place) in
+      let here : getD (part a e dets) (i - a) 0 ≡ getD dets i 0 = getD-part a e dets (i - a) 0 (omega (arith, r .from, r .to)) ∙ ap (λ (x : ℕ). getD dets x 0) (omega (arith, r .from)) in (
+        rw here at (t .0),
+        λ j l k q.
+            let there : getD (part a e dets) (j - a) 0 ≡ getD dets j 0 = getD-part a e dets (j - a) 0 (omega (arith, r .to)) ∙ ap (λ (x : ℕ). getD dets x 0) (omega arith) in
+            true≢false
+            (sym (repeat-found (part a e dets) (i - a) (j - a) (getD (part a e dets) (i - a) 0) _ (omega arith) (rw long (omega (arith, r .to))) refl (there ∙ q ∙ sym here)) ∙ t .1),
+      )
+
+  -- a model that passes 3 to 6 is valid
+  pub valid-told : Valid checks mechanisms off dets
+  valid-told =
+      record {
+        cut = o;
+        keys = record { small = λ j l. at-told _ j (row-is mechanisms (length dets) off o j l) .0 };
+        distinct = record { apart = λ r i j k a b e. at-told r j (record { below = k; from = omega arith; to = e }) .1 i a b };
+      }
+
+-- ---- single tests, as the code has them
+
+-- a prior of at least -30 is good where it is at most 30
+pub prior-yes : (x : Float) → le (fin true 15 (pos 1)) x ≡ true → le x (fin false 15 (pos 1)) ≡ priorGood x
+unfolding priorGood neg
+prior-yes x h = rw h
+
+-- one that is not, or is NaN, is not good
+pub prior-no : (x : Float) → le (fin true 15 (pos 1)) x ≡ false → le (fin true 15 (pos 1)) x ≡ priorGood x
+unfolding priorGood neg
+prior-no x h = rw h
+
+-- an offset that is not below the one before it
+pub rising-yes : (off : List ℕ) (r a b : ℕ) → a ≡ getD off r 0 → b ≡ getD off (r + 1) 0 → a ≤ b → rising off r ≡ true
+unfolding rising
+rising-yes off r a b p q h = let e : b ≡ getD off (suc r) 0 = rw add-one at q in le-leb (getD off r 0) (getD off (suc r) 0) (omega arith)
+
+-- one that is
+pub rising-no : (off : List ℕ) (r a b : ℕ) → a ≡ getD off r 0 → b ≡ getD off (r + 1) 0 → b < a → rising off r ≡ false
+unfolding rising
+rising-no off r a b p q h = let e : b ≡ getD off (suc r) 0 = rw add-one at q in lt-leb (getD off r 0) (getD off (suc r) 0) (omega arith)
+
+-- a detector out of range
+pub detector-range : (checks m : ℕ) (ds : List ℕ) (i d : ℕ) → d ≡ getD ds i 0 → checks ≤ d → Refused (DetectorOutOfRange m) ≡ detectorFault checks m ds i
+unfolding detectorFault orElse unless
+detector-range checks m ds i d p h = rw (le-ltb (getD ds i 0) checks (omega arith))
+
+-- repeated
+pub detector-repeat : (checks m : ℕ) (ds : List ℕ) (i d : ℕ) → d ≡ getD ds i 0 → d < checks → has (take i ds) d ≡ true → Refused (DetectorRepeated m) ≡ detectorFault checks m ds i
+unfolding detectorFault orElse unless
+detector-repeat checks m ds i d p h t = rw (lt-ltb (getD ds i 0) checks (omega arith), rw p at t)
+
+-- neither
+pub detector-fine : (checks m : ℕ) (ds : List ℕ) (i d : ℕ) → d ≡ getD ds i 0 → d < checks → has (take i ds) d ≡ false → Done ≡ detectorFault checks m ds i
+unfolding detectorFault orElse unless
+detector-fine checks m ds i d p h t = rw (lt-ltb (getD ds i 0) checks (omega arith), rw p at t)
+
+-- a mechanism whose prior is refused
+pub mech-prior : (checks m : ℕ) (x : Float) (ds : List ℕ) → false ≡ priorGood x → Refused (BadPrior m) ≡ mechanismTest checks m x ds
+unfolding mechanismTest orElse unless
+mech-prior checks m x ds h = rw (← h)
+
+-- one whose prior is not: its detectors decide
+pub mech-rest : (checks m : ℕ) (x : Float) (ds : List ℕ) (a : Answer) → true ≡ priorGood x → a ≡ firstOf (length ds) (detectorFault checks m ds) → a ≡ mechanismTest checks m x ds
+unfolding mechanismTest orElse unless
+mech-rest checks m x ds a h e = rw (← h) e
+
+-- a mechanism of a model, its detectors cut out by the code
+pub mech-at : (checks : ℕ) (priors : List Float) (off dets : List ℕ) (m a e : ℕ) (x : Answer) → a ≡ getD off m 0 → e ≡ getD off (m + 1) 0
+    → x ≡ mechanismTest checks m (getD priors m nan) (take (e - a) (drop a dets)) → x ≡ mechanismFault checks priors off dets m
+unfolding mechanismFault
+mech-at checks priors off dets m a e x p q h = let w : e ≡ getD off (suc m) 0 = rw add-one at q in rw (← p, ← w) h

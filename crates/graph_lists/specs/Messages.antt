@@ -1,0 +1,55 @@
+-- What min-sum and Relay do alike with messages, one to an edge: how they start, what a check's first pass knows, the sum at a variable,
+-- and refusal 30.
+-- Definitions only. Assumes nothing.
+use Prim.Native.Nat.{ℕ}
+use mathlib.Core.Bool.{Bool, false, cond}
+use mathlib.Core.List.{List, map, foldl}
+use lib.Ieee.{Float, nan, inf, lt}
+use lib.ListN.{length, getD, replicate}
+use Rattle.numbers.specs.Floats.{_+ᶠ_, zero⁺, zero⁻, one⁺, one⁻, abs, isFinite}
+use Rattle.refusals.specs.declared.Refusal.the-variants.{NonFinite}
+use Rattle.refusals.specs.declared.Answer.{Answer}
+use Rattle.refusals.specs.Tests.{unless, firstOf}
+use Rattle.graph_lists.specs.Graph.{Graph}
+
+-- each message of a variable set to that variable's value
+unfoldable pub fromVariables : Graph → List Float → List Float
+fromVariables g values = map (λ v. getD values v nan) (g .checkVar)
+
+-- `c_to_v.fill(0.0)`
+unfoldable pub cleared : Graph → List Float
+cleared g = replicate (length (g .checkVar)) zero⁺
+
+-- what the first pass over a check's messages knows: the total sign, the least and the next magnitude, and whose the least is
+pub record Scan : Type 0 where
+  pub totalSign : Float
+  pub min1 : Float
+  pub min2 : Float
+  pub least : ℕ
+
+-- a scan of its parts
+abbrev pub scanOf : Float → Float → Float → ℕ → Scan
+scanOf sign min1 min2 least = record { totalSign = sign; min1 = min1; min2 = min2; least = least }
+
+-- before the first message: the sign of the syndrome, infinite minima, and a least that is nobody's
+abbrev pub startScan : Bool → ℕ → Scan
+startScan odd nobody = scanOf (cond odd one⁻ one⁺) (inf false) (inf false) nobody
+
+-- the scan, one message further, with its new total sign: strict comparison keeps the first minimum
+unfoldable pub lowered : Scan → Float → ℕ → Float → Scan
+lowered s sign own message =
+    let magnitude = abs message in
+    let lower = lt magnitude (s .min1) in
+    scanOf sign (cond lower magnitude (s .min1)) (cond lower (s .min1) (cond (lt magnitude (s .min2)) magnitude (s .min2))) (cond lower own (s .least))
+
+-- the sum of the messages that the entries name, in their order, from -0.0
+unfoldable pub total : List Float → List ℕ → Float
+total cToV entries = foldl (λ (t : Float) (message : ℕ). t +ᶠ getD cToV message nan) zero⁻ entries
+
+-- 30 for one mechanism: its value is not finite
+unfoldable pub valueFault : List Float → ℕ → Answer
+valueFault values v = unless (isFinite (getD values v nan)) (NonFinite v)
+
+-- 30: the first mechanism whose posterior is not finite
+unfoldable pub posteriorFault : Graph → List Float → Answer
+posteriorFault g posterior = firstOf (g .mechanisms) (valueFault posterior)

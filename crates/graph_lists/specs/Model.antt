@@ -1,0 +1,148 @@
+-- Models and lent graph lists: refusals 1 to 7 of document 01 in their order, and what each public call of `graph` answers and leaves in its lists.
+-- Definitions only. Assumes nothing.
+use Prim.Native.Nat.{ℕ, suc, _*_}
+use mathlib.Core.Bool.{Bool, not, _&&_, cond}
+use mathlib.Core.List.{List, [], _∷_}
+use lib.Dec.{eqb, leb, ltb}
+use lib.Ieee.{Float, nan, neg, le}
+use lib.ListN.{length, getD, take}
+use Rattle.numbers.specs.Floats.{saturation}
+use Rattle.numbers.specs.Loops.{every, row}
+use Rattle.refusals.specs.declared.Refusal.the-variants.{SizeAboveLimit, ModelListLength, BadDetectorOffsets, BadPrior, DetectorOutOfRange, DetectorRepeated, NoSuchGraph}
+use Rattle.refusals.specs.declared.Answer.{Answer}
+use Rattle.refusals.specs.Tests.{unless, orElse, firstOf, unlessRefused}
+use Rattle.graph_lists.specs.Lists.{has, sameList}
+use Rattle.graph_lists.specs.Graph.{Graph, graphOf, among, marked, told}
+
+-- ---- 1: sizes
+
+-- checks and mechanisms at most 65,536 each
+abbrev pub countsGood : ℕ → ℕ → Bool
+countsGood checks mechanisms = leb checks 65536 && leb mechanisms 65536
+
+-- edges at most 1,048,576
+abbrev pub edgesGood : ℕ → Bool
+edgesGood edges = leb edges 1048576
+
+-- all three
+abbrev pub sizesGood : ℕ → ℕ → ℕ → Bool
+sizesGood checks mechanisms edges = countsGood checks mechanisms && edgesGood edges
+
+-- ---- 2: lengths
+
+-- the six graph lists have these lengths
+abbrev pub graphLengths : ℕ → ℕ → ℕ → ℕ → ℕ → ℕ → ℕ → ℕ → ℕ → Bool
+graphLengths checks mechanisms edges cv cm co vc vm vo =
+    eqb cv edges && (eqb cm edges && (eqb co (suc checks) && (eqb vc edges && (eqb vm edges && eqb vo (suc mechanisms)))))
+
+-- those of g have the lengths of a graph with this many edges
+unfoldable pub graphFits : ℕ → Graph → Bool
+graphFits edges g =
+    graphLengths (g .checks) (g .mechanisms) edges (length (g .checkVar)) (length (g .checkMessage)) (length (g .checkOffset)) (length (g .varCheck)) (length (g .varMessage)) (length (g .varOffset))
+
+-- a sparse model's three lists have these lengths
+abbrev pub sparseFits : ℕ → ℕ → ℕ → ℕ → ℕ → Bool
+sparseFits mechanisms edges priors off dets = eqb priors mechanisms && (eqb off (suc mechanisms) && eqb dets edges)
+
+-- a dense model's two
+abbrev pub denseFits : ℕ → ℕ → ℕ → ℕ → Bool
+denseFits checks mechanisms priors bytes = eqb bytes (checks * mechanisms) && eqb priors mechanisms
+
+-- ---- 3: detector offsets
+
+-- offset i is at most offset i + 1
+unfoldable pub rising : List ℕ → ℕ → Bool
+rising off i = leb (getD off i 0) (getD off (suc i) 0)
+
+-- n offsets and one start at 0, don't fall, and end at `end`
+unfoldable pub offsetsGood : ℕ → ℕ → List ℕ → Bool
+offsetsGood n end off = eqb (getD off 0 0) 0 && (every n (rising off) && eqb (getD off n 0) end)
+
+-- ---- 4, 5 and 6: mechanism by mechanism
+
+-- from -30 to 30, and no NaN
+unfoldable pub priorGood : Float → Bool
+priorGood x = le (neg saturation) x && le x saturation
+
+-- 4 for the mechanism m
+unfoldable pub priorFault : List Float → ℕ → Answer
+priorFault priors m = unless (priorGood (getD priors m nan)) (BadPrior m)
+
+-- 5, then 6, for the i-th of m's detectors
+unfoldable pub detectorFault : ℕ → ℕ → List ℕ → ℕ → Answer
+detectorFault checks m ds i =
+    orElse (unless (ltb (getD ds i 0) checks) (DetectorOutOfRange m)) (unless (not (has (take i ds) (getD ds i 0))) (DetectorRepeated m))
+
+-- 4, then each detector in list order, for the mechanism m with its prior and its detectors
+unfoldable pub mechanismTest : ℕ → ℕ → Float → List ℕ → Answer
+mechanismTest checks m prior ds = orElse (unless (priorGood prior) (BadPrior m)) (firstOf (length ds) (detectorFault checks m ds))
+
+-- that, of a model's mechanism m
+unfoldable pub mechanismFault : ℕ → List Float → List ℕ → List ℕ → ℕ → Answer
+mechanismFault checks priors off dets m = mechanismTest checks m (getD priors m nan) (row off m dets)
+
+-- ---- 7: graph lists that no model builds
+
+-- the six lists are the same
+unfoldable pub sameGraph : Graph → Graph → Bool
+sameGraph g h =
+    sameList (g .checkVar) (h .checkVar)
+    && (sameList (g .checkMessage) (h .checkMessage)
+    && (sameList (g .checkOffset) (h .checkOffset)
+    && (sameList (g .varCheck) (h .varCheck) && (sameList (g .varMessage) (h .varMessage) && sameList (g .varOffset) (h .varOffset)))))
+
+-- the lists are those of the graph of the incidences that they themselves tell
+unfoldable pub isGraph : Graph → Bool
+isGraph g = sameGraph g (graphOf (g .checks) (g .mechanisms) (told g))
+
+-- ---- the calls. The lent lists come in as a graph: its two counts are those that the caller says, and `edges` is the number of edges that it says.
+
+-- an answer, and the graph lists as the call leaves them
+pub record Outcome : Type 0 where
+  pub answer : Answer
+  pub lists : Graph
+
+-- an outcome of its parts
+abbrev pub outcome : Answer → Graph → Outcome
+outcome a g = record { answer = a; lists = g }
+
+-- the graph of an incidence into the lent lists g, unless the call refuses
+unfoldable pub built : Answer → (ℕ → ℕ → Bool) → Graph → Outcome
+built a inc g = outcome a (unlessRefused a (graphOf (g .checks) (g .mechanisms) inc) g)
+
+-- the tests of `build_sparse`: 1, 2, 3, then mechanism by mechanism 4, 5 and 6. `fit` says whether the graph lists have their lengths
+unfoldable pub sparseFault : ℕ → ℕ → ℕ → List Float → List ℕ → List ℕ → Bool → Answer
+sparseFault checks mechanisms edges priors off dets fit =
+    orElse (unless (sizesGood checks mechanisms edges) SizeAboveLimit)
+    (orElse (unless (sparseFits mechanisms edges (length priors) (length off) (length dets) && fit) ModelListLength)
+    (orElse (unless (offsetsGood mechanisms (length dets) off) BadDetectorOffsets) (firstOf mechanisms (mechanismFault checks priors off dets))))
+
+-- `build_sparse`: mechanism m's detectors stand in `dets` from offset m to offset m + 1
+unfoldable pub buildSparse : ℕ → List Float → List ℕ → List ℕ → Graph → Outcome
+buildSparse edges priors off dets g = built (sparseFault (g .checks) (g .mechanisms) edges priors off dets (graphFits edges g)) (among off dets) g
+
+-- how many bytes of a matrix are not zero: `count_edges`
+unfoldable pub countEdges : List ℕ → ℕ
+countEdges [] = 0
+countEdges (x ∷ xs) = cond (eqb x 0) (countEdges xs) (suc (countEdges xs))
+
+-- the tests of `build_dense`: counts, matrix and prior lengths, edges, graph lists, priors. `bytes` is the matrix's length, `edges` how many of its bytes are
+-- not zero, and `fit` says whether the graph lists have their lengths
+unfoldable pub denseFault : ℕ → ℕ → ℕ → List Float → ℕ → Bool → Answer
+denseFault checks mechanisms edges priors bytes fit =
+    orElse (unless (countsGood checks mechanisms) SizeAboveLimit)
+    (orElse (unless (denseFits checks mechanisms (length priors) bytes) ModelListLength)
+    (orElse (unless (edgesGood edges) SizeAboveLimit) (orElse (unless fit ModelListLength) (firstOf mechanisms (priorFault priors)))))
+
+-- `build_dense`: the matrix lies check by check, and a byte that is not zero is an incidence
+unfoldable pub buildDense : List Float → List ℕ → Graph → Outcome
+buildDense priors matrix g =
+    let edges = countEdges matrix in
+    built (denseFault (g .checks) (g .mechanisms) edges priors (length matrix) (graphFits edges g)) (marked (g .mechanisms) matrix) g
+
+-- `check_graph`, the tests of lent graph lists and their priors: 1, 2, 4 and 7. Every call over a graph begins with them.
+unfoldable pub graphFault : ℕ → List Float → Graph → Answer
+graphFault edges priors g =
+    orElse (unless (sizesGood (g .checks) (g .mechanisms) edges) SizeAboveLimit)
+    (orElse (unless (eqb (length priors) (g .mechanisms) && graphFits edges g) ModelListLength)
+    (orElse (firstOf (g .mechanisms) (priorFault priors)) (unless (isGraph g) NoSuchGraph)))

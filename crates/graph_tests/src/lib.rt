@@ -1,0 +1,259 @@
+// Inner: tests 1 to 6, of sparse and of dense models: sizes, lengths, detector offsets, priors and detectors; and 7, of lent graph lists.
+// `graph` alone calls it.
+pub mod seven;
+
+ghost use mathlib.Core.Path.{_≡_};
+ghost use mathlib.Core.Bool.{_&&_};
+ghost use Prim.Native.Nat.{suc, _<_, _≤_};
+ghost use lib.ListN.{length, take};
+ghost use Rattle.numbers.specs.Loops.{every};
+ghost use Rattle.refusals.specs.Tests.{firstOf};
+ghost use Rattle.graph_lists.specs.Lists.{has};
+ghost use Rattle.graph_lists.specs.Model.{edgesGood, rising, offsetsGood, priorGood, priorFault, detectorFault, mechanismFault, countsGood, sizesGood, sparseFits, sparseFault, denseFault, graphLengths, mechanismTest};
+ghost use Rattle.graph_lists.specs.Sound.{Offsets};
+use graph_lists::Size;
+use graph_lists::indices::at;
+use refusals::Answer;
+use refusals::Refusal;
+use refusals_tests::at_most;
+use refusals_tests::both;
+use refusals_tests::is_done;
+use refusals_tests::one_more;
+use refusals_tests::same_number;
+
+// ---- 1 and 2
+
+// Checks and mechanisms within their limits.
+fn counts_good(checks: usize, mechanisms: usize) -> bool
+    ensures { λ r. ⌜ r ≡ countsGood checks mechanisms ⌝ }
+{
+    both(at_most(checks, 65536), at_most(mechanisms, 65536))
+}
+
+// Edges within theirs.
+fn edges_good(edges: usize) -> bool
+    ensures { λ r. ⌜ r ≡ edgesGood edges ⌝ }
+{
+    at_most(edges, 1048576)
+}
+
+// All three.
+pub fn sizes_good(s: Size) -> bool
+    ensures { λ r. ⌜ r ≡ sizesGood (s .checks) (s .mechanisms) (s .edges) ⌝ }
+{
+    both(counts_good(s.checks, s.mechanisms), edges_good(s.edges))
+}
+
+// The lengths of a sparse model's three lists.
+fn model_fits(s: Size, priors: usize, off: usize, dets: usize) -> bool
+    ensures { λ r. ⌜ r ≡ sparseFits (s .mechanisms) (s .edges) priors off dets ⌝ }
+{
+    both(
+        same_number(priors, s.mechanisms),
+        both(one_more(off, s.mechanisms), same_number(dets, s.edges)),
+    )
+}
+
+// The lengths of the six graph lists.
+pub fn lists_fit(
+    s: Size,
+    check_var: usize,
+    check_message: usize,
+    check_offset: usize,
+    var_check: usize,
+    var_message: usize,
+    var_offset: usize,
+) -> bool
+    ensures { λ r. ⌜ r ≡ graphLengths (s .checks) (s .mechanisms) (s .edges) «check_var» «check_message» «check_offset» «var_check» «var_message» «var_offset» ⌝ }
+{
+    let v = both(
+        same_number(var_check, s.edges),
+        both(
+            same_number(var_message, s.edges),
+            one_more(var_offset, s.mechanisms),
+        ),
+    );
+    both(
+        same_number(check_var, s.edges),
+        both(
+            same_number(check_message, s.edges),
+            both(one_more(check_offset, s.checks), v),
+        ),
+    )
+}
+
+// ---- 3
+
+// No offset is below the one before it.
+fn rises(rows: usize, off: &[u32]) -> bool
+    requires { ⌜ length (now off) ≡ suc rows ⌝ }
+    ensures { λ r. ⌜ r ≡ every rows (rising (now (off .entry))) ⌝ }
+{
+    let mut r = 0;
+    while r < rows {
+        let a = at(off, r);
+        let b = at(off, r + 1);
+        if b < a {
+            return false;
+        }
+        r += 1;
+    }
+    true
+}
+
+// Offsets start at 0, don't fall, and end at n.
+pub(crate) fn offsets_good(rows: usize, n: usize, off: &[u32]) -> bool
+    requires { ⌜ length (now off) ≡ suc rows ⌝ }
+    ensures { λ r. ⌜ r ≡ offsetsGood rows n (now (off .entry)) ⌝ }
+{
+    both(
+        same_number(at(off, 0), 0),
+        both(rises(rows, off), same_number(at(off, rows), n)),
+    )
+}
+
+// ---- 4, 5 and 6
+
+// From -30 to 30, and no NaN.
+fn prior_good(x: f64) -> bool
+    ensures { λ r. ⌜ r ≡ priorGood x ⌝ }
+{
+    -30.0 <= x && x <= 30.0
+}
+
+// Whether d is among the first i of ds.
+fn repeated(ds: &[u32], i: usize, d: usize) -> bool
+    requires { ⌜ i ≤ length (now ds) ⌝ }
+    ensures { λ r. ⌜ r ≡ has (take i (now (ds .entry))) d ⌝ }
+{
+    let mut j = 0;
+    while j < i {
+        if at(ds, j) == d {
+            return true;
+        }
+        j += 1;
+    }
+    false
+}
+
+// The i-th of m's detectors: range before repeat.
+fn detector_fault(checks: usize, m: usize, ds: &[u32], i: usize) -> Answer
+    requires { ⌜ i < length (now ds) ⌝ }
+    ensures { λ r. ⌜ r ≡ detectorFault checks m (now (ds .entry)) i ⌝ }
+{
+    let d = at(ds, i);
+    if checks <= d {
+        return Answer::Refused(Refusal::DetectorOutOfRange(m));
+    }
+    if repeated(ds, i, d) {
+        return Answer::Refused(Refusal::DetectorRepeated(m));
+    }
+    Answer::Done
+}
+
+// All of m's detectors, in list order.
+fn detectors_fault(checks: usize, m: usize, ds: &[u32]) -> Answer
+    ensures { λ r. ⌜ r ≡ firstOf (length (now (ds .entry))) (detectorFault checks m (now (ds .entry))) ⌝ }
+{
+    let mut i = 0;
+    while i < ds.len() {
+        let a = detector_fault(checks, m, ds, i);
+        if !is_done(a) {
+            return a;
+        }
+        i += 1;
+    }
+    Answer::Done
+}
+
+// The mechanism m: the prior, then the detectors.
+fn mechanism_fault(checks: usize, m: usize, prior: f64, ds: &[u32]) -> Answer
+    ensures { λ r. ⌜ r ≡ mechanismTest checks m prior (now (ds .entry)) ⌝ }
+{
+    if prior_good(prior) {
+        return detectors_fault(checks, m, ds);
+    }
+    Answer::Refused(Refusal::BadPrior(m))
+}
+
+// All mechanisms.
+fn mechanisms_fault(
+    checks: usize,
+    mechanisms: usize,
+    priors: &[f64],
+    off: &[u32],
+    dets: &[u32],
+) -> Answer
+    requires { ⌜ Offsets mechanisms (length (now dets)) (now off) ⌝ }
+    requires { ⌜ length (now priors) ≡ mechanisms ⌝ }
+    ensures { λ r. ⌜ r ≡ firstOf mechanisms (mechanismFault checks (now (priors .entry)) (now (off .entry)) (now (dets .entry))) ⌝ }
+{
+    let mut m = 0;
+    while m < mechanisms {
+        let start = at(off, m);
+        let end = at(off, m + 1);
+        let a = mechanism_fault(checks, m, priors[m], &dets[start..end]);
+        if !is_done(a) {
+            return a;
+        }
+        m += 1;
+    }
+    Answer::Done
+}
+
+// The priors alone.
+pub fn priors_fault(priors: &[f64]) -> Answer
+    ensures { λ r. ⌜ r ≡ firstOf (length (now (priors .entry))) (priorFault (now (priors .entry))) ⌝ }
+{
+    let mut m = 0;
+    while m < priors.len() {
+        if !prior_good(priors[m]) {
+            return Answer::Refused(Refusal::BadPrior(m));
+        }
+        m += 1;
+    }
+    Answer::Done
+}
+
+// ---- the tests of a sparse model
+
+// 1 to 6. `fit`: the lent graph lists have their lengths.
+pub fn sparse_fault(s: Size, priors: &[f64], off: &[u32], dets: &[u32], fit: bool) -> Answer
+    ensures { λ r. ⌜ r ≡ sparseFault (s .checks) (s .mechanisms) (s .edges) (now (priors .entry)) (now (off .entry)) (now (dets .entry)) fit ⌝ }
+{
+    if !sizes_good(s) {
+        return Answer::Refused(Refusal::SizeAboveLimit);
+    }
+    if !both(model_fits(s, priors.len(), off.len(), dets.len()), fit) {
+        return Answer::Refused(Refusal::ModelListLength);
+    }
+    if !offsets_good(s.mechanisms, dets.len(), off) {
+        return Answer::Refused(Refusal::BadDetectorOffsets);
+    }
+    mechanisms_fault(s.checks, s.mechanisms, priors, off, dets)
+}
+
+// ---- the tests of a dense model
+
+// Counts, the lengths of matrix and priors, edges, the lent graph lists, priors. `bytes`: the matrix's length; the size's edges: how many of
+// its bytes are not zero; `fit`: the lent graph lists have their lengths.
+pub fn dense_fault(s: Size, priors: &[f64], bytes: usize, fit: bool) -> Answer
+    ensures { λ r. ⌜ r ≡ denseFault (s .checks) (s .mechanisms) (s .edges) (now (priors .entry)) bytes fit ⌝ }
+{
+    if !counts_good(s.checks, s.mechanisms) {
+        return Answer::Refused(Refusal::SizeAboveLimit);
+    }
+    if !both(
+        same_number(bytes, s.checks * s.mechanisms),
+        same_number(priors.len(), s.mechanisms),
+    ) {
+        return Answer::Refused(Refusal::ModelListLength);
+    }
+    if !edges_good(s.edges) {
+        return Answer::Refused(Refusal::SizeAboveLimit);
+    }
+    if !fit {
+        return Answer::Refused(Refusal::ModelListLength);
+    }
+    priors_fault(priors)
+}

@@ -1,0 +1,101 @@
+// One check, over its own messages: a pass that finds the total sign and the two least magnitudes, and a pass that sends.
+ghost use mathlib.Core.Path.{_≡_};
+ghost use Prim.Native.Nat.{_≤_};
+ghost use lib.ListN.{length};
+ghost use Rattle.numbers.specs.Floats.{_*ᶠ_};
+ghost use Rattle.numbers.specs.Loops.{part, spliced};
+ghost use Rattle.graph_lists.specs.Messages.{scanOf};
+ghost use Rattle.graph_messages.specs.Needs.{Ordered};
+ghost use Rattle.min_sum_pass.specs.MinSum.{flippedBy, scanned as scannedOf, scan as scanTo, signWithout, sentTo, checkMessages};
+use graph_messages::Scan;
+use graph_messages::lowered;
+use graph_messages::start_scan;
+
+// -sign below zero, else sign.
+fn flipped(sign: f64, message: f64) -> f64
+    ensures { λ r. ⌜ r ≡ flippedBy sign message ⌝ }
+{
+    if message < 0.0 {
+        return -sign;
+    }
+    sign
+}
+
+// The message at a position.
+fn scanned(s: Scan, position: usize, message: f64) -> Scan
+    requires { ⌜ Ordered (s .min1) (s .min2) ⌝ }
+    ensures scan { λ r. ⌜ scanOf (r .«total_sign») (r .min1) (r .min2) (r .least) ≡ scannedOf (scanOf (s .«total_sign») (s .min1) (s .min2) (s .least)) position message ⌝ }
+    ensures ordered { λ r. ⌜ Ordered (r .min1) (r .min2) ⌝ }
+{
+    lowered(s, flipped(s.total_sign, message), position, message)
+}
+
+// The first pass.
+fn scan_check(odd: bool, messages: &[f64]) -> Scan
+    ensures { λ r. ⌜ scanOf (r .«total_sign») (r .min1) (r .min2) (r .least) ≡ scanTo odd (now (messages .entry)) (length (now (messages .entry))) ⌝ }
+{
+    let mut s = start_scan(odd, 0xFFFFFFFFFFFFFFFF);
+    let mut i = 0;
+    while i < messages.len() {
+        s = scanned(s, i, messages[i]);
+        i += 1;
+    }
+    s
+}
+
+// `total_sign.copysign(total_sign * message)`, where the total sign is 1 or -1.
+fn sign_without(total_sign: f64, message: f64) -> f64
+    ensures { λ r. ⌜ r ≡ signWithout «total_sign» message ⌝ }
+{
+    if numbers::is_negative(total_sign * message) {
+        return -1.0;
+    }
+    1.0
+}
+
+// A message sent: (sign times minimum) times scale.
+fn sent(scale: f64, total_sign: f64, minimum: f64, message: f64) -> f64
+    ensures { λ r. ⌜ r ≡ signWithout «total_sign» message *ᶠ minimum *ᶠ scale ⌝ }
+{
+    sign_without(total_sign, message) * minimum * scale
+}
+
+// One minimum sent at all positions.
+fn send(scale: f64, total_sign: f64, minimum: f64, v_to_c: &[f64], c_to_v: &mut [f64])
+    requires { ⌜ length (now «c_to_v») ≡ length (now «v_to_c») ⌝ }
+    ensures { λ _. ⌜ now («c_to_v» .exit) ≡ sentTo scale (scanOf «total_sign» minimum minimum 0) (now («v_to_c» .entry)) (length (now («v_to_c» .entry))) ⌝ }
+{
+    let mut i = 0;
+    while i < v_to_c.len() {
+        c_to_v[i] = sent(scale, total_sign, minimum, v_to_c[i]);
+        i += 1;
+    }
+}
+
+// All that a check of two entries or more sends, from all that came in: the least at all positions, and the next at the position of the least.
+fn update_check(scale: f64, odd: bool, v_to_c: &[f64], c_to_v: &mut [f64])
+    requires { ⌜ length (now «c_to_v») ≡ length (now «v_to_c») ⌝ }
+    ensures { λ _. ⌜ now («c_to_v» .exit) ≡ checkMessages scale odd (now («v_to_c» .entry)) ⌝ }
+{
+    let s = scan_check(odd, v_to_c);
+    send(scale, s.total_sign, s.min1, v_to_c, c_to_v);
+    let least = s.least;
+    if least < v_to_c.len() {
+        c_to_v[least] = sent(scale, s.total_sign, s.min2, v_to_c[least]);
+    }
+}
+
+// That, for the check whose messages lie from `start` to `end`.
+pub(crate) fn update_part(
+    scale: f64,
+    odd: bool,
+    start: usize,
+    end: usize,
+    v_to_c: &[f64],
+    c_to_v: &mut [f64],
+)
+    requires { ⌜ (start ≤ end) × (end ≤ length (now «v_to_c»)) × (length (now «c_to_v») ≡ length (now «v_to_c»)) ⌝ }
+    ensures { λ _. ⌜ now («c_to_v» .exit) ≡ spliced (now («c_to_v» .entry)) start end (checkMessages scale odd (part start end (now («v_to_c» .entry)))) ⌝ }
+{
+    update_check(scale, odd, &v_to_c[start..end], &mut c_to_v[start..end]);
+}

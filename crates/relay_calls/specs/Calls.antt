@@ -1,0 +1,272 @@
+-- The public calls of `relay`: `iteration`, `decode_in_order`, `decode` and `leg_record`. For each its tests in document 01's order, its answer, and what it
+-- leaves in every lent list. Definitions only. Assumes nothing.
+use Prim.Native.Nat.{ℕ, zero, suc, _*_}
+use mathlib.Core.Bool.{Bool, true, false, _&&_, cond}
+use mathlib.Core.List.{List}
+use mathlib.Core.Option.{Option, none, some}
+use lib.Dec.{eqb, leb, ltb}
+use lib.Ieee.{Float, nan}
+use lib.ListN.{length, getD, replicate}
+use Rattle.numbers.specs.Floats.{zero⁺, isFinite}
+use Rattle.numbers.specs.Loops.{every, over, upto}
+use Rattle.refusals.specs.declared.Refusal.the-variants.{BadAlpha, SyndromeLength, SyndromeNotBinary, LentListLength, StateNotFinite, NonFinite}
+use Rattle.refusals.specs.declared.Answer.{Answer}
+use Rattle.refusals.specs.declared.Answer.the-variants.{Done, Refused}
+use Rattle.refusals.specs.Tests.{unless, orElse, firstOf, unlessRefused}
+use Rattle.graph_lists.specs.Graph.{Graph, varEntries}
+use Rattle.graph_lists.specs.Model.{graphFault}
+use Rattle.relay_settings.specs.declared.Schedule.{Schedule}
+use Rattle.relay_calls.specs.declared.Decoded.{Decoded}
+use Rattle.relay_calls.specs.declared.Decoded.the-variants as Decoded
+use Rattle.relay_calls.specs.declared.LegRecord.{LegRecord}
+use Rattle.relay_calls.specs.declared.LegRecord.the-variants as LegRecord
+use Rattle.relay_settings.specs.Settings.{alphaGood, settingsFault}
+use Rattle.relay_step.specs.Step.{State, state, iteration}
+use Rattle.relay_orders.specs.Order.{namesFault, exchangeFault}
+use Rattle.relay_calls.specs.Decode.{Shot, Run, Ended, decoded, refused, decodeLegs, correctionOf}
+
+-- 21 for one check: its byte is 0 or 1
+unfoldable pub byteFault : List ℕ → ℕ → Answer
+byteFault syndrome c = unless (leb (getD syndrome c 0) 1) (SyndromeNotBinary c)
+
+-- 20, then 21: a byte for each check, and each 0 or 1
+unfoldable pub syndromeFault : ℕ → List ℕ → Answer
+syndromeFault checks syndrome = orElse (unless (eqb (length syndrome) checks) SyndromeLength) (firstOf checks (byteFault syndrome))
+
+-- ---- the single iteration
+
+-- its lent lists: the state goes in and comes back, and the bias is for work
+pub record StepLists : Type 0 where
+  pub now : State
+  pub bias : List Float
+
+abbrev pub stepLists : State → List Float → StepLists
+stepLists s b = record { now = s; bias = b }
+
+-- the answer, and the lists as they are after
+pub record StepOutcome : Type 0 where
+  pub answer : Answer
+  pub left : StepLists
+
+abbrev pub stepOutcome : Answer → StepLists → StepOutcome
+stepOutcome a l = record { answer = a; left = l }
+
+-- 22: the lists, and the gammas, fit a graph with this many edges exactly
+unfoldable pub stepFits : ℕ → Graph → List Float → StepLists → Bool
+stepFits edges g gamma l =
+    eqb (length gamma) (g .mechanisms)
+    && (eqb (length (l .now .cToV)) edges
+    && (eqb (length (l .now .vToC)) edges && (eqb (length (l .now .posterior)) (g .mechanisms) && eqb (length (l .bias)) (g .mechanisms))))
+
+-- whether the element i is finite
+unfoldable pub finiteAt : List Float → ℕ → Bool
+finiteAt xs i = isFinite (getD xs i nan)
+
+-- whether all of a list are
+unfoldable pub allFinite : List Float → Bool
+allFinite xs = every (length xs) (finiteAt xs)
+
+-- 25: the messages, the posterior and the gammas are finite
+unfoldable pub stateFinite : List Float → State → Bool
+stateFinite gamma s = allFinite (s .cToV) && (allFinite (s .vToC) && (allFinite (s .posterior) && allFinite gamma))
+
+-- the tests of `iteration`: 1, 2, 4, 7, 10, 20, 21, 22, 23, 25
+unfoldable pub stepFault : ℕ → List Float → Graph → Float → List Float → List ℕ → List ℕ → StepLists → Answer
+stepFault edges prior g alpha gamma syndrome order l =
+    orElse (graphFault edges prior g)
+    (orElse (unless (alphaGood alpha) BadAlpha)
+    (orElse (syndromeFault (g .checks) syndrome)
+    (orElse (unless (stepFits edges g gamma l) LentListLength)
+    (orElse (namesFault (g .checks) order) (unless (stateFinite gamma (l .now)) StateNotFinite)))))
+
+-- both messages that the i-th of these entries names are finite
+unfoldable pub messageFinite : State → List ℕ → ℕ → Bool
+messageFinite s entries i = finiteAt (s .cToV) (getD entries i 0) && finiteAt (s .vToC) (getD entries i 0)
+
+-- the posterior and all messages of the mechanism v are finite
+unfoldable pub mechanismFinite : Graph → State → ℕ → Bool
+mechanismFinite g s v = finiteAt (s .posterior) v && every (length (varEntries g v)) (messageFinite s (varEntries g v))
+
+-- 30 for one mechanism
+unfoldable pub mechanismFault : Graph → State → ℕ → Answer
+mechanismFault g s v = unless (mechanismFinite g s v) (NonFinite v)
+
+-- 30: the first mechanism that has a posterior or a message that is not finite
+unfoldable pub stepEnd : Graph → State → Answer
+stepEnd g s = firstOf (g .mechanisms) (mechanismFault g s)
+
+-- past the tests: the state after the step, zeroed on 30, and a zeroed bias
+unfoldable pub stepped : ℕ → Graph → State → StepOutcome
+stepped edges g s =
+    let a = stepEnd g s in
+    let zeros = replicate (g .mechanisms) zero⁺ in
+    stepOutcome a (stepLists (unlessRefused a s (state (replicate edges zero⁺) (replicate edges zero⁺) zeros)) zeros)
+
+-- a call that its tests refuse writes nothing
+abbrev pub afterStepTests : Answer → StepOutcome → StepLists → StepOutcome
+afterStepTests Done o l = o
+afterStepTests (Refused r) o l = stepOutcome (Refused r) l
+
+-- `iteration`: one step of the schedule in the order given
+unfoldable pub iterationCall : ℕ → List Float → Graph → Schedule → Float → List Float → List ℕ → List ℕ → StepLists → StepOutcome
+iterationCall edges prior g schedule alpha gamma syndrome order l =
+    let o = stepped edges g (iteration schedule g alpha syndrome prior gamma order (l .now)) in
+    afterStepTests (stepFault edges prior g alpha gamma syndrome order l) o l
+
+-- ---- decode
+
+-- its lent lists: the legs' records, the correction and the posterior are results, and the rest is for work
+pub record Lists : Type 0 where
+  pub legState : List ℕ
+  pub legIterations : List ℕ
+  pub legWeight : List Float
+  pub rows : List ℕ
+  pub correction : List ℕ
+  pub posterior : List Float
+  pub gamma : List Float
+  pub bias : List Float
+  pub cToV : List Float
+  pub vToC : List Float
+
+-- the answer, and the lists as they are after
+pub record Outcome : Type 0 where
+  pub answer : Decoded
+  pub left : Lists
+
+abbrev pub outcome : Decoded → Lists → Outcome
+outcome a l = record { answer = a; left = l }
+
+-- 22: the legs' lists have at least num_legs + 1 rows, and the others fit a graph with this many edges exactly
+unfoldable pub listsFit : ℕ → Shot → Lists → Bool
+listsFit edges x l =
+    let legs = suc (x .settings .«num_legs») in
+    let mechanisms = x .graph .mechanisms in
+    leb legs (length (l .legState))
+    && (leb legs (length (l .legIterations))
+    && (leb legs (length (l .legWeight))
+    && (leb (legs * mechanisms) (length (l .rows))
+    && (eqb (length (l .correction)) mechanisms
+    && (eqb (length (l .posterior)) mechanisms
+    && (eqb (length (l .gamma)) mechanisms
+    && (eqb (length (l .bias)) mechanisms && (eqb (length (l .cToV)) edges && eqb (length (l .vToC)) edges))))))))
+
+-- the tests of a decode: 1, 2, 4, 7, 10 to 24
+unfoldable pub decodeFault : ℕ → Shot → Lists → Answer
+decodeFault edges x l =
+    orElse (graphFault edges (x .prior) (x .graph))
+    (orElse (settingsFault (x .settings) (x .graph .mechanisms) (x .gammas))
+    (orElse (syndromeFault (x .graph .checks) (x .syndrome))
+    (orElse (unless (listsFit edges x l) LentListLength)
+    (orElse (namesFault (x .graph .checks) (x .order)) (exchangeFault (x .settings .schedule) (x .graph) (x .order))))))
+
+-- what a run answers
+abbrev pub answered : Run → Option Float → Decoded
+answered run none = Decoded.NotConverged (run .executedLegs) (run .totalIterations)
+answered run (some weight) = Decoded.Converged (run .executedLegs) (run .totalIterations) weight
+
+-- the lists after a run: the legs' records over the front of theirs, whose surplus is kept, and zeroed work lists
+unfoldable pub leftBy : ℕ → Shot → Run → Lists → Lists
+leftBy edges x run l =
+    let zeros = replicate (x .graph .mechanisms) zero⁺ in
+    record {
+      legState = over (run .legState) (l .legState);
+      legIterations = over (run .legIterations) (l .legIterations);
+      legWeight = over (run .legWeight) (l .legWeight);
+      rows = over (run .rows) (l .rows);
+      correction = correctionOf run (run .bestWeight);
+      posterior = run .posterior;
+      gamma = zeros;
+      bias = zeros;
+      cToV = replicate edges zero⁺;
+      vToC = replicate edges zero⁺;
+    }
+
+-- the lists after refusal 30: every result list is zeroed, all num_legs + 1 rows, and the work lists too
+unfoldable pub zeroed : ℕ → Shot → Lists → Lists
+zeroed edges x l =
+    let legs = suc (x .settings .«num_legs») in
+    let mechanisms = x .graph .mechanisms in
+    let zeros = replicate mechanisms zero⁺ in
+    record {
+      legState = over (replicate legs 0) (l .legState);
+      legIterations = over (replicate legs 0) (l .legIterations);
+      legWeight = over (replicate legs zero⁺) (l .legWeight);
+      rows = over (replicate (legs * mechanisms) 0) (l .rows);
+      correction = replicate mechanisms 0;
+      posterior = zeros;
+      gamma = zeros;
+      bias = zeros;
+      cToV = replicate edges zero⁺;
+      vToC = replicate edges zero⁺;
+    }
+
+-- past the tests
+abbrev pub afterLegs : ℕ → Shot → Ended → Lists → Outcome
+afterLegs edges x (decoded run) l = outcome (answered run (run .bestWeight)) (leftBy edges x run l)
+afterLegs edges x (refused r) l = outcome (Decoded.Refused r) (zeroed edges x l)
+
+-- a call that its tests refuse writes nothing
+abbrev pub afterTests : Answer → Outcome → Lists → Outcome
+afterTests Done o l = o
+afterTests (Refused r) o l = outcome (Decoded.Refused r) l
+
+-- `decode_in_order`: the checks in the order that the shot has
+unfoldable pub decodeInOrder : ℕ → Shot → Lists → Outcome
+decodeInOrder edges x l = let o = afterLegs edges x (decodeLegs x) l in afterTests (decodeFault edges x l) o l
+
+-- a shot in another order
+abbrev pub withOrder : Shot → List ℕ → Shot
+withOrder x order =
+    record { graph = x .graph; prior = x .prior; settings = x .settings; gammas = x .gammas; order = order; syndrome = x .syndrome; seed = x .seed }
+
+-- `decode`: the checks in index order, whatever order the shot has
+unfoldable pub decode : ℕ → Shot → Lists → Outcome
+decode edges x l = decodeInOrder edges (withOrder x (upto (x .graph .checks))) l
+
+-- document 01's words for an answer: the refusal, if there is one; converged or not; executed legs; total iterations; and the weight, if there is one
+pub record Told : Type 0 where
+  pub refusal : Answer
+  pub converged : Bool
+  pub executedLegs : ℕ
+  pub totalIterations : ℕ
+  pub weight : Option Float
+
+abbrev pub told : Answer → Bool → ℕ → ℕ → Option Float → Told
+told a c n t w = record { refusal = a; converged = c; executedLegs = n; totalIterations = t; weight = w }
+
+-- what each answer says in them
+abbrev pub tellOf : Decoded → Told
+tellOf (Decoded.Converged n t w) = told Done true n t (some w)
+tellOf (Decoded.NotConverged n t) = told Done false n t none
+tellOf (Decoded.Refused r) = told (Refused r) false 0 0 none
+
+-- ---- a leg's record
+
+-- the values that stand for a record in the leg lists
+pub record LegValues : Type 0 where
+  pub legState : ℕ
+  pub legIterations : ℕ
+  pub legWeight : Float
+
+abbrev pub legValues : ℕ → ℕ → Float → LegValues
+legValues s i w = record { legState = s; legIterations = i; legWeight = w }
+
+-- document 01's values of each record
+abbrev pub valuesOf : LegRecord → LegValues
+valuesOf (LegRecord.Converged weight iterations) = legValues 2 iterations weight
+valuesOf (LegRecord.RanOut iterations) = legValues 1 iterations zero⁺
+valuesOf LegRecord.NotExecuted = legValues 0 0 zero⁺
+
+-- what a leg's state, iterations and weight say: 2 is converged, 1 ran out, and anything else was not executed
+abbrev pub recordOf : ℕ → ℕ → Float → LegRecord
+recordOf zero iterations weight = LegRecord.NotExecuted
+recordOf (suc zero) iterations weight = LegRecord.RanOut iterations
+recordOf (suc (suc zero)) iterations weight = LegRecord.Converged weight iterations
+recordOf (suc (suc (suc n))) iterations weight = LegRecord.NotExecuted
+
+-- `leg_record`: the leg r out of the leg lists; outside one of them it was not executed
+unfoldable pub legRecord : List ℕ → List ℕ → List Float → ℕ → LegRecord
+legRecord legState legIterations legWeight r =
+    cond (ltb r (length legState) && (ltb r (length legIterations) && ltb r (length legWeight)))
+    (recordOf (getD legState r 0) (getD legIterations r 0) (getD legWeight r nan))
+    LegRecord.NotExecuted

@@ -1,0 +1,150 @@
+-- `RelayBp::decode` of relay.rs past its tests, in a given order of checks: leg after leg, with the record of each. Definitions only. Assumes nothing.
+use Prim.Native.Nat.{ℕ, zero, suc, _+_, _*_}
+use mathlib.Core.Bool.{Bool, true, false, _&&_, cond}
+use mathlib.Core.List.{List}
+use mathlib.Core.Option.{Option, none, some}
+use lib.Dec.{leb}
+use lib.Ieee.{Float, lt}
+use lib.ListN.{set, replicate}
+use Rattle.numbers.specs.Floats.{zero⁺}
+use Rattle.numbers.specs.Loops.{spliced}
+use Rattle.refusals.specs.declared.Refusal.{Refusal}
+use Rattle.refusals.specs.declared.Answer.{Answer}
+use Rattle.refusals.specs.declared.Answer.the-variants.{Done, Refused}
+use Rattle.graph_lists.specs.Graph.{Graph}
+use Rattle.graph_lists.specs.Messages.{posteriorFault}
+use Rattle.relay_settings.specs.declared.Settings.{Settings}
+use Rattle.relay_step.specs.Step.{State, iteration}
+use Rattle.relay_step.specs.Leg.{Leg, startLeg, runLeg, satisfied, hardDecision, correctionWeight}
+use Rattle.relay_gammas.specs.Gammas.{gammaOf}
+
+-- what one decode is of: a model, its settings with the flat list of gammas, an order of the checks, a syndrome and a seed
+pub record Shot : Type 0 where
+  pub graph : Graph
+  pub prior : List Float
+  pub settings : Settings
+  pub gammas : List Float
+  pub order : List ℕ
+  pub syndrome : List ℕ
+  pub seed : ℕ
+
+-- ---- one leg
+
+-- `iteration_limit`
+unfoldable pub iterationLimit : Settings → ℕ → ℕ
+iterationLimit t zero = t .«pre_iterations»
+iterationLimit t (suc r) = t .«leg_iterations»
+
+-- one iteration of the leg r: the public single iteration's step, with the leg's gammas
+unfoldable pub stepOf : Shot → ℕ → State → State
+stepOf x r =
+    iteration (x .settings .schedule) (x .graph) (x .settings .alpha) (x .syndrome) (x .prior)
+    (gammaOf (x .settings) (x .gammas) (x .graph .mechanisms) (x .seed) r)
+    (x .order)
+
+-- the leg r, from the posterior that the legs before it left
+unfoldable pub executedLeg : Shot → ℕ → List Float → Leg
+executedLeg x r posterior =
+    runLeg (stepOf x r) (satisfied (x .graph) (x .syndrome)) (iterationLimit (x .settings) r) false 0 (startLeg (x .graph) (x .prior) posterior)
+
+-- ---- between legs
+
+-- the posterior, the last hard decision, how many legs have converged, the best of them, the iterations and legs so far, and the records of all legs: for leg r
+-- its state (2 converged, 1 ran out, 0 not executed), its iterations, its weight, and its correction as a row of the flat list `rows`
+pub record Run : Type 0 where
+  pub posterior : List Float
+  pub hardBits : List ℕ
+  pub numConverged : ℕ
+  pub bestWeight : Option Float
+  pub bestCorrection : List ℕ
+  pub totalIterations : ℕ
+  pub executedLegs : ℕ
+  pub legState : List ℕ
+  pub legIterations : List ℕ
+  pub legWeight : List Float
+  pub rows : List ℕ
+
+-- before the first leg: the posterior is the priors, and num_legs + 1 records are empty
+unfoldable pub startRun : Shot → Run
+startRun x =
+    let legs = suc (x .settings .«num_legs») in
+    let mechanisms = x .graph .mechanisms in
+    record {
+      posterior = x .prior;
+      hardBits = replicate mechanisms 0;
+      numConverged = 0;
+      bestWeight = none;
+      bestCorrection = replicate mechanisms 0;
+      totalIterations = 0;
+      executedLegs = 0;
+      legState = replicate legs 0;
+      legIterations = replicate legs 0;
+      legWeight = replicate legs zero⁺;
+      rows = replicate (legs * mechanisms) 0;
+    }
+
+-- `best_weight.is_none_or(|current| weight < current)`
+abbrev pub isNoneOr : Option Float → Float → Bool
+isNoneOr none weight = true
+isNoneOr (some current) weight = lt weight current
+
+-- what the leg r adds to the run
+unfoldable pub recorded : Shot → Run → ℕ → Leg → Run
+recorded x run r l =
+    let mechanisms = x .graph .mechanisms in
+    let bits = hardDecision (l .left .posterior) in
+    let weight = correctionWeight (x .prior) bits mechanisms in
+    let better = l .converged && isNoneOr (run .bestWeight) weight in
+    record {
+      posterior = l .left .posterior;
+      hardBits = bits;
+      numConverged = run .numConverged + cond (l .converged) 1 0;
+      bestWeight = cond better (some weight) (run .bestWeight);
+      bestCorrection = cond better bits (run .bestCorrection);
+      totalIterations = run .totalIterations + l .iterations;
+      executedLegs = suc r;
+      legState = set (run .legState) r (cond (l .converged) 2 1);
+      legIterations = set (run .legIterations) r (l .iterations);
+      legWeight = set (run .legWeight) r (cond (l .converged) weight zero⁺);
+      rows = cond (l .converged) (spliced (run .rows) (r * mechanisms) (r * mechanisms + mechanisms) bits) (run .rows);
+    }
+
+-- ---- leg after leg
+
+-- how a decode ends: with a run, or with refusal 30
+pub data Ended : Type 0 where
+  decoded : Run → Ended
+  refused : Refusal → Ended
+
+-- on the way: legs still to come, or the end
+pub data Progress : Type 0 where
+  running : Run → Progress
+  finished : Ended → Progress
+
+-- after a leg: refused, or ended once enough have converged, or on to the next
+abbrev pub judged : Answer → Bool → Run → Progress
+judged (Refused r) enough run = finished (refused r)
+judged Done true run = finished (decoded run)
+judged Done false run = running run
+
+-- the leg r, recorded and judged
+unfoldable pub afterLeg : Shot → ℕ → Run → Progress
+afterLeg x r before =
+    let run = recorded x before r (executedLeg x r (before .posterior)) in
+    judged (posteriorFault (x .graph) (run .posterior)) (leb (x .settings .«stop_after_converged») (run .numConverged)) run
+
+-- n legs to go, from the leg r on
+unfoldable pub legs : Shot → ℕ → Progress → ℕ → Ended
+legs x zero (running run) r = decoded run
+legs x zero (finished e) r = e
+legs x (suc n) (running run) r = legs x n (afterLeg x r run) (suc r)
+legs x (suc n) (finished e) r = e
+
+-- all legs, from leg zero
+unfoldable pub decodeLegs : Shot → Ended
+decodeLegs x = legs x (suc (x .settings .«num_legs»)) (running (startRun x)) 0
+
+-- the least weighty correction, or without convergence the last hard decision
+abbrev pub correctionOf : Run → Option Float → List ℕ
+correctionOf run none = run .hardBits
+correctionOf run (some weight) = run .bestCorrection

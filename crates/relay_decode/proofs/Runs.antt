@@ -1,0 +1,198 @@
+-- Leg after leg, as the code has it: what is kept of a run, one leg further, and how the legs end. Assumes nothing.
+use mathlib.Core.Path.{_≡_, refl, sym, ap, _∙_}
+use mathlib.Core.Bool.{Bool, true, false, not, _&&_, _||_, cond, true≢false, false≢true}
+use mathlib.Core.List.{List}
+use mathlib.Core.Option.{Option, none, some}
+use Prim.Native.Nat.{ℕ, zero, suc, _+_, _-_, _*_, _<_, _≤_}
+use native.Mathlib.Nat.{sub-zero, sub-eq-zero-of-le, suc-mul}
+use native.Mathlib.Numerals.{add-one}
+use native.Mathlib.Omega.{arith}
+use lib.Dec.{leb}
+use lib.Ieee.{Float, lt}
+use lib.ListN.{length, getD, replicate}
+use Rattle.refusals.specs.declared.Answer.{Answer}
+use Rattle.refusals.specs.declared.Answer.the-variants.{Done, Refused}
+use Rattle.refusals.specs.Tests.{isDone, firstOf}
+use Rattle.graph_lists.specs.Messages.{valueFault, posteriorFault}
+use Rattle.relay_calls.specs.declared.Decoded.{Decoded}
+use Rattle.relay_step.specs.Leg.{Leg, hardDecision, correctionWeight}
+use Rattle.relay_calls.specs.Decode.{Shot, Run, Ended, decoded, refused, Progress, running, finished, isNoneOr, executedLeg, startRun, recorded, judged, afterLeg, legs, decodeLegs, correctionOf}
+use Rattle.relay_calls.specs.Calls.{answered}
+use Rattle.relay_record.specs.Kept.{Kept, kept, keptOf, corrected, keptWith, keptAfter, Blank, answerOf, isRefused, answerBy, Results, results, resultsOf, started}
+
+-- ---- what is kept of a run
+
+-- the correction that would be answered, one leg further
+corrected-is : (run new : Run) (b : Bool) (best : Option Float) (w : Float) (bits : List ℕ) → new .hardBits ≡ bits
+    → new .bestCorrection ≡ cond (b && isNoneOr best w) bits (run .bestCorrection)
+    → correctionOf new (cond (b && isNoneOr best w) (some w) best) ≡ corrected b best w bits (correctionOf run best)
+corrected-is run new false none w bits h k = h
+corrected-is run new false (some x) w bits h k = k
+corrected-is run new true none w bits h k = k
+corrected-is run new true (some x) w bits h k = go (lt w x) k
+  where
+    go : (q : Bool) → new .bestCorrection ≡ cond q bits (run .bestCorrection) → correctionOf new (cond q (some w) (some x)) ≡ cond q bits (run .bestCorrection)
+    go true e = e
+    go false e = e
+
+-- what is kept, one leg further, is what is kept of the run that is one leg further
+kept-recorded : (x : Shot) (run : Run) (r : ℕ) (l : Leg) → keptOf (recorded x run r l) ≡ keptAfter x (keptOf run) r l
+unfolding recorded keptAfter keptWith
+kept-recorded x run r l =
+    let new = recorded x run r l in
+    let bits = hardDecision (l .left .posterior) in
+    ap (λ c. kept (new .bestWeight) (new .numConverged) (new .totalIterations) (new .executedLegs) (new .legState) (new .legIterations) (new .legWeight) (new .rows) c (new .posterior))
+    (corrected-is run new (l .converged) (run .bestWeight) (correctionWeight (x .prior) bits (x .graph .mechanisms)) bits refl refl)
+
+-- the result lists among it
+abbrev listsOf : Kept → Results
+listsOf k = results (k .legState) (k .legIterations) (k .legWeight) (k .rows) (k .correction) (k .posterior)
+
+-- what a run that has ended answers
+answered-by : (run : Run) (best : Option Float) → answerBy Done best (run .executedLegs) (run .totalIterations) ≡ answered run best
+answered-by run none = refl
+answered-by run (some w) = refl
+
+-- ---- the legs
+
+-- how the legs end, where they do
+abbrev endOf : Answer → Run → Ended
+endOf (Refused r) run = refused r
+endOf Done run = decoded run
+
+judged-end : (a : Answer) (enough : Bool) (run : Run) → (not (isDone a) || enough) ≡ true → judged a enough run ≡ finished (endOf a run)
+judged-end (Refused r) enough run h = refl
+judged-end Done true run h = refl
+judged-end Done false run h = absurd (false≢true h)
+
+judged-on : (a : Answer) (enough : Bool) (run : Run) → (not (isDone a) || enough) ≡ false → judged a enough run ≡ running run
+judged-on (Refused r) enough run h = absurd (true≢false h)
+judged-on Done true run h = absurd (true≢false h)
+judged-on Done false run h = refl
+
+-- nothing follows the end
+legs-finished : (x : Shot) (n : ℕ) (e : Ended) (r : ℕ) → legs x n (finished e) r ≡ e
+unfolding legs
+legs-finished x zero e r = refl
+legs-finished x (suc n) e r = refl
+
+module _ (x : Shot) where
+  -- how many legs there are
+  abbrev many : ℕ
+  many = suc (x .settings .«num_legs»)
+
+  -- before the leg r, some run is reached of which this is kept
+  pub record Reached (r : ℕ) (k : Kept) : Type 0 where
+    pub run : Run
+    pub ahead : legs x (many - r) (running run) r ≡ decodeLegs x
+    pub is : keptOf run ≡ k
+
+  -- and after it, not yet judged
+  pub record Turned (r : ℕ) (k : Kept) : Type 0 where
+    pub run : Run
+    pub ahead : legs x (many - suc r) (judged (posteriorFault (x .graph) (k .posterior)) (leb (x .settings .«stop_after_converged») (k .numConverged)) run) (suc r) ≡ decodeLegs x
+    pub is : keptOf run ≡ k
+
+  -- what is answered at the end e, and left
+  abbrev Ends : Ended → Decoded → Kept → Type 0
+  Ends e d k = (d ≡ answerOf e) × (isRefused d ≡ false → listsOf k ≡ resultsOf x e)
+
+  module _ (r : ℕ) (k′ : Kept) where
+    -- the leg r
+    pub turned : (k : Kept) → Reached r k → r < many → k′ ≡ keptAfter x k r (executedLeg x r (k .posterior)) → Turned r k′
+    unfolding legs afterLeg
+    turned k s h e =
+        let l = executedLeg x r (s .run .posterior) in
+        let new = recorded x (s .run) r l in
+        let same : keptOf new ≡ k′ = kept-recorded x (s .run) r l ∙ ap (λ (z : Kept). keptAfter x z r (executedLeg x r (z .posterior))) (s .is) ∙ sym e in
+        let left : many - r ≡ suc (many - suc r) = omega arith in
+        let whole : legs x (many - suc r) (afterLeg x r (s .run)) (suc r) ≡ decodeLegs x = ap (λ n. legs x n (running (s .run)) r) (sym left) ∙ s .ahead in
+        record {
+          run = new;
+          ahead =
+              ap (λ (z : Kept). legs x (many - suc r) (judged (posteriorFault (x .graph) (z .posterior)) (leb (x .settings .«stop_after_converged») (z .numConverged)) new) (suc r)) (sym same)
+              ∙ whole;
+          is = same;
+        }
+
+    module _ (s : Turned r k′) (a : Answer) (b : Bool) (e : a ≡ posteriorFault (x .graph) (k′ .posterior)) (d : b ≡ (not (isDone a) || leb (x .settings .«stop_after_converged») (k′ .numConverged))) where
+      -- the verdict, by what the test said
+      abbrev verdict : Answer → Progress
+      verdict z = judged z (leb (x .settings .«stop_after_converged») (k′ .numConverged)) (s .run)
+
+      ahead-by : legs x (many - suc r) (verdict a) (suc r) ≡ decodeLegs x
+      ahead-by = ap (λ z. legs x (many - suc r) (verdict z) (suc r)) e ∙ s .ahead
+
+      -- on to the next leg
+      reached-on : b ≡ false → Reached (suc r) k′
+      reached-on h = record { run = s .run; ahead = ap (λ z. legs x (many - suc r) z (suc r)) (sym (judged-on a _ (s .run) (sym d ∙ h))) ∙ ahead-by; is = s .is }
+
+      -- or no leg follows
+      ended-at : b ≡ true → endOf a (s .run) ≡ decodeLegs x
+      ended-at h =
+          sym (legs-finished x (many - suc r) (endOf a (s .run)) (suc r))
+          ∙ ap (λ z. legs x (many - suc r) z (suc r)) (sym (judged-end a _ (s .run) (sym d ∙ h)))
+          ∙ ahead-by
+
+  -- what an end says of a run of which this is kept
+  ends-by : (a : Answer) (run : Run) (k : Kept) → keptOf run ≡ k → Ends (endOf a run) (answerBy a (k .best) (k .executedLegs) (k .totalIterations)) k
+  ends-by (Refused z) run k e = (refl, λ h. absurd (true≢false h))
+  ends-by Done run k e =
+      (ap (λ (z : Kept). answerBy Done (z .best) (z .executedLegs) (z .totalIterations)) (sym e) ∙ answered-by run (run .bestWeight), λ h. ap (λ (z : Kept). listsOf z) (sym e))
+
+  -- the same, of an end that is the legs'
+  ends-as : (f e : Ended) (d c : Decoded) (k : Kept) → f ≡ e → c ≡ d → Ends f d k → Ends e c k
+  ends-as f e d c k p q h = rw (← p, q) h
+
+  module _ (best : Option Float) (num total : ℕ) (ss is : List ℕ) (ws : List Float) (rows cor : List ℕ) (p : List Float) where
+    -- the start
+    pub reached-start : results ss is ws rows cor p ≡ started x → Reached 0 (kept none 0 0 0 ss is ws rows cor p)
+    unfolding decodeLegs startRun
+    reached-start e =
+        record {
+          run = startRun x;
+          ahead = rw sub-zero;
+          is = ap (λ (z : Results). kept none 0 0 0 (z .legState) (z .legIterations) (z .legWeight) (z .rows) (z .correction) (z .posterior)) (sym e);
+        }
+
+    -- a turn of the loop
+    pub run-on : (r : ℕ) (k : Kept) → Reached r k → r < many → kept best num total (suc r) ss is ws rows cor p ≡ keptAfter x k r (executedLeg x r (k .posterior))
+        → (a : Answer) (b : Bool) → length p ≡ x .graph .mechanisms → a ≡ firstOf (length p) (valueFault p)
+        → b ≡ (not (isDone a) || leb (x .settings .«stop_after_converged») num) → b ≡ false → Reached (r + 1) (kept best num total (r + 1) ss is ws rows cor p)
+    unfolding posteriorFault
+    run-on r k s l e a b m f d h = rw add-one (reached-on r _ (turned r _ k s l e) a b (f ∙ ap (λ n. firstOf n (valueFault p)) m) d h)
+
+    -- the way out after a leg
+    pub run-ended : (r : ℕ) (k : Kept) → Reached r k → r < many → kept best num total (suc r) ss is ws rows cor p ≡ keptAfter x k r (executedLeg x r (k .posterior))
+        → (a : Answer) (b : Bool) (c : Decoded) → length p ≡ x .graph .mechanisms → a ≡ firstOf (length p) (valueFault p)
+        → b ≡ (not (isDone a) || leb (x .settings .«stop_after_converged») num) → b ≡ true → c ≡ answerBy a best (r + 1) total
+        → (c ≡ answerOf (decodeLegs x)) × (isRefused c ≡ false → results ss is ws rows cor p ≡ resultsOf x (decodeLegs x))
+    unfolding posteriorFault
+    run-ended r k s l e a b c m f d h q =
+        let t = turned r (kept best num total (suc r) ss is ws rows cor p) k s l e in
+        let w = rw add-one at q in
+        ends-as _ _ _ c (kept best num total (suc r) ss is ws rows cor p) (ended-at r _ t a b (f ∙ ap (λ n. firstOf n (valueFault p)) m) d h) w (ends-by a (t .run) _ (t .is))
+
+    -- and after all of them
+    pub run-over : (r : ℕ) (c : Decoded) → Reached r (kept best num total r ss is ws rows cor p) → many ≤ r → c ≡ answerBy Done best r total
+        → (c ≡ answerOf (decodeLegs x)) × (isRefused c ≡ false → results ss is ws rows cor p ≡ resultsOf x (decodeLegs x))
+    unfolding legs
+    run-over r c s h q =
+        let none-left : many - r ≡ 0 = sub-eq-zero-of-le h in
+        let end : decoded (s .run) ≡ decodeLegs x = ap (λ n. legs x n (running (s .run)) r) (sym none-left) ∙ s .ahead in
+        ends-as _ _ _ c (kept best num total r ss is ws rows cor p) end q (ends-by Done (s .run) _ (s .is))
+
+-- ---- the rows
+
+-- at the start all are blank
+pub blank-start : (n k : ℕ) (rows : List ℕ) → rows ≡ replicate n 0 → Blank k rows
+blank-start n k rows e = record { blank = λ i h. rw e (go n i) }
+  where
+    go : (n i : ℕ) → getD {A = ℕ} (replicate n 0) i 0 ≡ 0
+    go zero i = refl
+    go (suc n) zero = refl
+    go (suc n) (suc i) = go n i
+
+-- one row further
+pub blank-along : (r m : ℕ) (rows : List ℕ) → Blank (r * m + m) rows → Blank ((r + 1) * m) rows
+blank-along r m rows z = record { blank = λ i h. z .blank i (rw (add-one, suc-mul) at h) }

@@ -1,0 +1,199 @@
+// A decode in index order, without a lent order: the order is counted up in a local array, a short one where that is enough.
+ghost use mathlib.Core.Path.{_≡_};
+ghost use Prim.Native.Nat.{suc, _*_, _≤_};
+ghost use lib.ListN.{length};
+ghost use Rattle.numbers.specs.Loops.{upto};
+ghost use Rattle.relay_calls.specs.Decode.{decodeLegs};
+ghost use Rattle.relay_calls.specs.Calls.{outcome, afterLegs};
+ghost use Rattle.relay_record.specs.Kept.{shotOf, Reads};
+use crate::all_legs::decode_fronts;
+use graph_lists::indices::number;
+use relay_calls::Decoded;
+use relay_settings::Settings;
+
+// A decode in index order, of up to 1024 checks.
+fn decode_few(
+    t: Settings,
+    gammas: &[f64],
+    seed: u64,
+    syndrome: &[u8],
+    priors: &[f64],
+    check_var: &[u32],
+    check_offset: &[u32],
+    var_message: &[u32],
+    var_offset: &[u32],
+    leg_state: &mut [u8],
+    leg_iterations: &mut [u32],
+    leg_weight: &mut [f64],
+    rows: &mut [u8],
+    correction: &mut [u8],
+    posterior: &mut [f64],
+    gamma: &mut [f64],
+    bias: &mut [f64],
+    c_to_v: &mut [f64],
+    v_to_c: &mut [f64],
+) -> Decoded
+    requires { ⌜ length (now syndrome) ≤ 1024 ⌝ }
+    requires { ⌜ Reads t (now gammas) (now syndrome) (now priors) (now «check_var») (now «check_offset») (now «var_message») (now «var_offset») (upto (length (now syndrome))) ⌝ }
+    requires { ⌜ (suc (t .«num_legs») ≤ length (now «leg_state»)) × (suc (t .«num_legs») ≤ length (now «leg_iterations»)) × (suc (t .«num_legs») ≤ length (now «leg_weight»)) × (suc (t .«num_legs») * length (now priors) ≤ length (now rows)) ⌝ }
+    requires { ⌜ (length (now correction) ≡ length (now priors)) × (length (now posterior) ≡ length (now priors)) × (length (now gamma) ≡ length (now priors)) × (length (now bias) ≡ length (now priors)) ⌝ }
+    requires { ⌜ (length (now «c_to_v») ≡ length (now «check_var»)) × (length (now «v_to_c») ≡ length (now «check_var»)) ⌝ }
+    ensures { λ r. ⌜ outcome r (record { legState = now («leg_state» .exit); legIterations = now («leg_iterations» .exit); legWeight = now («leg_weight» .exit); rows = now (rows .exit); correction = now (correction .exit); posterior = now (posterior .exit); gamma = now (gamma .exit); bias = now (bias .exit); cToV = now («c_to_v» .exit); vToC = now («v_to_c» .exit) }) ≡ afterLegs (length (now («check_var» .entry))) (shotOf t (now (gammas .entry)) seed (now (syndrome .entry)) (now (priors .entry)) (now («check_var» .entry)) (now («check_offset» .entry)) (now («var_message» .entry)) (now («var_offset» .entry)) (upto (length (now (syndrome .entry))))) (decodeLegs (shotOf t (now (gammas .entry)) seed (now (syndrome .entry)) (now (priors .entry)) (now («check_var» .entry)) (now («check_offset» .entry)) (now («var_message» .entry)) (now («var_offset» .entry)) (upto (length (now (syndrome .entry)))))) (record { legState = now («leg_state» .entry); legIterations = now («leg_iterations» .entry); legWeight = now («leg_weight» .entry); rows = now (rows .entry); correction = now (correction .entry); posterior = now (posterior .entry); gamma = now (gamma .entry); bias = now (bias .entry); cToV = now («c_to_v» .entry); vToC = now («v_to_c» .entry) }) ⌝ }
+{
+    let checks = syndrome.len();
+    let mut order = [0u32; 1024];
+    number(&mut order[0..checks]);
+    decode_fronts(
+        t,
+        gammas,
+        seed,
+        syndrome,
+        priors,
+        check_var,
+        check_offset,
+        var_message,
+        var_offset,
+        &order[0..checks],
+        leg_state,
+        leg_iterations,
+        leg_weight,
+        rows,
+        correction,
+        posterior,
+        gamma,
+        bias,
+        c_to_v,
+        v_to_c,
+    )
+}
+
+// A decode in index order, of up to 65536 checks.
+fn decode_many(
+    t: Settings,
+    gammas: &[f64],
+    seed: u64,
+    syndrome: &[u8],
+    priors: &[f64],
+    check_var: &[u32],
+    check_offset: &[u32],
+    var_message: &[u32],
+    var_offset: &[u32],
+    leg_state: &mut [u8],
+    leg_iterations: &mut [u32],
+    leg_weight: &mut [f64],
+    rows: &mut [u8],
+    correction: &mut [u8],
+    posterior: &mut [f64],
+    gamma: &mut [f64],
+    bias: &mut [f64],
+    c_to_v: &mut [f64],
+    v_to_c: &mut [f64],
+) -> Decoded
+    requires { ⌜ length (now syndrome) ≤ 65536 ⌝ }
+    requires { ⌜ Reads t (now gammas) (now syndrome) (now priors) (now «check_var») (now «check_offset») (now «var_message») (now «var_offset») (upto (length (now syndrome))) ⌝ }
+    requires { ⌜ (suc (t .«num_legs») ≤ length (now «leg_state»)) × (suc (t .«num_legs») ≤ length (now «leg_iterations»)) × (suc (t .«num_legs») ≤ length (now «leg_weight»)) × (suc (t .«num_legs») * length (now priors) ≤ length (now rows)) ⌝ }
+    requires { ⌜ (length (now correction) ≡ length (now priors)) × (length (now posterior) ≡ length (now priors)) × (length (now gamma) ≡ length (now priors)) × (length (now bias) ≡ length (now priors)) ⌝ }
+    requires { ⌜ (length (now «c_to_v») ≡ length (now «check_var»)) × (length (now «v_to_c») ≡ length (now «check_var»)) ⌝ }
+    ensures { λ r. ⌜ outcome r (record { legState = now («leg_state» .exit); legIterations = now («leg_iterations» .exit); legWeight = now («leg_weight» .exit); rows = now (rows .exit); correction = now (correction .exit); posterior = now (posterior .exit); gamma = now (gamma .exit); bias = now (bias .exit); cToV = now («c_to_v» .exit); vToC = now («v_to_c» .exit) }) ≡ afterLegs (length (now («check_var» .entry))) (shotOf t (now (gammas .entry)) seed (now (syndrome .entry)) (now (priors .entry)) (now («check_var» .entry)) (now («check_offset» .entry)) (now («var_message» .entry)) (now («var_offset» .entry)) (upto (length (now (syndrome .entry))))) (decodeLegs (shotOf t (now (gammas .entry)) seed (now (syndrome .entry)) (now (priors .entry)) (now («check_var» .entry)) (now («check_offset» .entry)) (now («var_message» .entry)) (now («var_offset» .entry)) (upto (length (now (syndrome .entry)))))) (record { legState = now («leg_state» .entry); legIterations = now («leg_iterations» .entry); legWeight = now («leg_weight» .entry); rows = now (rows .entry); correction = now (correction .entry); posterior = now (posterior .entry); gamma = now (gamma .entry); bias = now (bias .entry); cToV = now («c_to_v» .entry); vToC = now («v_to_c» .entry) }) ⌝ }
+{
+    let checks = syndrome.len();
+    let mut order = [0u32; 65536];
+    number(&mut order[0..checks]);
+    decode_fronts(
+        t,
+        gammas,
+        seed,
+        syndrome,
+        priors,
+        check_var,
+        check_offset,
+        var_message,
+        var_offset,
+        &order[0..checks],
+        leg_state,
+        leg_iterations,
+        leg_weight,
+        rows,
+        correction,
+        posterior,
+        gamma,
+        bias,
+        c_to_v,
+        v_to_c,
+    )
+}
+
+// A decode in index order, of any number of checks.
+pub fn decode_counted(
+    t: Settings,
+    gammas: &[f64],
+    seed: u64,
+    syndrome: &[u8],
+    priors: &[f64],
+    check_var: &[u32],
+    check_offset: &[u32],
+    var_message: &[u32],
+    var_offset: &[u32],
+    leg_state: &mut [u8],
+    leg_iterations: &mut [u32],
+    leg_weight: &mut [f64],
+    rows: &mut [u8],
+    correction: &mut [u8],
+    posterior: &mut [f64],
+    gamma: &mut [f64],
+    bias: &mut [f64],
+    c_to_v: &mut [f64],
+    v_to_c: &mut [f64],
+) -> Decoded
+    requires { ⌜ length (now syndrome) ≤ 65536 ⌝ }
+    requires { ⌜ Reads t (now gammas) (now syndrome) (now priors) (now «check_var») (now «check_offset») (now «var_message») (now «var_offset») (upto (length (now syndrome))) ⌝ }
+    requires { ⌜ (suc (t .«num_legs») ≤ length (now «leg_state»)) × (suc (t .«num_legs») ≤ length (now «leg_iterations»)) × (suc (t .«num_legs») ≤ length (now «leg_weight»)) × (suc (t .«num_legs») * length (now priors) ≤ length (now rows)) ⌝ }
+    requires { ⌜ (length (now correction) ≡ length (now priors)) × (length (now posterior) ≡ length (now priors)) × (length (now gamma) ≡ length (now priors)) × (length (now bias) ≡ length (now priors)) ⌝ }
+    requires { ⌜ (length (now «c_to_v») ≡ length (now «check_var»)) × (length (now «v_to_c») ≡ length (now «check_var»)) ⌝ }
+    ensures { λ r. ⌜ outcome r (record { legState = now («leg_state» .exit); legIterations = now («leg_iterations» .exit); legWeight = now («leg_weight» .exit); rows = now (rows .exit); correction = now (correction .exit); posterior = now (posterior .exit); gamma = now (gamma .exit); bias = now (bias .exit); cToV = now («c_to_v» .exit); vToC = now («v_to_c» .exit) }) ≡ afterLegs (length (now («check_var» .entry))) (shotOf t (now (gammas .entry)) seed (now (syndrome .entry)) (now (priors .entry)) (now («check_var» .entry)) (now («check_offset» .entry)) (now («var_message» .entry)) (now («var_offset» .entry)) (upto (length (now (syndrome .entry))))) (decodeLegs (shotOf t (now (gammas .entry)) seed (now (syndrome .entry)) (now (priors .entry)) (now («check_var» .entry)) (now («check_offset» .entry)) (now («var_message» .entry)) (now («var_offset» .entry)) (upto (length (now (syndrome .entry)))))) (record { legState = now («leg_state» .entry); legIterations = now («leg_iterations» .entry); legWeight = now («leg_weight» .entry); rows = now (rows .entry); correction = now (correction .entry); posterior = now (posterior .entry); gamma = now (gamma .entry); bias = now (bias .entry); cToV = now («c_to_v» .entry); vToC = now («v_to_c» .entry) }) ⌝ }
+{
+    if syndrome.len() <= 1024 {
+        return decode_few(
+            t,
+            gammas,
+            seed,
+            syndrome,
+            priors,
+            check_var,
+            check_offset,
+            var_message,
+            var_offset,
+            leg_state,
+            leg_iterations,
+            leg_weight,
+            rows,
+            correction,
+            posterior,
+            gamma,
+            bias,
+            c_to_v,
+            v_to_c,
+        );
+    }
+    decode_many(
+        t,
+        gammas,
+        seed,
+        syndrome,
+        priors,
+        check_var,
+        check_offset,
+        var_message,
+        var_offset,
+        leg_state,
+        leg_iterations,
+        leg_weight,
+        rows,
+        correction,
+        posterior,
+        gamma,
+        bias,
+        c_to_v,
+        v_to_c,
+    )
+}

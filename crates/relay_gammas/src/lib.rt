@@ -1,0 +1,78 @@
+// Inner: the gammas of a leg: gamma0 throughout, a set of the flat list, or a seeded draw.
+ghost use mathlib.Core.Path.{_≡_};
+ghost use Prim.Native.Nat.{ℕ, _+_, _-_, _*_, _%_, _<_, _≤_};
+ghost use lib.ListN.{length};
+ghost use Rattle.numbers.specs.Loops.{part};
+ghost use Rattle.relay_settings.specs.declared.GammaSource.the-variants.{Explicit};
+ghost use Rattle.relay_gammas.specs.Gammas.{drawn, relayGamma, gammaOf};
+use graph_messages::copy;
+use graph_messages::fill;
+use numbers::SplitMix64;
+use relay_settings::GammaSource;
+use relay_settings::Settings;
+
+// A draw each in mechanism order, from a seed.
+fn draw_gammas(low: f64, high: f64, seed: u64, gamma: &mut [f64])
+    ensures { λ _. ⌜ now (gamma .exit) ≡ drawn low high seed (length (now (gamma .entry))) .gammas ⌝ }
+{
+    let mut generator = SplitMix64::new(seed);
+    let mut v = 0;
+    while v < gamma.len() {
+        let d = generator.draw();
+        gamma[v] = numbers::gamma(low, high, d.value);
+        generator = d.next;
+        v += 1;
+    }
+}
+
+// Which set a relayed leg takes.
+fn set_of(leg: usize, sets: usize) -> usize
+    requires { ⌜ (0 < leg) × (0 < sets) ⌝ }
+    ensures { λ r. ⌜ r ≡ (leg - 1) % sets ⌝ }
+{
+    (leg - 1) % sets
+}
+
+// That set, out of the flat list.
+fn copy_set(sets: usize, leg: usize, flat: &[f64], gamma: &mut [f64])
+    requires { ⌜ (0 < leg) × (0 < sets) × (length (now flat) ≡ sets * length (now gamma)) ⌝ }
+    ensures { λ _. ⌜ now (gamma .exit) ≡ part ((leg - 1) % sets * length (now (gamma .entry))) ((leg - 1) % sets * length (now (gamma .entry)) + length (now (gamma .entry))) (now (flat .entry)) ⌝ }
+{
+    let start = set_of(leg, sets) * gamma.len();
+    let end = start + gamma.len();
+    copy(&flat[start..end], gamma);
+}
+
+// `prepare_relay_gamma`: the gammas of a relayed leg.
+fn relay_gamma(
+    source: GammaSource,
+    low: f64,
+    high: f64,
+    flat: &[f64],
+    seed: u64,
+    leg: usize,
+    gamma: &mut [f64],
+)
+    requires { ⌜ (0 < leg) × (leg ≤ 65535) ⌝ }
+    requires { ⌜ ((sets : ℕ) → source ≡ Explicit sets → (0 < sets) × (length (now flat) ≡ sets * length (now gamma))) ⌝ }
+    ensures { λ _. ⌜ now (gamma .exit) ≡ relayGamma source low high (now (flat .entry)) (length (now (gamma .entry))) seed leg ⌝ }
+{
+    match source {
+        GammaSource::Explicit(sets) => copy_set(sets, leg, flat, gamma),
+        GammaSource::Seeded => draw_gammas(low, high, seed ^ (leg as u64 + 1), gamma),
+    }
+}
+
+// The gammas of any leg: gamma0 in leg zero.
+pub fn prepare_gamma(t: Settings, flat: &[f64], seed: u64, leg: usize, gamma: &mut [f64])
+    requires { ⌜ leg ≤ 65535 ⌝ }
+    requires { ⌜ (0 < leg → (sets : ℕ) → t .«gamma_source» ≡ Explicit sets → (0 < sets) × (length (now flat) ≡ sets * length (now gamma))) ⌝ }
+    ensures { λ _. ⌜ now (gamma .exit) ≡ gammaOf t (now (flat .entry)) (length (now (gamma .entry))) seed leg ⌝ }
+{
+    let source = t.gamma_source;
+    if leg == 0 {
+        fill(t.gamma0, gamma);
+        return;
+    }
+    relay_gamma(source, t.gamma_low, t.gamma_high, flat, seed, leg, gamma);
+}

@@ -1,0 +1,212 @@
+// Relay's settings, for users: the published operating point, and their test, 10 to 19. Each number is decided by itself and the first
+// that refuses is answered, so that no test waits on another's branch. What they mean stands in specs/.
+ghost use mathlib.Core.Path.{_≡_};
+ghost use mathlib.Core.Bool.{_||_};
+ghost use Prim.Native.Nat.{_*_};
+ghost use lib.Dec.{leb, eqb};
+ghost use lib.Ieee.{lt, le};
+ghost use lib.ListN.{length};
+ghost use Rattle.numbers.specs.Floats.{zero⁺};
+ghost use Rattle.refusals.specs.Tests.{firstOf};
+ghost use Rattle.relay_settings.specs.Settings.{published, alphaGood, preGood, legIterationsGood, intervalGood, setsGood, gammaFault, sourceFault, settingsFault};
+use numbers::is_finite;
+use refusals::Answer;
+use refusals::Refusal;
+use refusals_tests::at_most;
+use refusals_tests::both;
+use refusals_tests::or_else;
+use refusals_tests::unless;
+
+// The order in which messages are passed within an iteration.
+pub enum Schedule {
+    // Every check, then every variable.
+    Flooding,
+    // Each check, and at once the variables that it touches.
+    CheckSerial,
+}
+
+// Where the gammas of relayed legs come from.
+pub enum GammaSource {
+    // The given number of sets, one after the other in the flat list that is lent beside the settings.
+    Explicit(usize),
+    // SplitMix64, from the shot's seed and the leg.
+    Seeded,
+}
+
+// `RelayConfig`, with the interval's two ends and the gammas' source.
+pub struct Settings {
+    pub schedule: Schedule,
+    pub alpha: f64,
+    pub gamma0: f64,
+    pub pre_iterations: usize,
+    pub num_legs: usize,
+    pub leg_iterations: usize,
+    pub gamma_low: f64,
+    pub gamma_high: f64,
+    pub stop_after_converged: usize,
+    pub gamma_source: GammaSource,
+}
+
+impl Settings {
+    // `RelayConfig::default`: the published operating point.
+    pub fn published() -> Self
+        ensures { λ r. ⌜ r ≡ published ⌝ }
+    {
+        Self {
+            schedule: Schedule::Flooding,
+            alpha: 1.0,
+            gamma0: 0.1,
+            pre_iterations: 80,
+            num_legs: 40,
+            leg_iterations: 60,
+            gamma_low: -0.24,
+            gamma_high: 0.66,
+            stop_after_converged: 1,
+            gamma_source: GammaSource::Seeded,
+        }
+    }
+}
+
+// x is above zero.
+fn is_positive(x: f64) -> bool
+    ensures { λ r. ⌜ r ≡ lt zero⁺ x ⌝ }
+{
+    0.0 < x
+}
+
+// low is not above high.
+fn in_order(low: f64, high: f64) -> bool
+    ensures { λ r. ⌜ r ≡ le low high ⌝ }
+{
+    low <= high
+}
+
+// n is at least 1, or there are no legs.
+fn some_or_no_legs(n: usize, legs: usize) -> bool
+    ensures { λ r. ⌜ r ≡ (leb 1 n || eqb legs 0) ⌝ }
+{
+    if 1 <= n {
+        return true;
+    }
+    legs == 0
+}
+
+// 10.
+pub fn alpha_good(alpha: f64) -> bool
+    ensures { λ r. ⌜ r ≡ alphaGood alpha ⌝ }
+{
+    both(is_finite(alpha), is_positive(alpha))
+}
+
+// 12.
+fn pre_good(n: usize) -> bool
+    ensures { λ r. ⌜ r ≡ preGood n ⌝ }
+{
+    both(at_most(1, n), at_most(n, 65535))
+}
+
+// 14.
+fn leg_iterations_good(legs: usize, n: usize) -> bool
+    ensures { λ r. ⌜ r ≡ legIterationsGood legs n ⌝ }
+{
+    both(at_most(n, 65535), some_or_no_legs(n, legs))
+}
+
+// 15.
+fn interval_good(low: f64, high: f64) -> bool
+    ensures { λ r. ⌜ r ≡ intervalGood low high ⌝ }
+{
+    both(
+        is_finite(low),
+        both(
+            is_finite(high),
+            both(is_finite(high - low), in_order(low, high)),
+        ),
+    )
+}
+
+// n is the product of a and b, which may itself be too large a number.
+fn is_product(n: usize, a: usize, b: usize) -> bool
+    ensures { λ r. ⌜ r ≡ eqb n (a * b) ⌝ }
+{
+    if a == 0 {
+        return n == 0;
+    }
+    if n % a != 0 {
+        return false;
+    }
+    n / a == b
+}
+
+// 18.
+fn sets_good(sets: usize, mechanisms: usize, gammas: usize) -> bool
+    ensures { λ r. ⌜ r ≡ setsGood sets mechanisms gammas ⌝ }
+{
+    both(at_most(sets, 65535), is_product(gammas, sets, mechanisms))
+}
+
+// 19: the first gamma that is not finite.
+fn gammas_fault(gammas: &[f64]) -> Answer
+    ensures { λ r. ⌜ r ≡ firstOf (length (now (gammas .entry))) (gammaFault (now (gammas .entry))) ⌝ }
+{
+    let mut i = 0;
+    while i < gammas.len() {
+        if !is_finite(gammas[i]) {
+            return Answer::Refused(Refusal::GammaNotFinite(i));
+        }
+        i += 1;
+    }
+    Answer::Done
+}
+
+// 17, 18 and 19: an explicit source alone is looked at.
+fn source_fault(source: GammaSource, legs: usize, mechanisms: usize, gammas: &[f64]) -> Answer
+    ensures { λ r. ⌜ r ≡ sourceFault source legs mechanisms (now (gammas .entry)) ⌝ }
+{
+    match source {
+        GammaSource::Explicit(sets) => or_else(
+            unless(some_or_no_legs(sets, legs), Refusal::NoGammaSets),
+            or_else(
+                unless(
+                    sets_good(sets, mechanisms, gammas.len()),
+                    Refusal::GammaSetsLength,
+                ),
+                gammas_fault(gammas),
+            ),
+        ),
+        GammaSource::Seeded => Answer::Done,
+    }
+}
+
+// `validate_config`: 10 to 19.
+pub fn check_settings(t: Settings, mechanisms: usize, gammas: &[f64]) -> Answer
+    ensures { λ r. ⌜ r ≡ settingsFault t mechanisms (now (gammas .entry)) ⌝ }
+{
+    let source = t.gamma_source;
+    let counts = or_else(
+        unless(pre_good(t.pre_iterations), Refusal::BadIterations),
+        or_else(
+            unless(at_most(t.num_legs, 65535), Refusal::TooManyLegs),
+            or_else(
+                unless(
+                    leg_iterations_good(t.num_legs, t.leg_iterations),
+                    Refusal::BadLegIterations,
+                ),
+                or_else(
+                    unless(
+                        interval_good(t.gamma_low, t.gamma_high),
+                        Refusal::BadGammaInterval,
+                    ),
+                    or_else(
+                        unless(at_most(1, t.stop_after_converged), Refusal::BadStop),
+                        source_fault(source, t.num_legs, mechanisms, gammas),
+                    ),
+                ),
+            ),
+        ),
+    );
+    or_else(
+        unless(alpha_good(t.alpha), Refusal::BadAlpha),
+        or_else(unless(is_finite(t.gamma0), Refusal::BadGamma0), counts),
+    )
+}

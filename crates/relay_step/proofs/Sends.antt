@@ -1,0 +1,120 @@
+-- What a check sends, as the code finds it: the least is known by its place, which is its variable's only one; the least is sent at all places, and then the
+-- next at the place of the least. Assumes nothing.
+use mathlib.Core.Path.{_≡_, refl, sym, _∙_}
+use mathlib.Core.Bool.{Bool, true, false, cond}
+use mathlib.Core.List.{List}
+use mathlib.Core.Logic.{_⊎_, inl, inr, ⊎-elim}
+use Prim.Native.Nat.{ℕ, zero, suc, _<_, _≤_}
+use native.Mathlib.Nat.{lt-suc-self}
+use native.Mathlib.Omega.{arith}
+use lib.Dec.{eqb}
+use lib.Ieee.{Float, nan, lt}
+use lib.ListN.{length, getD, set}
+use borrow.Author.Tests.{eq-eqb, ne-eqb}
+use Rattle.numbers.specs.Floats.{_*ᶠ_, zero⁺, one⁺, one⁻, abs, messageSign}
+use Rattle.numbers.proofs.Cases.{less-or-not}
+use Rattle.numbers.proofs.Loops.{tables-agree, but-one}
+use Rattle.graph_lists.specs.Messages.{Scan, scanOf, lowered}
+use Rattle.graph_messages.specs.Needs.{Rises}
+use Rattle.relay_step.specs.Step.{noVariable, scanned, scan, saturated, sent, sentTo, checkMessages}
+use Rattle.relay_step.specs.Places.{scanPlaces, bySigns}
+
+-- the scan by variables, from the scan s by places: whose the least is; or it is nobody's, and both minima are the same
+pub record Found (odd : Bool) (variables : List ℕ) (messages : List Float) (n : ℕ) (s : Scan) : Type 0 where
+  pub variable : ℕ
+  pub is : scan odd variables messages n ≡ scanOf (s .totalSign) (s .min1) (s .min2) variable
+  pub whose : ((s .least < n) × (variable ≡ getD variables (s .least) 0)) ⊎ (s .min1 ≡ s .min2)
+
+module _ (odd : Bool) (variables : List ℕ) (messages : List Float) where
+  -- one message further, by whether it is the least so far
+  further : (n : ℕ) (s : Scan) (x : Float) (b : Bool) → x ≡ getD messages n nan → lt (abs x) (s .min1) ≡ b → Found odd variables messages n s
+      → Found odd variables messages (suc n) (scanned s n x)
+  unfolding scan scanned lowered
+  further n s x true e h f =
+      record {
+        variable = getD variables n 0;
+        is = rw (f .is, sym e, h);
+        whose = inl (rw h (lt-suc-self n, refl));
+      }
+  further n s x false e h f =
+      record {
+        variable = f .variable;
+        is = rw (f .is, sym e, h);
+        whose = rw h (⊎-elim (λ (w : (s .least < n) × (f .variable ≡ getD variables (s .least) 0)). inl (omega (arith, w .0), w .1)) (λ (w : s .min1 ≡ s .min2). inr (same w (rw w at h))) (f .whose));
+      }
+    where
+      same : s .min1 ≡ s .min2 → lt (abs x) (s .min2) ≡ false → s .min1 ≡ cond (lt (abs x) (s .min2)) (abs x) (s .min2)
+      same w k = rw k w
+
+  pub found : (n : ℕ) → Found odd variables messages n (scanPlaces odd messages n)
+  unfolding scan scanPlaces
+  found zero = record { variable = noVariable; is = refl; whose = inr refl }
+  found (suc n) = further n (scanPlaces odd messages n) (getD messages n nan) (lt (abs (getD messages n nan)) (scanPlaces odd messages n .min1)) refl refl (found n)
+
+-- one of two, where they are the same
+either-way : (b : Bool) (x y : Float) → x ≡ y → cond b y x ≡ x
+either-way true x y e = sym e
+either-way false x y e = refl
+
+-- two entries that rise are not the same
+rise-apart : (xs : List ℕ) (i j : ℕ) → Rises xs → i < length xs → j < length xs → (i ≡ j → ⊥) → eqb (getD xs i 0) (getD xs j 0) ≡ false
+rise-apart xs i j r h k n = ne-eqb _ _ (λ e. ⊎-elim (λ (l : i < j). absurd (omega (arith, r .rises i j l k, e))) (λ (l : j ≤ i). n (back l e)) (less-or-not i j))
+  where
+    back : j ≤ i → getD xs i 0 ≡ getD xs j 0 → i ≡ j
+    back l e = ⊎-elim (λ (m : j < i). absurd (omega (arith, r .rises j i m h, e))) (λ (m : i ≤ j). omega (arith, l, m)) (less-or-not j i)
+
+module _ (alpha sign min1 min2 : Float) (variables : List ℕ) (messages : List Float) (variable least : ℕ) (r : Rises variables) (many : length messages ≡ length variables)
+    (whose : ((least < length messages) × (variable ≡ getD variables least 0)) ⊎ (min1 ≡ min2)) where
+  -- the next minimum is for the least's place
+  own : cond (eqb (getD variables least 0) variable) min2 min1 ≡ min2
+  own = ⊎-elim (λ (w : (least < length messages) × (variable ≡ getD variables least 0)). rw (eq-eqb (getD variables least 0) variable (sym (w .1)))) (λ (w : min1 ≡ min2). either-way (eqb (getD variables least 0) variable) min1 min2 w ∙ w) whose
+
+  -- and the least for all others
+  others : (i : ℕ) → i < length messages → (i ≡ least → ⊥) → cond (eqb (getD variables i 0) variable) min2 min1 ≡ min1
+  others i h n =
+      ⊎-elim (λ (w : (least < length messages) × (variable ≡ getD variables least 0)). rw (w .1, rise-apart variables i least r (omega arith) (omega (arith, w .0)) n)) (λ (w : min1 ≡ min2). either-way (eqb (getD variables i 0) variable) min1 min2 w) whose
+
+  -- what a sign chooses
+  chosen : (x minus plus : Float) (b : Bool) → lt x zero⁺ ≡ b → minus ≡ alpha *ᶠ (sign *ᶠ one⁻) *ᶠ saturated min1 → plus ≡ alpha *ᶠ (sign *ᶠ one⁺) *ᶠ saturated min1
+      → cond b minus plus ≡ alpha *ᶠ (sign *ᶠ messageSign x) *ᶠ saturated min1
+  unfolding messageSign
+  chosen x minus plus true h p q = rw (h, p)
+  chosen x minus plus false h p q = rw (h, q)
+
+  module _ (minus plus : Float) (p : minus ≡ alpha *ᶠ (sign *ᶠ one⁻) *ᶠ saturated min1) (q : plus ≡ alpha *ᶠ (sign *ᶠ one⁺) *ᶠ saturated min1) where
+    -- elsewhere
+    elsewhere : (i : ℕ) → i < length messages → (i ≡ least → ⊥)
+        → cond (lt (getD messages i nan) zero⁺) minus plus ≡ sent alpha (scanOf sign min1 min2 variable) (getD variables i 0) (getD messages i nan)
+    unfolding sent
+    elsewhere i h n = chosen (getD messages i nan) minus plus (lt (getD messages i nan) zero⁺) refl p q ∙ rw (others i h n)
+
+    -- the least's place put right
+    least-put : (x : Float) → least < length messages → x ≡ alpha *ᶠ (sign *ᶠ messageSign (getD messages least nan)) *ᶠ saturated min2
+        → set (bySigns minus plus messages (length messages)) least x ≡ sentTo alpha (scanOf sign min1 min2 variable) variables messages (length messages)
+    unfolding bySigns sentTo sent
+    least-put x h e =
+        let w : x ≡ sent alpha (scanOf sign min1 min2 variable) (getD variables least 0) (getD messages least nan) = e ∙ rw own in
+        rw w (but-one (length messages) (λ i. sent alpha (scanOf sign min1 min2 variable) (getD variables i 0) (getD messages i nan)) (λ i. cond (lt (getD messages i nan) zero⁺) minus plus) least nan h elsewhere)
+
+    -- and where there is none
+    least-nowhere : length messages ≤ least → bySigns minus plus messages (length messages) ≡ sentTo alpha (scanOf sign min1 min2 variable) variables messages (length messages)
+    unfolding bySigns sentTo
+    least-nowhere h = tables-agree (length messages) _ _ (λ i k. elsewhere i k (λ e. absurd (omega arith)))
+
+-- all that a check sends, in each case
+module _ (alpha : Float) (odd : Bool) (variables : List ℕ) (messages out : List Float) (sign min1 min2 : Float) (least : ℕ) (minus plus : Float)
+    (r : Rises variables) (many : length messages ≡ length variables)
+    (s : scanOf sign min1 min2 least ≡ scanPlaces odd messages (length messages))
+    (p : minus ≡ alpha *ᶠ (sign *ᶠ one⁻) *ᶠ saturated min1) (q : plus ≡ alpha *ᶠ (sign *ᶠ one⁺) *ᶠ saturated min1)
+    (o : out ≡ bySigns minus plus messages (length messages)) where
+  f : Found odd variables messages (length messages) (scanOf sign min1 min2 least)
+  f = rw s (found odd variables messages (length messages))
+
+  pub sends-next : (x : Float) → least < length messages → x ≡ alpha *ᶠ (sign *ᶠ messageSign (getD messages least nan)) *ᶠ saturated min2
+      → set out least x ≡ checkMessages alpha odd variables messages
+  unfolding checkMessages
+  sends-next x h e = rw (o, f .is) (least-put alpha sign min1 min2 variables messages (f .variable) least r many (f .whose) minus plus p q x h e)
+
+  pub sends-least : length messages ≤ least → out ≡ checkMessages alpha odd variables messages
+  unfolding checkMessages
+  sends-least h = rw (o, f .is) (least-nowhere alpha sign min1 min2 variables messages (f .variable) least r many (f .whose) minus plus p q h)

@@ -1,0 +1,117 @@
+-- One Relay iteration in a given order of checks: `update_check`, the two `update_variable_..`, `compute_bias`, `flooding_iteration` and
+-- `check_serial_iteration` of relay.rs, as functions on lists. Definitions only. Assumes nothing.
+use Prim.Native.Nat.{ℕ, suc}
+use mathlib.Core.Bool.{Bool, not, cond}
+use mathlib.Core.List.{List, foldl}
+use lib.Dec.{eqb}
+use lib.Ieee.{Float, nan}
+use lib.ListN.{length, getD, set}
+use Rattle.numbers.specs.Floats.{_+ᶠ_, _-ᶠ_, _*ᶠ_, saturation, isFinite, messageSign}
+use Rattle.numbers.specs.Loops.{turns, table, row, spliced}
+use Rattle.graph_lists.specs.Graph.{Graph, checkEntries, varEntries}
+use Rattle.graph_lists.specs.Messages.{Scan, startScan, lowered, total}
+use Rattle.relay_settings.specs.declared.Schedule.{Schedule}
+use Rattle.relay_settings.specs.declared.Schedule.the-variants.{Flooding, CheckSerial}
+
+-- `u32::MAX`, the variable before any minimum is found
+abbrev pub noVariable : ℕ
+noVariable = 0xFFFF_FFFF
+
+-- ---- `update_check`, over the variables and the messages of one check
+
+-- the message of a variable in the first pass
+unfoldable pub scanned : Scan → ℕ → Float → Scan
+scanned s variable message = lowered s (s .totalSign *ᶠ messageSign message) variable message
+
+-- the first n; `odd` says whether the check's syndrome byte is not zero
+unfoldable pub scan : Bool → List ℕ → List Float → ℕ → Scan
+scan odd variables messages n = turns n (λ i s. scanned s (getD variables i 0) (getD messages i nan)) (startScan odd noVariable)
+
+-- a minimum that is not finite becomes 30
+unfoldable pub saturated : Float → Float
+saturated x = cond (isFinite x) x saturation
+
+-- the message sent to a variable: (alpha times sign) times minimum
+unfoldable pub sent : Float → Scan → ℕ → Float → Float
+sent alpha s variable message = alpha *ᶠ (s .totalSign *ᶠ messageSign message) *ᶠ saturated (cond (eqb variable (s .least)) (s .min2) (s .min1))
+
+-- the first n that are sent
+unfoldable pub sentTo : Float → Scan → List ℕ → List Float → ℕ → List Float
+sentTo alpha s variables messages n = table n (λ i. sent alpha s (getD variables i 0) (getD messages i nan))
+
+-- all that a check sends
+unfoldable pub checkMessages : Float → Bool → List ℕ → List Float → List Float
+checkMessages alpha odd variables messages = sentTo alpha (scan odd variables messages (length messages)) variables messages (length messages)
+
+-- ---- one iteration, over all messages and the posterior
+
+-- the messages both ways, and the posterior
+pub record State : Type 0 where
+  pub cToV : List Float
+  pub vToC : List Float
+  pub posterior : List Float
+
+-- a state of its parts
+abbrev pub state : List Float → List Float → List Float → State
+state c v p = record { cToV = c; vToC = v; posterior = p }
+
+-- a check's part of `c_to_v` from its part of `v_to_c`
+unfoldable pub updateCheck : Graph → Float → List ℕ → State → ℕ → State
+updateCheck g alpha syndrome s c =
+    let off = g .checkOffset in
+    let new = checkMessages alpha (not (eqb (getD syndrome c 0) 0)) (checkEntries g c) (row off c (s .vToC)) in
+    state (spliced (s .cToV) (getD off c 0) (getD off (suc c) 0) new) (s .vToC) (s .posterior)
+
+-- p without each own message, written over `v_to_c`
+unfoldable pub written : Float → List Float → List Float → List ℕ → List Float
+written p cToV vToC entries = foldl (λ (l : List Float) (m : ℕ). set l m (p -ᶠ getD cToV m nan)) vToC entries
+
+-- `update_variable_flooding` and `update_variable_serial`, which write the same in another order: the posterior is bias + total, and each message that
+-- without its own
+unfoldable pub updateVariable : Graph → List Float → State → ℕ → State
+updateVariable g bias s v =
+    let p = getD bias v nan +ᶠ total (s .cToV) (varEntries g v) in
+    state (s .cToV) (written p (s .cToV) (s .vToC) (varEntries g v)) (set (s .posterior) v p)
+
+-- a variable's bias: prior + gamma times (posterior - prior)
+unfoldable pub biasOf : Float → Float → Float → Float
+biasOf prior gamma posterior = prior +ᶠ gamma *ᶠ (posterior -ᶠ prior)
+
+-- the first n biases
+unfoldable pub biasesTo : List Float → List Float → List Float → ℕ → List Float
+biasesTo prior gamma posterior n = table n (λ v. biasOf (getD prior v nan) (getD gamma v nan) (getD posterior v nan))
+
+-- `compute_bias`
+unfoldable pub computeBias : List Float → List Float → List Float → List Float
+computeBias prior gamma posterior = biasesTo prior gamma posterior (length prior)
+
+-- the checks in the order given
+unfoldable pub checkPass : Graph → Float → List ℕ → List ℕ → State → State
+checkPass g alpha syndrome order s = foldl (updateCheck g alpha syndrome) s order
+
+-- the variables below n
+unfoldable pub variablePass : Graph → List Float → State → ℕ → State
+variablePass g bias s n = turns n (λ v t. updateVariable g bias t v) s
+
+-- `flooding_iteration`: the checks, then the bias of the posterior, then the variables
+unfoldable pub floodingIteration : Graph → Float → List ℕ → List Float → List Float → List ℕ → State → State
+floodingIteration g alpha syndrome prior gamma order s =
+    let t = checkPass g alpha syndrome order s in
+    variablePass g (computeBias prior gamma (t .posterior)) t (g .mechanisms)
+
+-- one check of a serial iteration, and then each variable of its entries
+unfoldable pub serialCheck : Graph → Float → List ℕ → List Float → State → ℕ → State
+serialCheck g alpha syndrome bias s c = foldl (updateVariable g bias) (updateCheck g alpha syndrome s c) (checkEntries g c)
+
+-- the checks of a serial iteration, in the order given
+unfoldable pub serialPass : Graph → Float → List ℕ → List Float → List ℕ → State → State
+serialPass g alpha syndrome bias order s = foldl (serialCheck g alpha syndrome bias) s order
+
+-- `check_serial_iteration`: the bias of the posterior, then the checks
+unfoldable pub checkSerialIteration : Graph → Float → List ℕ → List Float → List Float → List ℕ → State → State
+checkSerialIteration g alpha syndrome prior gamma order s = serialPass g alpha syndrome (computeBias prior gamma (s .posterior)) order s
+
+-- one iteration of a schedule
+abbrev pub iteration : Schedule → Graph → Float → List ℕ → List Float → List Float → List ℕ → State → State
+iteration Flooding = floodingIteration
+iteration CheckSerial = checkSerialIteration

@@ -1,0 +1,122 @@
+// `update_check` over the variables and the messages of one check: a pass that finds the total sign and the two least magnitudes, and a
+// pass that sends.
+ghost use mathlib.Core.Path.{_≡_};
+ghost use mathlib.Core.Bool.{cond};
+ghost use Prim.Native.Nat.{_≤_};
+ghost use lib.Ieee.{lt};
+ghost use lib.ListN.{length};
+ghost use Rattle.numbers.specs.Floats.{_*ᶠ_, zero⁺};
+ghost use Rattle.numbers.specs.Loops.{part, spliced};
+ghost use Rattle.graph_lists.specs.Messages.{scanOf};
+ghost use Rattle.graph_messages.specs.Needs.{Ordered, Rises};
+ghost use Rattle.relay_step.specs.Step.{scanned as scannedOf, saturated as saturatedOf, checkMessages};
+ghost use Rattle.relay_step.specs.Places.{scanPlaces, bySigns};
+use graph_messages::Scan;
+use graph_messages::lowered;
+use graph_messages::start_scan;
+
+// The message at a place.
+fn scanned(s: Scan, place: usize, message: f64) -> Scan
+    requires { ⌜ Ordered (s .min1) (s .min2) ⌝ }
+    ensures scan { λ r. ⌜ scanOf (r .«total_sign») (r .min1) (r .min2) (r .least) ≡ scannedOf (scanOf (s .«total_sign») (s .min1) (s .min2) (s .least)) place message ⌝ }
+    ensures ordered { λ r. ⌜ Ordered (r .min1) (r .min2) ⌝ }
+{
+    lowered(
+        s,
+        s.total_sign * numbers::message_sign(message),
+        place,
+        message,
+    )
+}
+
+// The first pass. It knows the least by its place: a check has a variable at one place alone.
+fn scan_check(odd: bool, messages: &[f64]) -> Scan
+    ensures { λ r. ⌜ scanOf (r .«total_sign») (r .min1) (r .min2) (r .least) ≡ scanPlaces odd (now (messages .entry)) (length (now (messages .entry))) ⌝ }
+{
+    let mut s = start_scan(odd, 0xFFFFFFFFFFFFFFFF);
+    let mut i = 0;
+    while i < messages.len() {
+        s = scanned(s, i, messages[i]);
+        i += 1;
+    }
+    s
+}
+
+// A minimum that is not finite becomes 30.
+fn saturated(x: f64) -> f64
+    ensures { λ r. ⌜ r ≡ saturatedOf x ⌝ }
+{
+    if numbers::is_finite(x) {
+        return x;
+    }
+    30.0
+}
+
+// (alpha times sign) times minimum.
+fn weighed(alpha: f64, total_sign: f64, sign: f64, minimum: f64) -> f64
+    ensures { λ r. ⌜ r ≡ alpha *ᶠ («total_sign» *ᶠ sign) *ᶠ saturatedOf minimum ⌝ }
+{
+    alpha * (total_sign * sign) * saturated(minimum)
+}
+
+// One of two by the message's sign, by a comparison of floats and so without a branch.
+fn by_sign(message: f64, minus: f64, plus: f64) -> f64
+    ensures { λ r. ⌜ r ≡ cond (lt message zero⁺) minus plus ⌝ }
+{
+    if message < 0.0 {
+        return minus;
+    }
+    plus
+}
+
+// What a check sends if all messages are as that of the least: one of two by sign, at each place.
+fn send(minus: f64, plus: f64, v_to_c: &[f64], c_to_v: &mut [f64])
+    requires { ⌜ length (now «c_to_v») ≡ length (now «v_to_c») ⌝ }
+    ensures { λ _. ⌜ now («c_to_v» .exit) ≡ bySigns minus plus (now («v_to_c» .entry)) (length (now («v_to_c» .entry))) ⌝ }
+{
+    let mut i = 0;
+    while i < v_to_c.len() {
+        c_to_v[i] = by_sign(v_to_c[i], minus, plus);
+        i += 1;
+    }
+}
+
+// All that a check sends, from all that came in: the least at all places, and the next at the place of the least.
+fn update_check(alpha: f64, odd: bool, variables: &[u32], v_to_c: &[f64], c_to_v: &mut [f64])
+    requires { ⌜ (length (now «v_to_c») ≡ length (now variables)) × (length (now «c_to_v») ≡ length (now variables)) ⌝ }
+    requires { ⌜ Rises (now variables) ⌝ }
+    ensures { λ _. ⌜ now («c_to_v» .exit) ≡ checkMessages alpha odd (now (variables .entry)) (now («v_to_c» .entry)) ⌝ }
+{
+    let s = scan_check(odd, v_to_c);
+    let minus = weighed(alpha, s.total_sign, -1.0, s.min1);
+    let plus = weighed(alpha, s.total_sign, 1.0, s.min1);
+    send(minus, plus, v_to_c, c_to_v);
+    let least = s.least;
+    if least < v_to_c.len() {
+        let sign = numbers::message_sign(v_to_c[least]);
+        c_to_v[least] = weighed(alpha, s.total_sign, sign, s.min2);
+    }
+}
+
+// `update_check` for the check whose entries lie from `start` to `end`.
+pub(crate) fn update_part(
+    alpha: f64,
+    odd: bool,
+    start: usize,
+    end: usize,
+    check_var: &[u32],
+    v_to_c: &[f64],
+    c_to_v: &mut [f64],
+)
+    requires { ⌜ (start ≤ end) × (end ≤ length (now «check_var»)) × (length (now «v_to_c») ≡ length (now «check_var»)) × (length (now «c_to_v») ≡ length (now «check_var»)) ⌝ }
+    requires { ⌜ Rises (part start end (now «check_var»)) ⌝ }
+    ensures { λ _. ⌜ now («c_to_v» .exit) ≡ spliced (now («c_to_v» .entry)) start end (checkMessages alpha odd (part start end (now («check_var» .entry))) (part start end (now («v_to_c» .entry)))) ⌝ }
+{
+    update_check(
+        alpha,
+        odd,
+        &check_var[start..end],
+        &v_to_c[start..end],
+        &mut c_to_v[start..end],
+    );
+}

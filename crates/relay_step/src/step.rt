@@ -1,0 +1,323 @@
+// One iteration in a given order of checks: the step that the public iteration takes and that decode repeats.
+ghost use mathlib.Core.Path.{_≡_};
+ghost use mathlib.Core.List.{[]};
+ghost use Prim.Native.Nat.{_<_};
+ghost use lib.ListN.{length};
+ghost use Rattle.graph_lists.specs.Sound.{Offsets, Keys};
+ghost use Rattle.graph_messages.specs.Needs.{Walks, walked, ofChecks, ofVariables, RowsRise};
+ghost use Rattle.relay_step.specs.Step.{state, biasOf, computeBias, updateCheck, checkPass, variablePass, serialCheck, serialPass, floodingIteration, checkSerialIteration, iteration};
+use crate::check::update_part;
+use crate::variable::update_variable;
+use crate::variable::update_variables;
+use graph_lists::indices::at;
+use relay_settings::Schedule;
+
+// A variable's bias.
+fn bias_of(prior: f64, gamma: f64, posterior: f64) -> f64
+    ensures { λ r. ⌜ r ≡ biasOf prior gamma posterior ⌝ }
+{
+    prior + gamma * (posterior - prior)
+}
+
+// `compute_bias`.
+fn compute_bias(priors: &[f64], gamma: &[f64], posterior: &[f64], bias: &mut [f64])
+    requires { ⌜ (length (now gamma) ≡ length (now priors)) × (length (now posterior) ≡ length (now priors)) × (length (now bias) ≡ length (now priors)) ⌝ }
+    ensures { λ _. ⌜ now (bias .exit) ≡ computeBias (now (priors .entry)) (now (gamma .entry)) (now (posterior .entry)) ⌝ }
+{
+    let mut v = 0;
+    while v < priors.len() {
+        bias[v] = bias_of(priors[v], gamma[v], posterior[v]);
+        v += 1;
+    }
+}
+
+// `update_check` of the check c.
+fn update_one(
+    c: usize,
+    alpha: f64,
+    syndrome: &[u8],
+    check_var: &[u32],
+    check_offset: &[u32],
+    v_to_c: &[f64],
+    c_to_v: &mut [f64],
+)
+    requires { ⌜ c < length (now syndrome) ⌝ }
+    requires { ⌜ Offsets (length (now syndrome)) (length (now «check_var»)) (now «check_offset») ⌝ }
+    requires { ⌜ RowsRise (length (now syndrome)) (now «check_var») (now «check_offset») ⌝ }
+    requires { ⌜ (length (now «v_to_c») ≡ length (now «check_var»)) × (length (now «c_to_v») ≡ length (now «check_var»)) ⌝ }
+    ensures { λ _. ⌜ state (now («c_to_v» .exit)) (now («v_to_c» .entry)) [] ≡ updateCheck (ofChecks (length (now (syndrome .entry))) (now («check_var» .entry)) (now («check_offset» .entry))) alpha (now (syndrome .entry)) (state (now («c_to_v» .entry)) (now («v_to_c» .entry)) []) c ⌝ }
+{
+    let start = at(check_offset, c);
+    let end = at(check_offset, c + 1);
+    update_part(
+        alpha,
+        syndrome[c] != 0,
+        start,
+        end,
+        check_var,
+        v_to_c,
+        c_to_v,
+    );
+}
+
+// The checks in the order given.
+fn check_pass(
+    alpha: f64,
+    syndrome: &[u8],
+    check_var: &[u32],
+    check_offset: &[u32],
+    order: &[u32],
+    v_to_c: &[f64],
+    c_to_v: &mut [f64],
+)
+    requires { ⌜ Offsets (length (now syndrome)) (length (now «check_var»)) (now «check_offset») ⌝ }
+    requires { ⌜ RowsRise (length (now syndrome)) (now «check_var») (now «check_offset») ⌝ }
+    requires { ⌜ Keys (length (now syndrome)) (now order) ⌝ }
+    requires { ⌜ (length (now «v_to_c») ≡ length (now «check_var»)) × (length (now «c_to_v») ≡ length (now «check_var»)) ⌝ }
+    ensures { λ _. ⌜ state (now («c_to_v» .exit)) (now («v_to_c» .entry)) [] ≡ checkPass (ofChecks (length (now (syndrome .entry))) (now («check_var» .entry)) (now («check_offset» .entry))) alpha (now (syndrome .entry)) (now (order .entry)) (state (now («c_to_v» .entry)) (now («v_to_c» .entry)) []) ⌝ }
+{
+    let mut i = 0;
+    while i < order.len() {
+        let c = at(order, i);
+        update_one(c, alpha, syndrome, check_var, check_offset, v_to_c, c_to_v);
+        i += 1;
+    }
+}
+
+// All variables.
+fn variable_pass(
+    bias: &[f64],
+    var_message: &[u32],
+    var_offset: &[u32],
+    c_to_v: &[f64],
+    v_to_c: &mut [f64],
+    posterior: &mut [f64],
+)
+    requires { ⌜ length (now posterior) ≡ length (now bias) ⌝ }
+    requires { ⌜ Walks (length (now bias)) (length (now «c_to_v»)) (now «var_message») (now «var_offset») ⌝ }
+    requires { ⌜ length (now «v_to_c») ≡ length (now «c_to_v») ⌝ }
+    ensures { λ _. ⌜ state (now («c_to_v» .entry)) (now («v_to_c» .exit)) (now (posterior .exit)) ≡ variablePass (ofVariables (length (now (bias .entry))) (now («var_message» .entry)) (now («var_offset» .entry))) (now (bias .entry)) (state (now («c_to_v» .entry)) (now («v_to_c» .entry)) (now (posterior .entry))) (length (now (bias .entry))) ⌝ }
+{
+    let mut v = 0;
+    while v < bias.len() {
+        update_variable(v, bias, var_message, var_offset, c_to_v, v_to_c, posterior);
+        v += 1;
+    }
+}
+
+// `flooding_iteration`.
+fn flooding_iteration(
+    alpha: f64,
+    syndrome: &[u8],
+    priors: &[f64],
+    gamma: &[f64],
+    check_var: &[u32],
+    check_offset: &[u32],
+    var_message: &[u32],
+    var_offset: &[u32],
+    order: &[u32],
+    bias: &mut [f64],
+    c_to_v: &mut [f64],
+    v_to_c: &mut [f64],
+    posterior: &mut [f64],
+)
+    requires { ⌜ Walks (length (now syndrome)) (length (now priors)) (now «check_var») (now «check_offset») ⌝ }
+    requires { ⌜ Walks (length (now priors)) (length (now «check_var»)) (now «var_message») (now «var_offset») ⌝ }
+    requires { ⌜ Keys (length (now syndrome)) (now order) ⌝ }
+    requires { ⌜ (length (now gamma) ≡ length (now priors)) × (length (now bias) ≡ length (now priors)) × (length (now posterior) ≡ length (now priors)) ⌝ }
+    requires { ⌜ (length (now «c_to_v») ≡ length (now «check_var»)) × (length (now «v_to_c») ≡ length (now «check_var»)) ⌝ }
+    ensures { λ _. ⌜ state (now («c_to_v» .exit)) (now («v_to_c» .exit)) (now (posterior .exit)) ≡ floodingIteration (walked (length (now (syndrome .entry))) (length (now (priors .entry))) (now («check_var» .entry)) (now («check_offset» .entry)) (now («var_message» .entry)) (now («var_offset» .entry))) alpha (now (syndrome .entry)) (now (priors .entry)) (now (gamma .entry)) (now (order .entry)) (state (now («c_to_v» .entry)) (now («v_to_c» .entry)) (now (posterior .entry))) ⌝ }
+{
+    check_pass(
+        alpha,
+        syndrome,
+        check_var,
+        check_offset,
+        order,
+        v_to_c,
+        c_to_v,
+    );
+    compute_bias(priors, gamma, posterior, bias);
+    variable_pass(bias, var_message, var_offset, c_to_v, v_to_c, posterior);
+}
+
+// One check of a serial iteration, and then each variable of its entries.
+fn serial_check(
+    c: usize,
+    alpha: f64,
+    syndrome: &[u8],
+    bias: &[f64],
+    check_var: &[u32],
+    check_offset: &[u32],
+    var_message: &[u32],
+    var_offset: &[u32],
+    c_to_v: &mut [f64],
+    v_to_c: &mut [f64],
+    posterior: &mut [f64],
+)
+    requires { ⌜ c < length (now syndrome) ⌝ }
+    requires { ⌜ Walks (length (now syndrome)) (length (now bias)) (now «check_var») (now «check_offset») ⌝ }
+    requires { ⌜ Walks (length (now bias)) (length (now «check_var»)) (now «var_message») (now «var_offset») ⌝ }
+    requires { ⌜ length (now posterior) ≡ length (now bias) ⌝ }
+    requires { ⌜ (length (now «c_to_v») ≡ length (now «check_var»)) × (length (now «v_to_c») ≡ length (now «check_var»)) ⌝ }
+    ensures { λ _. ⌜ state (now («c_to_v» .exit)) (now («v_to_c» .exit)) (now (posterior .exit)) ≡ serialCheck (walked (length (now (syndrome .entry))) (length (now (bias .entry))) (now («check_var» .entry)) (now («check_offset» .entry)) (now («var_message» .entry)) (now («var_offset» .entry))) alpha (now (syndrome .entry)) (now (bias .entry)) (state (now («c_to_v» .entry)) (now («v_to_c» .entry)) (now (posterior .entry))) c ⌝ }
+{
+    let start = at(check_offset, c);
+    let end = at(check_offset, c + 1);
+    update_part(
+        alpha,
+        syndrome[c] != 0,
+        start,
+        end,
+        check_var,
+        v_to_c,
+        c_to_v,
+    );
+    update_variables(
+        &check_var[start..end],
+        bias,
+        var_message,
+        var_offset,
+        c_to_v,
+        v_to_c,
+        posterior,
+    );
+}
+
+// The checks of a serial iteration, in the order given.
+fn serial_pass(
+    alpha: f64,
+    syndrome: &[u8],
+    bias: &[f64],
+    check_var: &[u32],
+    check_offset: &[u32],
+    var_message: &[u32],
+    var_offset: &[u32],
+    order: &[u32],
+    c_to_v: &mut [f64],
+    v_to_c: &mut [f64],
+    posterior: &mut [f64],
+)
+    requires { ⌜ Walks (length (now syndrome)) (length (now bias)) (now «check_var») (now «check_offset») ⌝ }
+    requires { ⌜ Walks (length (now bias)) (length (now «check_var»)) (now «var_message») (now «var_offset») ⌝ }
+    requires { ⌜ Keys (length (now syndrome)) (now order) ⌝ }
+    requires { ⌜ length (now posterior) ≡ length (now bias) ⌝ }
+    requires { ⌜ (length (now «c_to_v») ≡ length (now «check_var»)) × (length (now «v_to_c») ≡ length (now «check_var»)) ⌝ }
+    ensures { λ _. ⌜ state (now («c_to_v» .exit)) (now («v_to_c» .exit)) (now (posterior .exit)) ≡ serialPass (walked (length (now (syndrome .entry))) (length (now (bias .entry))) (now («check_var» .entry)) (now («check_offset» .entry)) (now («var_message» .entry)) (now («var_offset» .entry))) alpha (now (syndrome .entry)) (now (bias .entry)) (now (order .entry)) (state (now («c_to_v» .entry)) (now («v_to_c» .entry)) (now (posterior .entry))) ⌝ }
+{
+    let mut i = 0;
+    while i < order.len() {
+        let c = at(order, i);
+        serial_check(
+            c,
+            alpha,
+            syndrome,
+            bias,
+            check_var,
+            check_offset,
+            var_message,
+            var_offset,
+            c_to_v,
+            v_to_c,
+            posterior,
+        );
+        i += 1;
+    }
+}
+
+// `check_serial_iteration`.
+fn check_serial_iteration(
+    alpha: f64,
+    syndrome: &[u8],
+    priors: &[f64],
+    gamma: &[f64],
+    check_var: &[u32],
+    check_offset: &[u32],
+    var_message: &[u32],
+    var_offset: &[u32],
+    order: &[u32],
+    bias: &mut [f64],
+    c_to_v: &mut [f64],
+    v_to_c: &mut [f64],
+    posterior: &mut [f64],
+)
+    requires { ⌜ Walks (length (now syndrome)) (length (now priors)) (now «check_var») (now «check_offset») ⌝ }
+    requires { ⌜ Walks (length (now priors)) (length (now «check_var»)) (now «var_message») (now «var_offset») ⌝ }
+    requires { ⌜ Keys (length (now syndrome)) (now order) ⌝ }
+    requires { ⌜ (length (now gamma) ≡ length (now priors)) × (length (now bias) ≡ length (now priors)) × (length (now posterior) ≡ length (now priors)) ⌝ }
+    requires { ⌜ (length (now «c_to_v») ≡ length (now «check_var»)) × (length (now «v_to_c») ≡ length (now «check_var»)) ⌝ }
+    ensures { λ _. ⌜ state (now («c_to_v» .exit)) (now («v_to_c» .exit)) (now (posterior .exit)) ≡ checkSerialIteration (walked (length (now (syndrome .entry))) (length (now (priors .entry))) (now («check_var» .entry)) (now («check_offset» .entry)) (now («var_message» .entry)) (now («var_offset» .entry))) alpha (now (syndrome .entry)) (now (priors .entry)) (now (gamma .entry)) (now (order .entry)) (state (now («c_to_v» .entry)) (now («v_to_c» .entry)) (now (posterior .entry))) ⌝ }
+{
+    compute_bias(priors, gamma, posterior, bias);
+    serial_pass(
+        alpha,
+        syndrome,
+        bias,
+        check_var,
+        check_offset,
+        var_message,
+        var_offset,
+        order,
+        c_to_v,
+        v_to_c,
+        posterior,
+    );
+}
+
+// One iteration of the schedule.
+pub fn step(
+    schedule: Schedule,
+    alpha: f64,
+    syndrome: &[u8],
+    priors: &[f64],
+    gamma: &[f64],
+    check_var: &[u32],
+    check_offset: &[u32],
+    var_message: &[u32],
+    var_offset: &[u32],
+    order: &[u32],
+    bias: &mut [f64],
+    c_to_v: &mut [f64],
+    v_to_c: &mut [f64],
+    posterior: &mut [f64],
+)
+    requires { ⌜ Walks (length (now syndrome)) (length (now priors)) (now «check_var») (now «check_offset») ⌝ }
+    requires { ⌜ Walks (length (now priors)) (length (now «check_var»)) (now «var_message») (now «var_offset») ⌝ }
+    requires { ⌜ Keys (length (now syndrome)) (now order) ⌝ }
+    requires { ⌜ (length (now gamma) ≡ length (now priors)) × (length (now bias) ≡ length (now priors)) × (length (now posterior) ≡ length (now priors)) ⌝ }
+    requires { ⌜ (length (now «c_to_v») ≡ length (now «check_var»)) × (length (now «v_to_c») ≡ length (now «check_var»)) ⌝ }
+    ensures { λ _. ⌜ state (now («c_to_v» .exit)) (now («v_to_c» .exit)) (now (posterior .exit)) ≡ iteration schedule (walked (length (now (syndrome .entry))) (length (now (priors .entry))) (now («check_var» .entry)) (now («check_offset» .entry)) (now («var_message» .entry)) (now («var_offset» .entry))) alpha (now (syndrome .entry)) (now (priors .entry)) (now (gamma .entry)) (now (order .entry)) (state (now («c_to_v» .entry)) (now («v_to_c» .entry)) (now (posterior .entry))) ⌝ }
+{
+    match schedule {
+        Schedule::Flooding => flooding_iteration(
+            alpha,
+            syndrome,
+            priors,
+            gamma,
+            check_var,
+            check_offset,
+            var_message,
+            var_offset,
+            order,
+            bias,
+            c_to_v,
+            v_to_c,
+            posterior,
+        ),
+        Schedule::CheckSerial => check_serial_iteration(
+            alpha,
+            syndrome,
+            priors,
+            gamma,
+            check_var,
+            check_offset,
+            var_message,
+            var_offset,
+            order,
+            bias,
+            c_to_v,
+            v_to_c,
+            posterior,
+        ),
+    }
+}

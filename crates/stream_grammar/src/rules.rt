@@ -1,0 +1,102 @@
+// The tests 41 to 45, each by itself.
+ghost use mathlib.Core.Path.{_≡_};
+ghost use mathlib.Core.Bool.{_||_, not};
+ghost use Rattle.stream_grammar.specs.Stream.{kindGood, countsFit, lengthGood, timeGood, countsWithin, roomGood, scheduleGood};
+use refusals_tests::at_most;
+use refusals_tests::both;
+use refusals_tests::same_number;
+
+// 41: the kind is known.
+pub fn kind_good(kind: usize) -> bool
+    ensures { λ x. ⌜ x ≡ kindGood kind ⌝ }
+{
+    both(at_most(1, kind), at_most(kind, 3))
+}
+
+// A model's payload is as long as its counts say. No sum is made that could wrap.
+fn counts_fit(size: usize, mechanisms: usize, edges: usize) -> bool
+    ensures { λ x. ⌜ x ≡ countsFit size mechanisms edges ⌝ }
+{
+    if size < 12 {
+        return false;
+    }
+    let rest = size - 12;
+    if rest / 12 < mechanisms {
+        return false;
+    }
+    let last = rest - 12 * mechanisms;
+    if last / 4 < edges {
+        return false;
+    }
+    last == 4 * edges
+}
+
+// 42: the payload length is right for the kind.
+pub fn length_good(kind: usize, size: usize, mechanisms: usize, edges: usize, sum: usize) -> bool
+    ensures { λ x. ⌜ x ≡ lengthGood kind size mechanisms edges sum ⌝ }
+{
+    if kind == 1 {
+        return both(
+            at_most(12, size),
+            both(counts_fit(size, mechanisms, edges), same_number(sum, edges)),
+        );
+    }
+    if kind == 2 {
+        return size == 49;
+    }
+    8 <= size
+}
+
+// a does not hold, or b does.
+fn implies(a: bool, b: bool) -> bool
+    ensures { λ x. ⌜ x ≡ (not a || b) ⌝ }
+{
+    if a {
+        return b;
+    }
+    true
+}
+
+// 43: no shot before model or settings.
+pub fn time_good(kind: usize, has_model: bool, has_settings: bool) -> bool
+    ensures { λ x. ⌜ x ≡ timeGood kind «has_model» «has_settings» ⌝ }
+{
+    implies(kind == 3, both(has_model, has_settings))
+}
+
+// A model within the room.
+pub fn counts_within(checks: usize, mechanisms: usize, edges: usize) -> bool
+    ensures { λ x. ⌜ x ≡ countsWithin checks mechanisms edges ⌝ }
+{
+    both(
+        at_most(checks, 128),
+        both(at_most(mechanisms, 256), at_most(edges, 512)),
+    )
+}
+
+// 44: within the room.
+pub fn room_good(
+    kind: usize,
+    size: usize,
+    checks: usize,
+    mechanisms: usize,
+    edges: usize,
+    legs: usize,
+) -> bool
+    ensures { λ x. ⌜ x ≡ roomGood kind size checks mechanisms edges legs ⌝ }
+{
+    if kind == 1 {
+        return counts_within(checks, mechanisms, edges);
+    }
+    if kind == 2 {
+        return legs <= 16;
+    }
+    size <= 136
+}
+
+// 45: the schedule byte of settings.
+pub fn schedule_good(kind: usize, schedule: usize) -> bool
+    ensures { λ x. ⌜ x ≡ scheduleGood kind schedule ⌝ }
+{
+    implies(kind == 2, at_most(schedule, 1))
+}
