@@ -12,18 +12,18 @@ ghost use Rattle.numbers.specs.Draw.{product, advanced, mixed, unit as unitOf, 
 ghost use Rattle.numbers.specs.Loops.{over};
 ghost use Rattle.graph_lists.specs.Graph.{graph as graphOf};
 ghost use Rattle.graph_lists.specs.Model.{buildSparse, countEdges, buildDense, graphFault};
-ghost use Rattle.min_sum.specs.Beliefs.{lists, beliefs as beliefsOf};
+ghost use Rattle.min_sum.specs.Beliefs.{beliefsLists, beliefs as beliefsOf};
 ghost use Rattle.relay_settings.specs.Settings.{published, alphaGood, settingsFault};
 ghost use Rattle.relay_step.specs.Step.{state};
 ghost use Rattle.relay_calls.specs.Calls.{stepLists, iterationCall, decode as decodeOf, decodeInOrder, legRecord, valuesOf};
 ghost use Rattle.stream_grammar.specs.Stream.{seed as seedOf, isOfShot};
 ghost use Rattle.stream_reader.specs.Reading.{fresh, isWhole, held, pushed, verdict as verdictOf, atEnd};
-ghost use Rattle.stream_grammar.specs.Fields.{countsOf, modelLists, modelRead, settingsOf as settingsRead};
+ghost use Rattle.stream_grammar.specs.Fields.{countsRead, modelLists, modelRead, settingsRead};
 ghost use Rattle.stream_lines.specs.Lines.{shotLine, refusedLine, stoppedLine, endLine, unlessTooLong};
-ghost use Rattle.stream_session.specs.Shots.{start, byteTaken, endText};
-ghost use Rattle.exports_values.specs.Codes.{bitOf, codeOf, numberIn, placeIn, scheduleOf, settingsOf, byteOf, floatsIn, countsIn};
+ghost use Rattle.stream_session.specs.Shots.{startSession, byteTaken, endText};
+ghost use Rattle.exports_values.specs.Codes.{bitOf, codeOf, numberIn, placeIn, scheduleGiven, settingsGiven, byteOf, floatsIn, countsIn};
 ghost use Rattle.exports_words.specs.Words.{readerOf, readerWords, isSet, sessionOf, sessionWords, sessionFloats};
-ghost use Rattle.exports_bodies.specs.Answers.{sent, sentOf, left, leftBy, stepLeft, stepLeftBy, listsOf, decodeLeft, decodeLeftBy};
+ghost use Rattle.exports_bodies.specs.Answers.{graphLeft, graphLeftBy, beliefsLeft, beliefsLeftBy, stepLeft, stepLeftBy, listsOf, decodeLeft, decodeLeftBy};
 use exports_bodies::beliefs;
 use exports_bodies::decodes;
 use exports_bodies::floats;
@@ -53,7 +53,7 @@ pub extern "C" fn chowderkite_build_sparse(
     var_message: &mut [u32],
     var_offset: &mut [u32],
 ) -> u64
-    ensures { λ r. ⌜ sent r (graphOf checks mechanisms (now («check_var» .exit)) (now («check_message» .exit)) (now («check_offset» .exit)) (now («var_check» .exit)) (now («var_message» .exit)) (now («var_offset» .exit))) ≡ sentOf (buildSparse edges (now (priors .entry)) (now («detector_offsets» .entry)) (now (detectors .entry)) (graphOf checks mechanisms (now («check_var» .entry)) (now («check_message» .entry)) (now («check_offset» .entry)) (now («var_check» .entry)) (now («var_message» .entry)) (now («var_offset» .entry)))) ⌝ }
+    ensures { λ r. ⌜ graphLeft r (graphOf checks mechanisms (now («check_var» .exit)) (now («check_message» .exit)) (now («check_offset» .exit)) (now («var_check» .exit)) (now («var_message» .exit)) (now («var_offset» .exit))) ≡ graphLeftBy (buildSparse edges (now (priors .entry)) (now («detector_offsets» .entry)) (now (detectors .entry)) (graphOf checks mechanisms (now («check_var» .entry)) (now («check_message» .entry)) (now («check_offset» .entry)) (now («var_check» .entry)) (now («var_message» .entry)) (now («var_offset» .entry)))) ⌝ }
 {
     graphs::build_sparse(
         checks,
@@ -93,7 +93,7 @@ pub extern "C" fn chowderkite_build_dense(
     var_message: &mut [u32],
     var_offset: &mut [u32],
 ) -> u64
-    ensures { λ r. ⌜ sent r (graphOf checks mechanisms (now («check_var» .exit)) (now («check_message» .exit)) (now («check_offset» .exit)) (now («var_check» .exit)) (now («var_message» .exit)) (now («var_offset» .exit))) ≡ sentOf (buildDense (now (priors .entry)) (now (matrix .entry)) (graphOf checks mechanisms (now («check_var» .entry)) (now («check_message» .entry)) (now («check_offset» .entry)) (now («var_check» .entry)) (now («var_message» .entry)) (now («var_offset» .entry)))) ⌝ }
+    ensures { λ r. ⌜ graphLeft r (graphOf checks mechanisms (now («check_var» .exit)) (now («check_message» .exit)) (now («check_offset» .exit)) (now («var_check» .exit)) (now («var_message» .exit)) (now («var_offset» .exit))) ≡ graphLeftBy (buildDense (now (priors .entry)) (now (matrix .entry)) (graphOf checks mechanisms (now («check_var» .entry)) (now («check_message» .entry)) (now («check_offset» .entry)) (now («var_check» .entry)) (now («var_message» .entry)) (now («var_offset» .entry)))) ⌝ }
 {
     graphs::build_dense(
         checks,
@@ -163,7 +163,7 @@ pub extern "C" fn chowderkite_beliefs(
     c_to_v: &mut [f64],
     v_to_c: &mut [f64],
 ) -> u64
-    ensures { λ r. ⌜ left r (lists (now (posterior .exit)) (now («ewa_posterior» .exit)) (now («c_to_v» .exit)) (now («v_to_c» .exit))) ≡ leftBy (beliefsOf edges (now (priors .entry)) (graphOf checks mechanisms (now («check_var» .entry)) (now («check_message» .entry)) (now («check_offset» .entry)) (now («var_check» .entry)) (now («var_message» .entry)) (now («var_offset» .entry))) (now (syndrome .entry)) iterations scale (not (eqb serial 0)) (lists (now (posterior .entry)) (now («ewa_posterior» .entry)) (now («c_to_v» .entry)) (now («v_to_c» .entry)))) ⌝ }
+    ensures { λ r. ⌜ beliefsLeft r (beliefsLists (now (posterior .exit)) (now («ewa_posterior» .exit)) (now («c_to_v» .exit)) (now («v_to_c» .exit))) ≡ beliefsLeftBy (beliefsOf edges (now (priors .entry)) (graphOf checks mechanisms (now («check_var» .entry)) (now («check_message» .entry)) (now («check_offset» .entry)) (now («var_check» .entry)) (now («var_message» .entry)) (now («var_offset» .entry))) (now (syndrome .entry)) iterations scale (not (eqb serial 0)) (beliefsLists (now (posterior .entry)) (now («ewa_posterior» .entry)) (now («c_to_v» .entry)) (now («v_to_c» .entry)))) ⌝ }
 {
     beliefs::beliefs(
         checks,
@@ -224,7 +224,7 @@ pub extern "C" fn chowderkite_check_settings(
     mechanisms: usize,
     gammas: &[f64],
 ) -> u64
-    ensures { λ r. ⌜ r ≡ codeOf (settingsFault (settingsOf schedule alpha gamma0 «pre_iterations» «num_legs» «leg_iterations» «gamma_low» «gamma_high» «stop_after_converged» explicit sets) mechanisms (now (gammas .entry))) ⌝ }
+    ensures { λ r. ⌜ r ≡ codeOf (settingsFault (settingsGiven schedule alpha gamma0 «pre_iterations» «num_legs» «leg_iterations» «gamma_low» «gamma_high» «stop_after_converged» explicit sets) mechanisms (now (gammas .entry))) ⌝ }
 {
     decodes::check_settings(
         schedule,
@@ -283,7 +283,7 @@ pub extern "C" fn chowderkite_decode(
     counts: &mut [u64; 3],
     weight: &mut [f64; 1],
 ) -> u64
-    ensures { λ r. ⌜ decodeLeft r (now (counts .exit)) (now (weight .exit)) (listsOf (now («leg_state» .exit)) (now («leg_steps» .exit)) (now («leg_weight» .exit)) (now (rows .exit)) (now (correction .exit)) (now (posterior .exit)) (now (gamma .exit)) (now (bias .exit)) (now («c_to_v» .exit)) (now («v_to_c» .exit))) ≡ decodeLeftBy (decodeOf edges (record { graph = graphOf checks mechanisms (now («check_var» .entry)) (now («check_message» .entry)) (now («check_offset» .entry)) (now («var_check» .entry)) (now («var_message» .entry)) (now («var_offset» .entry)); prior = now (priors .entry); settings = settingsOf schedule alpha gamma0 «pre_iterations» «num_legs» «leg_iterations» «gamma_low» «gamma_high» «stop_after_converged» explicit sets; gammas = now (gammas .entry); order = []; syndrome = now (syndrome .entry); seed = seed }) (listsOf (now («leg_state» .entry)) (now («leg_steps» .entry)) (now («leg_weight» .entry)) (now (rows .entry)) (now (correction .entry)) (now (posterior .entry)) (now (gamma .entry)) (now (bias .entry)) (now («c_to_v» .entry)) (now («v_to_c» .entry)))) (now (counts .entry)) (now (weight .entry)) ⌝ }
+    ensures { λ r. ⌜ decodeLeft r (now (counts .exit)) (now (weight .exit)) (listsOf (now («leg_state» .exit)) (now («leg_steps» .exit)) (now («leg_weight» .exit)) (now (rows .exit)) (now (correction .exit)) (now (posterior .exit)) (now (gamma .exit)) (now (bias .exit)) (now («c_to_v» .exit)) (now («v_to_c» .exit))) ≡ decodeLeftBy (decodeOf edges (record { graph = graphOf checks mechanisms (now («check_var» .entry)) (now («check_message» .entry)) (now («check_offset» .entry)) (now («var_check» .entry)) (now («var_message» .entry)) (now («var_offset» .entry)); prior = now (priors .entry); settings = settingsGiven schedule alpha gamma0 «pre_iterations» «num_legs» «leg_iterations» «gamma_low» «gamma_high» «stop_after_converged» explicit sets; gammas = now (gammas .entry); order = []; syndrome = now (syndrome .entry); seed = seed }) (listsOf (now («leg_state» .entry)) (now («leg_steps» .entry)) (now («leg_weight» .entry)) (now (rows .entry)) (now (correction .entry)) (now (posterior .entry)) (now (gamma .entry)) (now (bias .entry)) (now («c_to_v» .entry)) (now («v_to_c» .entry)))) (now (counts .entry)) (now (weight .entry)) ⌝ }
 {
     decodes::decode(
         checks,
@@ -366,7 +366,7 @@ pub extern "C" fn chowderkite_decode_in_order(
     counts: &mut [u64; 3],
     weight: &mut [f64; 1],
 ) -> u64
-    ensures { λ r. ⌜ decodeLeft r (now (counts .exit)) (now (weight .exit)) (listsOf (now («leg_state» .exit)) (now («leg_steps» .exit)) (now («leg_weight» .exit)) (now (rows .exit)) (now (correction .exit)) (now (posterior .exit)) (now (gamma .exit)) (now (bias .exit)) (now («c_to_v» .exit)) (now («v_to_c» .exit))) ≡ decodeLeftBy (decodeInOrder edges (record { graph = graphOf checks mechanisms (now («check_var» .entry)) (now («check_message» .entry)) (now («check_offset» .entry)) (now («var_check» .entry)) (now («var_message» .entry)) (now («var_offset» .entry)); prior = now (priors .entry); settings = settingsOf schedule alpha gamma0 «pre_iterations» «num_legs» «leg_iterations» «gamma_low» «gamma_high» «stop_after_converged» explicit sets; gammas = now (gammas .entry); order = now (order .entry); syndrome = now (syndrome .entry); seed = seed }) (listsOf (now («leg_state» .entry)) (now («leg_steps» .entry)) (now («leg_weight» .entry)) (now (rows .entry)) (now (correction .entry)) (now (posterior .entry)) (now (gamma .entry)) (now (bias .entry)) (now («c_to_v» .entry)) (now («v_to_c» .entry)))) (now (counts .entry)) (now (weight .entry)) ⌝ }
+    ensures { λ r. ⌜ decodeLeft r (now (counts .exit)) (now (weight .exit)) (listsOf (now («leg_state» .exit)) (now («leg_steps» .exit)) (now («leg_weight» .exit)) (now (rows .exit)) (now (correction .exit)) (now (posterior .exit)) (now (gamma .exit)) (now (bias .exit)) (now («c_to_v» .exit)) (now («v_to_c» .exit))) ≡ decodeLeftBy (decodeInOrder edges (record { graph = graphOf checks mechanisms (now («check_var» .entry)) (now («check_message» .entry)) (now («check_offset» .entry)) (now («var_check» .entry)) (now («var_message» .entry)) (now («var_offset» .entry)); prior = now (priors .entry); settings = settingsGiven schedule alpha gamma0 «pre_iterations» «num_legs» «leg_iterations» «gamma_low» «gamma_high» «stop_after_converged» explicit sets; gammas = now (gammas .entry); order = now (order .entry); syndrome = now (syndrome .entry); seed = seed }) (listsOf (now («leg_state» .entry)) (now («leg_steps» .entry)) (now («leg_weight» .entry)) (now (rows .entry)) (now (correction .entry)) (now (posterior .entry)) (now (gamma .entry)) (now (bias .entry)) (now («c_to_v» .entry)) (now («v_to_c» .entry)))) (now (counts .entry)) (now (weight .entry)) ⌝ }
 {
     decodes::decode_in_order(
         checks,
@@ -449,7 +449,7 @@ pub extern "C" fn chowderkite_iteration(
     posterior: &mut [f64],
     bias: &mut [f64],
 ) -> u64
-    ensures { λ r. ⌜ stepLeft r (stepLists (state (now («c_to_v» .exit)) (now («v_to_c» .exit)) (now (posterior .exit))) (now (bias .exit))) ≡ stepLeftBy (iterationCall edges (now (priors .entry)) (graphOf checks mechanisms (now («check_var» .entry)) (now («check_message» .entry)) (now («check_offset» .entry)) (now («var_check» .entry)) (now («var_message» .entry)) (now («var_offset» .entry))) (scheduleOf schedule) alpha (now (gamma .entry)) (now (syndrome .entry)) (now (order .entry)) (stepLists (state (now («c_to_v» .entry)) (now («v_to_c» .entry)) (now (posterior .entry))) (now (bias .entry)))) ⌝ }
+    ensures { λ r. ⌜ stepLeft r (stepLists (state (now («c_to_v» .exit)) (now («v_to_c» .exit)) (now (posterior .exit))) (now (bias .exit))) ≡ stepLeftBy (iterationCall edges (now (priors .entry)) (graphOf checks mechanisms (now («check_var» .entry)) (now («check_message» .entry)) (now («check_offset» .entry)) (now («var_check» .entry)) (now («var_message» .entry)) (now («var_offset» .entry))) (scheduleGiven schedule) alpha (now (gamma .entry)) (now (syndrome .entry)) (now (order .entry)) (stepLists (state (now («c_to_v» .entry)) (now («v_to_c» .entry)) (now (posterior .entry))) (now (bias .entry)))) ⌝ }
 {
     steps::iteration(
         checks,
@@ -625,7 +625,7 @@ pub extern "C" fn chowderkite_at_end(reader: &[usize; 8]) -> u64
 // `stream_reader::read_counts`.
 #[no_mangle]
 pub extern "C" fn chowderkite_read_counts(payload: &[u8], counts: &mut [usize; 3])
-    ensures { λ _. ⌜ now (counts .exit) ≡ countsOf (now (payload .entry)) .checks ∷ (countsOf (now (payload .entry)) .mechanisms ∷ (countsOf (now (payload .entry)) .edges ∷ [])) ⌝ }
+    ensures { λ _. ⌜ now (counts .exit) ≡ countsRead (now (payload .entry)) .checks ∷ (countsRead (now (payload .entry)) .mechanisms ∷ (countsRead (now (payload .entry)) .edges ∷ [])) ⌝ }
 {
     reading::read_counts(payload, counts);
 }
@@ -728,8 +728,8 @@ pub extern "C" fn chowderkite_end_line(shots: usize, line: &mut [u8; 512]) -> us
 // `stream_session::Session::new`.
 #[no_mangle]
 pub extern "C" fn chowderkite_session_new(words: &mut [usize; 21], floats: &mut [f64; 4])
-    ensures words { λ _. ⌜ now (words .exit) ≡ sessionWords start ⌝ }
-    ensures floats { λ _. ⌜ now (floats .exit) ≡ sessionFloats start ⌝ }
+    ensures words { λ _. ⌜ now (words .exit) ≡ sessionWords startSession ⌝ }
+    ensures floats { λ _. ⌜ now (floats .exit) ≡ sessionFloats startSession ⌝ }
 {
     sessions::session_new(words, floats);
 }

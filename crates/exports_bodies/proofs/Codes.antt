@@ -5,20 +5,20 @@ use mathlib.Core.List.{List}
 use lib.Ieee.{Float}
 use Rattle.refusals.specs.declared.Answer.{Answer}
 use Rattle.graph_lists.specs.Graph.{Graph}
-use Rattle.graph_lists.specs.Model.{Outcome, outcome}
-use Rattle.min_sum.specs.Beliefs.{Lists, Outcome as BeliefsOutcome, outcome as beliefsOutcome}
+use Rattle.graph_lists.specs.Model.{BuildOutcome, buildOutcome}
+use Rattle.min_sum.specs.Beliefs.{BeliefsLists, BeliefsOutcome, beliefsOutcome}
 use Rattle.relay_calls.specs.declared.Decoded.{Decoded}
-use Rattle.relay_calls.specs.Calls.{StepLists, StepOutcome, stepOutcome, Lists as DecodeLists, Outcome as DecodeOutcome, outcome as decodeOutcome}
-use Rattle.exports_values.specs.Codes.{codeOf, decodedCode, countsOf, weightOf}
-use Rattle.exports_bodies.specs.Answers.{sent, sentOf, left, leftBy, stepLeft, stepLeftBy, decodeLeft, decodeLeftBy}
+use Rattle.relay_calls.specs.Calls.{StepLists, StepOutcome, stepOutcome, DecodeLists, DecodeOutcome, decodeOutcome}
+use Rattle.exports_values.specs.Codes.{codeOf, decodedCode, decodedCounts, decodedWeight}
+use Rattle.exports_bodies.specs.Answers.{graphLeft, graphLeftBy, beliefsLeft, beliefsLeftBy, stepLeft, stepLeftBy, decodeLeft, decodeLeftBy}
 
 -- a code sent with the lists of an outcome is the outcome sent
-pub sent-as : (code : ℕ) (a : Answer) (g : Graph) (o : Outcome) → code ≡ codeOf a → outcome a g ≡ o → sent code g ≡ sentOf o
-sent-as code a g o is-code is-outcome = ap (λ k. sent k g) is-code ∙ ap sentOf is-outcome
+pub sent-as : (code : ℕ) (a : Answer) (g : Graph) (o : BuildOutcome) → code ≡ codeOf a → buildOutcome a g ≡ o → graphLeft code g ≡ graphLeftBy o
+sent-as code a g o is-code is-outcome = ap (λ k. graphLeft k g) is-code ∙ ap graphLeftBy is-outcome
 
 -- the same of `beliefs`
-pub left-as : (code : ℕ) (a : Answer) (l : Lists) (o : BeliefsOutcome) → code ≡ codeOf a → beliefsOutcome a l ≡ o → left code l ≡ leftBy o
-left-as code a l o is-code is-outcome = ap (λ k. left k l) is-code ∙ ap leftBy is-outcome
+pub left-as : (code : ℕ) (a : Answer) (l : BeliefsLists) (o : BeliefsOutcome) → code ≡ codeOf a → beliefsOutcome a l ≡ o → beliefsLeft code l ≡ beliefsLeftBy o
+left-as code a l o is-code is-outcome = ap (λ k. beliefsLeft k l) is-code ∙ ap beliefsLeftBy is-outcome
 
 -- and of `iteration`
 pub step-left-as : (code : ℕ) (a : Answer) (l : StepLists) (o : StepOutcome) → code ≡ codeOf a → stepOutcome a l ≡ o → stepLeft code l ≡ stepLeftBy o
@@ -26,5 +26,5 @@ step-left-as code a l o is-code is-outcome = ap (λ k. stepLeft k l) is-code ∙
 
 -- and of a decode
 pub decode-left-as : (code : ℕ) (counts old : List ℕ) (weight was : List Float) (d : Decoded) (l : DecodeLists) (o : DecodeOutcome) → code ≡ decodedCode d
-    → counts ≡ countsOf d old → weight ≡ weightOf d was → decodeOutcome d l ≡ o → decodeLeft code counts weight l ≡ decodeLeftBy o old was
+    → counts ≡ decodedCounts d old → weight ≡ decodedWeight d was → decodeOutcome d l ≡ o → decodeLeft code counts weight l ≡ decodeLeftBy o old was
 decode-left-as code counts old weight was d l o p q r e = rw (p, q, r) (ap (λ (x : DecodeOutcome). decodeLeftBy x old was) e)

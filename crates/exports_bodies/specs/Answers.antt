@@ -3,38 +3,38 @@ use Prim.Native.Nat.{ℕ}
 use mathlib.Core.List.{List}
 use lib.Ieee.{Float}
 use Rattle.graph_lists.specs.Graph.{Graph}
-use Rattle.graph_lists.specs.Model.{Outcome}
-use Rattle.relay_calls.specs.Calls.{StepLists, StepOutcome, Lists as DecodeLists, Outcome as DecodeOutcome}
-use Rattle.min_sum.specs.Beliefs.{Lists, Outcome as BeliefsOutcome}
-use Rattle.exports_values.specs.Codes.{codeOf, decodedCode, countsOf, weightOf}
+use Rattle.graph_lists.specs.Model.{BuildOutcome}
+use Rattle.relay_calls.specs.Calls.{StepLists, StepOutcome, DecodeLists, DecodeOutcome}
+use Rattle.min_sum.specs.Beliefs.{BeliefsLists, BeliefsOutcome}
+use Rattle.exports_values.specs.Codes.{codeOf, decodedCode, decodedCounts, decodedWeight}
 
 -- ---- a call that fills graph lists
 
 -- the code, and the graph lists as the call leaves them
-pub record Sent : Type 0 where
+pub record GraphLeft : Type 0 where
   pub code : ℕ
   pub lists : Graph
 
-abbrev pub sent : ℕ → Graph → Sent
-sent code g = record { code = code; lists = g }
+abbrev pub graphLeft : ℕ → Graph → GraphLeft
+graphLeft code g = record { code = code; lists = g }
 
 -- an outcome, its answer as a code
-abbrev pub sentOf : Outcome → Sent
-sentOf o = sent (codeOf (o .answer)) (o .lists)
+abbrev pub graphLeftBy : BuildOutcome → GraphLeft
+graphLeftBy o = graphLeft (codeOf (o .answer)) (o .lists)
 
 -- ---- beliefs
 
 -- the code, and the lent lists as the call leaves them
-pub record Left : Type 0 where
+pub record BeliefsLeft : Type 0 where
   pub code : ℕ
-  pub lists : Lists
+  pub lists : BeliefsLists
 
-abbrev pub left : ℕ → Lists → Left
-left code l = record { code = code; lists = l }
+abbrev pub beliefsLeft : ℕ → BeliefsLists → BeliefsLeft
+beliefsLeft code l = record { code = code; lists = l }
 
 -- an outcome of `beliefs`, its answer as a code
-abbrev pub leftBy : BeliefsOutcome → Left
-leftBy o = left (codeOf (o .answer)) (o .left)
+abbrev pub beliefsLeftBy : BeliefsOutcome → BeliefsLeft
+beliefsLeftBy o = beliefsLeft (codeOf (o .answer)) (o .left)
 
 -- ---- Relay
 
@@ -78,4 +78,4 @@ decodeLeft code counts weight l = record { code = code; counts = counts; weight 
 
 -- an outcome of `decode`, over the counts and the weight as they were
 abbrev pub decodeLeftBy : DecodeOutcome → List ℕ → List Float → DecodeLeft
-decodeLeftBy o counts weight = decodeLeft (decodedCode (o .answer)) (countsOf (o .answer) counts) (weightOf (o .answer) weight) (o .left)
+decodeLeftBy o counts weight = decodeLeft (decodedCode (o .answer)) (decodedCounts (o .answer) counts) (decodedWeight (o .answer) weight) (o .left)

@@ -3,7 +3,7 @@ ghost use mathlib.Core.Path.{_≡_};
 ghost use Rattle.graph_lists.specs.Graph.{graph as graphOf};
 ghost use Rattle.graph_lists.specs.Model.{buildSparse, countEdges, buildDense, graphFault};
 ghost use Rattle.exports_values.specs.Codes.{codeOf};
-ghost use Rattle.exports_bodies.specs.Answers.{sent, sentOf};
+ghost use Rattle.exports_bodies.specs.Answers.{graphLeft, graphLeftBy};
 use exports_values::answers::code;
 use graph::Size;
 
@@ -22,7 +22,7 @@ pub fn build_sparse(
     var_message: &mut [u32],
     var_offset: &mut [u32],
 ) -> u64
-    ensures { λ r. ⌜ sent r (graphOf checks mechanisms (now («check_var» .exit)) (now («check_message» .exit)) (now («check_offset» .exit)) (now («var_check» .exit)) (now («var_message» .exit)) (now («var_offset» .exit))) ≡ sentOf (buildSparse edges (now (priors .entry)) (now («detector_offsets» .entry)) (now (detectors .entry)) (graphOf checks mechanisms (now («check_var» .entry)) (now («check_message» .entry)) (now («check_offset» .entry)) (now («var_check» .entry)) (now («var_message» .entry)) (now («var_offset» .entry)))) ⌝ }
+    ensures { λ r. ⌜ graphLeft r (graphOf checks mechanisms (now («check_var» .exit)) (now («check_message» .exit)) (now («check_offset» .exit)) (now («var_check» .exit)) (now («var_message» .exit)) (now («var_offset» .exit))) ≡ graphLeftBy (buildSparse edges (now (priors .entry)) (now («detector_offsets» .entry)) (now (detectors .entry)) (graphOf checks mechanisms (now («check_var» .entry)) (now («check_message» .entry)) (now («check_offset» .entry)) (now («var_check» .entry)) (now («var_message» .entry)) (now («var_offset» .entry)))) ⌝ }
 {
     let size = Size {
         checks: checks,
@@ -63,7 +63,7 @@ pub fn build_dense(
     var_message: &mut [u32],
     var_offset: &mut [u32],
 ) -> u64
-    ensures { λ r. ⌜ sent r (graphOf checks mechanisms (now («check_var» .exit)) (now («check_message» .exit)) (now («check_offset» .exit)) (now («var_check» .exit)) (now («var_message» .exit)) (now («var_offset» .exit))) ≡ sentOf (buildDense (now (priors .entry)) (now (matrix .entry)) (graphOf checks mechanisms (now («check_var» .entry)) (now («check_message» .entry)) (now («check_offset» .entry)) (now («var_check» .entry)) (now («var_message» .entry)) (now («var_offset» .entry)))) ⌝ }
+    ensures { λ r. ⌜ graphLeft r (graphOf checks mechanisms (now («check_var» .exit)) (now («check_message» .exit)) (now («check_offset» .exit)) (now («var_check» .exit)) (now («var_message» .exit)) (now («var_offset» .exit))) ≡ graphLeftBy (buildDense (now (priors .entry)) (now (matrix .entry)) (graphOf checks mechanisms (now («check_var» .entry)) (now («check_message» .entry)) (now («check_offset» .entry)) (now («var_check» .entry)) (now («var_message» .entry)) (now («var_offset» .entry)))) ⌝ }
 {
     code(graph::build_dense(
         checks,

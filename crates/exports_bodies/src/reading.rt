@@ -3,7 +3,7 @@ ghost use mathlib.Core.Path.{_≡_};
 ghost use mathlib.Core.List.{[], _∷_};
 ghost use Rattle.stream_reader.specs.Reading.{fresh, isWhole, held, pushed, verdict as verdictOf, atEnd};
 ghost use Rattle.stream_grammar.specs.Stream.{isOfShot};
-ghost use Rattle.stream_grammar.specs.Fields.{countsOf, settingsOf};
+ghost use Rattle.stream_grammar.specs.Fields.{countsRead, settingsRead};
 ghost use Rattle.exports_values.specs.Codes.{bitOf, codeOf, byteOf, floatsIn, countsIn};
 ghost use Rattle.exports_words.specs.Words.{readerOf, readerWords, isSet};
 use exports_values::answers::bit;
@@ -57,7 +57,7 @@ pub fn at_end(reader: &[usize; 8]) -> u64
 
 // `stream_reader::read_counts`.
 pub fn read_counts(payload: &[u8], counts: &mut [usize; 3])
-    ensures { λ _. ⌜ now (counts .exit) ≡ countsOf (now (payload .entry)) .checks ∷ (countsOf (now (payload .entry)) .mechanisms ∷ (countsOf (now (payload .entry)) .edges ∷ [])) ⌝ }
+    ensures { λ _. ⌜ now (counts .exit) ≡ countsRead (now (payload .entry)) .checks ∷ (countsRead (now (payload .entry)) .mechanisms ∷ (countsRead (now (payload .entry)) .edges ∷ [])) ⌝ }
 {
     let c = stream_reader::read_counts(payload);
     *counts = [c.checks, c.mechanisms, c.edges];
@@ -65,9 +65,9 @@ pub fn read_counts(payload: &[u8], counts: &mut [usize; 3])
 
 // `stream_reader::read_settings`.
 pub fn read_settings(payload: &[u8], floats: &mut [f64; 4], counts: &mut [u64; 4]) -> u8
-    ensures schedule { λ r. ⌜ r ≡ byteOf (settingsOf (now (payload .entry)) .schedule) ⌝ }
-    ensures floats { λ _. ⌜ now (floats .exit) ≡ floatsIn (settingsOf (now (payload .entry))) ⌝ }
-    ensures counts { λ _. ⌜ now (counts .exit) ≡ countsIn (settingsOf (now (payload .entry))) ⌝ }
+    ensures schedule { λ r. ⌜ r ≡ byteOf (settingsRead (now (payload .entry)) .schedule) ⌝ }
+    ensures floats { λ _. ⌜ now (floats .exit) ≡ floatsIn (settingsRead (now (payload .entry))) ⌝ }
+    ensures counts { λ _. ⌜ now (counts .exit) ≡ countsIn (settingsRead (now (payload .entry))) ⌝ }
 {
     tell_settings(stream_reader::read_settings(payload), floats, counts)
 }

@@ -3,7 +3,7 @@ ghost use mathlib.Core.Path.{_≡_};
 ghost use lib.ListN.{length};
 ghost use Rattle.numbers.specs.Loops.{over};
 ghost use Rattle.stream_lines.specs.Lines.{shotLine, unlessTooLong};
-ghost use Rattle.stream_session.specs.Shots.{start, byteTaken, endText};
+ghost use Rattle.stream_session.specs.Shots.{startSession, byteTaken, endText};
 ghost use Rattle.exports_words.specs.Words.{isSet, sessionOf, sessionWords, sessionFloats};
 use exports_words::put_session;
 use exports_words::session_of;
@@ -26,8 +26,8 @@ pub fn shot_line(
 
 // `stream_session::Session::new`.
 pub fn session_new(words: &mut [usize; 21], floats: &mut [f64; 4])
-    ensures words { λ _. ⌜ now (words .exit) ≡ sessionWords start ⌝ }
-    ensures floats { λ _. ⌜ now (floats .exit) ≡ sessionFloats start ⌝ }
+    ensures words { λ _. ⌜ now (words .exit) ≡ sessionWords startSession ⌝ }
+    ensures floats { λ _. ⌜ now (floats .exit) ≡ sessionFloats startSession ⌝ }
 {
     put_session(Session::new(), words, floats);
 }

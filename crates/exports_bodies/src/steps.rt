@@ -3,7 +3,7 @@ ghost use mathlib.Core.Path.{_≡_};
 ghost use Rattle.graph_lists.specs.Graph.{graph as graphOf};
 ghost use Rattle.relay_step.specs.Step.{state};
 ghost use Rattle.relay_calls.specs.Calls.{stepLists, iterationCall};
-ghost use Rattle.exports_values.specs.Codes.{scheduleOf};
+ghost use Rattle.exports_values.specs.Codes.{scheduleGiven};
 ghost use Rattle.exports_bodies.specs.Answers.{stepLeft, stepLeftBy};
 use exports_values::answers::code;
 use exports_values::given::schedule_of;
@@ -31,7 +31,7 @@ pub fn iteration(
     posterior: &mut [f64],
     bias: &mut [f64],
 ) -> u64
-    ensures { λ r. ⌜ stepLeft r (stepLists (state (now («c_to_v» .exit)) (now («v_to_c» .exit)) (now (posterior .exit))) (now (bias .exit))) ≡ stepLeftBy (iterationCall edges (now (priors .entry)) (graphOf checks mechanisms (now («check_var» .entry)) (now («check_message» .entry)) (now («check_offset» .entry)) (now («var_check» .entry)) (now («var_message» .entry)) (now («var_offset» .entry))) (scheduleOf schedule) alpha (now (gamma .entry)) (now (syndrome .entry)) (now (order .entry)) (stepLists (state (now («c_to_v» .entry)) (now («v_to_c» .entry)) (now (posterior .entry))) (now (bias .entry)))) ⌝ }
+    ensures { λ r. ⌜ stepLeft r (stepLists (state (now («c_to_v» .exit)) (now («v_to_c» .exit)) (now (posterior .exit))) (now (bias .exit))) ≡ stepLeftBy (iterationCall edges (now (priors .entry)) (graphOf checks mechanisms (now («check_var» .entry)) (now («check_message» .entry)) (now («check_offset» .entry)) (now («var_check» .entry)) (now («var_message» .entry)) (now («var_offset» .entry))) (scheduleGiven schedule) alpha (now (gamma .entry)) (now (syndrome .entry)) (now (order .entry)) (stepLists (state (now («c_to_v» .entry)) (now («v_to_c» .entry)) (now (posterior .entry))) (now (bias .entry)))) ⌝ }
 {
     let size = Size {
         checks: checks,

@@ -47,20 +47,20 @@ placeIn code = code / 65536
 -- ---- settings
 
 -- a byte that is 0 is Flooding
-abbrev pub scheduleOf : ℕ → Schedule
-scheduleOf zero = Flooding
-scheduleOf (suc n) = CheckSerial
+abbrev pub scheduleGiven : ℕ → Schedule
+scheduleGiven zero = Flooding
+scheduleGiven (suc n) = CheckSerial
 
 -- where a byte is 0 the gammas are drawn, and else they are explicit sets
-abbrev pub sourceOf : ℕ → ℕ → GammaSource
-sourceOf zero sets = Seeded
-sourceOf (suc n) sets = Explicit sets
+abbrev pub sourceGiven : ℕ → ℕ → GammaSource
+sourceGiven zero sets = Seeded
+sourceGiven (suc n) sets = Explicit sets
 
 -- the settings of a call, in its order
-abbrev pub settingsOf : ℕ → Float → Float → ℕ → ℕ → ℕ → Float → Float → ℕ → ℕ → ℕ → Settings
-settingsOf schedule alpha gamma0 pre legs iterations low high stop explicit sets =
+abbrev pub settingsGiven : ℕ → Float → Float → ℕ → ℕ → ℕ → Float → Float → ℕ → ℕ → ℕ → Settings
+settingsGiven schedule alpha gamma0 pre legs iterations low high stop explicit sets =
     record {
-      schedule = scheduleOf schedule;
+      schedule = scheduleGiven schedule;
       alpha = alpha;
       gamma0 = gamma0;
       «pre_iterations» = pre;
@@ -69,7 +69,7 @@ settingsOf schedule alpha gamma0 pre legs iterations low high stop explicit sets
       «gamma_low» = low;
       «gamma_high» = high;
       «stop_after_converged» = stop;
-      «gamma_source» = sourceOf explicit sets;
+      «gamma_source» = sourceGiven explicit sets;
     }
 
 -- a schedule as a byte
@@ -94,13 +94,13 @@ decodedCode (Decoded.NotConverged n t) = 0
 decodedCode (Decoded.Refused r) = codeOf (Refused r)
 
 -- beside it three counts: converged (1 or 0), executed legs, total iterations. Refusal 30 zeroes them, as it does all results, and any other writes nothing
-abbrev pub countsOf : Decoded → List ℕ → List ℕ
-countsOf (Decoded.Converged n t w) old = 1 ∷ (n ∷ (t ∷ []))
-countsOf (Decoded.NotConverged n t) old = 0 ∷ (n ∷ (t ∷ []))
-countsOf (Decoded.Refused r) old = cond (eqb (numberOf r) 30) (0 ∷ (0 ∷ (0 ∷ []))) old
+abbrev pub decodedCounts : Decoded → List ℕ → List ℕ
+decodedCounts (Decoded.Converged n t w) old = 1 ∷ (n ∷ (t ∷ []))
+decodedCounts (Decoded.NotConverged n t) old = 0 ∷ (n ∷ (t ∷ []))
+decodedCounts (Decoded.Refused r) old = cond (eqb (numberOf r) 30) (0 ∷ (0 ∷ (0 ∷ []))) old
 
 -- and the weight, positive zero where there is none
-abbrev pub weightOf : Decoded → List Float → List Float
-weightOf (Decoded.Converged n t w) old = w ∷ []
-weightOf (Decoded.NotConverged n t) old = zero⁺ ∷ []
-weightOf (Decoded.Refused r) old = cond (eqb (numberOf r) 30) (zero⁺ ∷ []) old
+abbrev pub decodedWeight : Decoded → List Float → List Float
+decodedWeight (Decoded.Converged n t w) old = w ∷ []
+decodedWeight (Decoded.NotConverged n t) old = zero⁺ ∷ []
+decodedWeight (Decoded.Refused r) old = cond (eqb (numberOf r) 30) (zero⁺ ∷ []) old

@@ -3,11 +3,11 @@ use relay_settings::GammaSource;
 use relay_settings::Schedule;
 use relay_settings::Settings;
 ghost use mathlib.Core.Path.{_≡_};
-ghost use Rattle.exports_values.specs.Codes.{scheduleOf, sourceOf, settingsOf};
+ghost use Rattle.exports_values.specs.Codes.{scheduleGiven, sourceGiven, settingsGiven};
 
 // The schedule of a word.
 pub fn schedule_of(word: usize) -> Schedule
-    ensures { λ r. ⌜ r ≡ scheduleOf word ⌝ }
+    ensures { λ r. ⌜ r ≡ scheduleGiven word ⌝ }
 {
     if word == 0 {
         return Schedule::Flooding;
@@ -17,7 +17,7 @@ pub fn schedule_of(word: usize) -> Schedule
 
 // Where the gammas come from.
 fn source_of(explicit: usize, sets: usize) -> GammaSource
-    ensures { λ r. ⌜ r ≡ sourceOf explicit sets ⌝ }
+    ensures { λ r. ⌜ r ≡ sourceGiven explicit sets ⌝ }
 {
     if explicit == 0 {
         return GammaSource::Seeded;
@@ -39,7 +39,7 @@ pub fn settings_of(
     explicit: usize,
     sets: usize,
 ) -> Settings
-    ensures { λ r. ⌜ r ≡ settingsOf schedule alpha gamma0 «pre_iterations» «num_legs» «leg_iterations» «gamma_low» «gamma_high» «stop_after_converged» explicit sets ⌝ }
+    ensures { λ r. ⌜ r ≡ settingsGiven schedule alpha gamma0 «pre_iterations» «num_legs» «leg_iterations» «gamma_low» «gamma_high» «stop_after_converged» explicit sets ⌝ }
 {
     let order = schedule_of(schedule);
     let source = source_of(explicit, sets);

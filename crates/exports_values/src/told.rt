@@ -7,7 +7,7 @@ ghost use Rattle.numbers.specs.Floats.{zero⁺};
 ghost use Rattle.refusals.specs.Refusal.{numberOf};
 ghost use Rattle.refusals.specs.declared.Answer.the-variants.{Refused};
 ghost use Rattle.relay_calls.specs.Calls.{valuesOf};
-ghost use Rattle.exports_values.specs.Codes.{codeOf, decodedCode, countsOf, weightOf, byteOf, floatsIn, countsIn};
+ghost use Rattle.exports_values.specs.Codes.{codeOf, decodedCode, decodedCounts, decodedWeight, byteOf, floatsIn, countsIn};
 use crate::answers::code;
 use refusals::Answer;
 use refusals::Refusal;
@@ -34,8 +34,8 @@ fn tell_refusal(r: Refusal, counts: &mut [u64; 3], weight: &mut [f64; 1]) -> u64
 // A decode's code, counts and weight.
 pub fn tell(decoded: Decoded, counts: &mut [u64; 3], weight: &mut [f64; 1]) -> u64
     ensures code { λ c. ⌜ c ≡ decodedCode decoded ⌝ }
-    ensures counts { λ _. ⌜ now (counts .exit) ≡ countsOf decoded (now (counts .entry)) ⌝ }
-    ensures weight { λ _. ⌜ now (weight .exit) ≡ weightOf decoded (now (weight .entry)) ⌝ }
+    ensures counts { λ _. ⌜ now (counts .exit) ≡ decodedCounts decoded (now (counts .entry)) ⌝ }
+    ensures weight { λ _. ⌜ now (weight .exit) ≡ decodedWeight decoded (now (weight .entry)) ⌝ }
 {
     match decoded {
         Decoded::Converged {

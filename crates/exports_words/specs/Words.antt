@@ -10,7 +10,7 @@ use Rattle.relay_settings.specs.declared.GammaSource.the-variants.{Explicit, Se
 use Rattle.stream_reader.specs.declared.Reader.{Reader}
 use Rattle.stream_session.specs.declared.Session.{Session}
 use Rattle.stream_session.specs.Shots.{known, session}
-use Rattle.exports_values.specs.Codes.{bitOf, byteOf, settingsOf, floatsIn}
+use Rattle.exports_values.specs.Codes.{bitOf, byteOf, settingsGiven, floatsIn}
 
 -- ---- a reader: eight words, in the order of its fields
 
@@ -52,7 +52,7 @@ setsWord (Explicit sets) = sets
 -- a session out of its words and its settings' floats
 abbrev pub sessionOf : List ℕ → List Float → Session
 sessionOf w f =
-    let settings = settingsOf (getD w 14 0) (getD f 0 nan) (getD f 1 nan) (getD w 15 0) (getD w 16 0) (getD w 17 0) (getD f 2 nan) (getD f 3 nan) (getD w 18 0) (getD w 19 0) (getD w 20 0) in
+    let settings = settingsGiven (getD w 14 0) (getD f 0 nan) (getD f 1 nan) (getD w 15 0) (getD w 16 0) (getD w 17 0) (getD f 2 nan) (getD f 3 nan) (getD w 18 0) (getD w 19 0) (getD w 20 0) in
     session (readerOf w) (known (getD w 8 0) (isSet (getD w 9 0)) settings (isSet (getD w 10 0))) (getD w 11 0) (isSet (getD w 12 0)) (getD w 13 0)
 
 -- a session's words

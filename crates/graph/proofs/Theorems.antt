@@ -13,9 +13,9 @@ use Rattle.refusals.proofs.Tests.{or-done}
 use Rattle.refusals.specs.Tests.{firstOf, unlessRefused}
 use Rattle.refusals.specs.declared.Answer.{Answer}
 use Rattle.refusals.specs.declared.Answer.the-variants.{Done}
-use Rattle.graph_lists.specs.Graph.{Graph, graphOf, among, marked, told}
+use Rattle.graph_lists.specs.Graph.{Graph, graphOf, among, marked, ownIncidence}
 use Rattle.graph_lists.specs.Lists.{has}
-use Rattle.graph_lists.specs.Model.{edgesGood, graphFits, denseFits, priorGood, priorFault, isGraph, Outcome, outcome, built, sparseFault, buildSparse, countEdges, denseFault, buildDense, graphFault, countsGood}
+use Rattle.graph_lists.specs.Model.{edgesGood, graphFits, denseFits, priorGood, priorFault, isGraph, BuildOutcome, buildOutcome, built, sparseFault, buildSparse, countEdges, denseFault, buildDense, graphFault, countsGood}
 use Rattle.graph_lists.specs.Steps.{Valid}
 use Rattle.graph_lists.proofs.Built.{sparse-length}
 use Rattle.graph_lists.proofs.DenseTests.{dense-5, DenseTold, dense-told, dense-done}
@@ -40,7 +40,7 @@ sparse-lists edges priors off dets g h = built-lists _ (among off dets) g h
 
 -- answer and all
 sparse-whole : (edges : ℕ) (priors : List Float) (off dets : List ℕ) (g : Graph) → buildSparse edges priors off dets g .answer ≡ Done
-    → buildSparse edges priors off dets g ≡ outcome Done (graphOf (g .checks) (g .mechanisms) (among off dets))
+    → buildSparse edges priors off dets g ≡ buildOutcome Done (graphOf (g .checks) (g .mechanisms) (among off dets))
 unfolding buildSparse built unlessRefused
 sparse-whole edges priors off dets g h = rw h
 
@@ -110,7 +110,7 @@ dense-is-sparse edges priors off dets matrix g h l e =
     let none : Done ≡ firstOf (length priors) (priorFault priors) = sym (ap (λ (k : ℕ). firstOf k (priorFault priors)) (p .many) ∙ good-none (g .mechanisms) priors p) in
     let tests = dense-5 (g .checks) (g .mechanisms) (countEdges matrix) priors (length matrix) (graphFits (countEdges matrix) g) Done counts lengths small fits none in
     sym (dense-done priors matrix Done (countEdges matrix) (graphFits (countEdges matrix) g) g refl refl tests _ refl refl)
-    ∙ ap (outcome Done) (sym (graph-agrees (g .checks) (g .mechanisms) (among off dets) (marked (g .mechanisms) matrix) e))
+    ∙ ap (buildOutcome Done) (sym (graph-agrees (g .checks) (g .mechanisms) (among off dets) (marked (g .mechanisms) matrix) e))
     ∙ sym (sparse-whole edges priors off dets g h)
 
 -- ---- the detectors' order
@@ -166,18 +166,18 @@ zeroes-good n = record { many = length-replicate n zero⁺; good = λ m h. rw (g
 -- into any lent lists g′ that fit.
 pub passes-built : (g g′ : Graph) → isGraph g ≡ true → g′ .checks ≡ g .checks → g′ .mechanisms ≡ g .mechanisms → g .checks ≤ 65536 → g .mechanisms ≤ 65536 → length (g .checkVar) ≤ 1048576
     → graphFits (length (g .checkVar)) g′ ≡ true
-    → buildSparse (length (g .checkVar)) (zeroes (g .mechanisms)) (g .varOffset) (g .varCheck) g′ ≡ outcome Done g
+    → buildSparse (length (g .checkVar)) (zeroes (g .mechanisms)) (g .varOffset) (g .varCheck) g′ ≡ buildOutcome Done g
 passes-built g g′ h ec em hc hm he fit =
-    let e : g ≡ graphOf (g′ .checks) (g′ .mechanisms) (told g) = is-graph-told g h ∙ (λ i. graphOf (sym ec i) (sym em i) (told g)) in
-    built-from g g′ (told g) (zeroes (g .mechanisms)) e (omega arith) (omega arith) he (rw em (zeroes-good (g .mechanisms))) fit
+    let e : g ≡ graphOf (g′ .checks) (g′ .mechanisms) (ownIncidence g) = is-graph-told g h ∙ (λ i. graphOf (sym ec i) (sym em i) (ownIncidence g)) in
+    built-from g g′ (ownIncidence g) (zeroes (g .mechanisms)) e (omega arith) (omega arith) he (rw em (zeroes-good (g .mechanisms))) fit
 
 -- Lists and priors that `check_graph` accepts are what `build_sparse` builds from these priors and the graph's own variable lists.
-pub checked-built : (edges : ℕ) (priors : List Float) (g : Graph) → graphFault edges priors g ≡ Done → buildSparse edges priors (g .varOffset) (g .varCheck) g ≡ outcome Done g
+pub checked-built : (edges : ℕ) (priors : List Float) (g : Graph) → graphFault edges priors g ≡ Done → buildSparse edges priors (g .varOffset) (g .varCheck) g ≡ buildOutcome Done g
 checked-built edges priors g h =
     let t = graph-told edges priors g h in
     let n : length (g .checkVar) ≡ edges = t .long .check-var in
     ap (λ (k : ℕ). buildSparse k priors (g .varOffset) (g .varCheck) g) (sym n)
-    ∙ built-from g g (told g) priors (is-graph-told g (t .is-graph)) (t .few .checks-few) (t .few .mechanisms-few) (omega (arith, n, t .few .edges-few)) (record { many = t .priors-many; good = t .priors-good })
+    ∙ built-from g g (ownIncidence g) priors (is-graph-told g (t .is-graph)) (t .few .checks-few) (t .few .mechanisms-few) (omega (arith, n, t .few .edges-few)) (record { many = t .priors-many; good = t .priors-good })
     (rw n (t .fits))
 
 -- ---- one result
@@ -187,16 +187,16 @@ pub coincide {ℓ} : {A : Type ℓ} (x y z : A) → x ≡ z → y ≡ z → x �
 coincide x y z p q = p ∙ sym q
 
 -- so do two outcomes, in the answer and in the lists
-outcomes : (a b : Answer) (g h : Graph) → outcome a g ≡ outcome b h → (a ≡ b) × (g ≡ h)
-outcomes a b g h e = (ap (λ (o : Outcome). o .answer) e, ap (λ (o : Outcome). o .lists) e)
+outcomes : (a b : Answer) (g h : Graph) → buildOutcome a g ≡ buildOutcome b h → (a ≡ b) × (g ≡ h)
+outcomes a b g h e = (ap (λ (o : BuildOutcome). o .answer) e, ap (λ (o : BuildOutcome). o .lists) e)
 
 -- Two results that the contract of `build_sparse` allows coincide, the answer and the six lists.
-pub sparse-once : (edges : ℕ) (priors : List Float) (off dets : List ℕ) (old : Graph) (a b : Answer) (g h : Graph) → outcome a g ≡ buildSparse edges priors off dets old
-    → outcome b h ≡ buildSparse edges priors off dets old → (a ≡ b) × (g ≡ h)
+pub sparse-once : (edges : ℕ) (priors : List Float) (off dets : List ℕ) (old : Graph) (a b : Answer) (g h : Graph) → buildOutcome a g ≡ buildSparse edges priors off dets old
+    → buildOutcome b h ≡ buildSparse edges priors off dets old → (a ≡ b) × (g ≡ h)
 sparse-once edges priors off dets old a b g h p q = outcomes a b g h (coincide _ _ _ p q)
 
 -- Two that the contract of `build_dense` allows.
-pub dense-once : (priors : List Float) (matrix : List ℕ) (old : Graph) (a b : Answer) (g h : Graph) → outcome a g ≡ buildDense priors matrix old → outcome b h ≡ buildDense priors matrix old → (a ≡ b) × (g ≡ h)
+pub dense-once : (priors : List Float) (matrix : List ℕ) (old : Graph) (a b : Answer) (g h : Graph) → buildOutcome a g ≡ buildDense priors matrix old → buildOutcome b h ≡ buildDense priors matrix old → (a ≡ b) × (g ≡ h)
 dense-once priors matrix old a b g h p q = outcomes a b g h (coincide _ _ _ p q)
 
 -- Two that the contract of `count_edges` allows.

@@ -2,7 +2,7 @@
 // lends. Every call takes every input; a refusal writes nothing.
 ghost use mathlib.Core.Path.{_≡_};
 ghost use Rattle.graph_lists.specs.Graph.{graph};
-ghost use Rattle.graph_lists.specs.Model.{outcome, buildSparse, countEdges, buildDense, graphFault};
+ghost use Rattle.graph_lists.specs.Model.{buildOutcome, buildSparse, countEdges, buildDense, graphFault};
 use graph_lists::build::from_detectors;
 use graph_lists::dense::from_matrix;
 use graph_tests::dense_fault;
@@ -33,7 +33,7 @@ pub fn build_sparse(
     var_message: &mut [u32],
     var_offset: &mut [u32],
 ) -> Answer
-    ensures { λ r. ⌜ outcome r (graph (size .checks) (size .mechanisms) (now («check_var» .exit)) (now («check_message» .exit)) (now («check_offset» .exit)) (now («var_check» .exit)) (now («var_message» .exit)) (now («var_offset» .exit))) ≡ buildSparse (size .edges) (now (priors .entry)) (now («detector_offsets» .entry)) (now (detectors .entry)) (graph (size .checks) (size .mechanisms) (now («check_var» .entry)) (now («check_message» .entry)) (now («check_offset» .entry)) (now («var_check» .entry)) (now («var_message» .entry)) (now («var_offset» .entry))) ⌝ }
+    ensures { λ r. ⌜ buildOutcome r (graph (size .checks) (size .mechanisms) (now («check_var» .exit)) (now («check_message» .exit)) (now («check_offset» .exit)) (now («var_check» .exit)) (now («var_message» .exit)) (now («var_offset» .exit))) ≡ buildSparse (size .edges) (now (priors .entry)) (now («detector_offsets» .entry)) (now (detectors .entry)) (graph (size .checks) (size .mechanisms) (now («check_var» .entry)) (now («check_message» .entry)) (now («check_offset» .entry)) (now («var_check» .entry)) (now («var_message» .entry)) (now («var_offset» .entry))) ⌝ }
 {
     let fit = lists_fit(
         size,
@@ -91,7 +91,7 @@ pub fn build_dense(
     var_message: &mut [u32],
     var_offset: &mut [u32],
 ) -> Answer
-    ensures { λ r. ⌜ outcome r (graph checks mechanisms (now («check_var» .exit)) (now («check_message» .exit)) (now («check_offset» .exit)) (now («var_check» .exit)) (now («var_message» .exit)) (now («var_offset» .exit))) ≡ buildDense (now (priors .entry)) (now (matrix .entry)) (graph checks mechanisms (now («check_var» .entry)) (now («check_message» .entry)) (now («check_offset» .entry)) (now («var_check» .entry)) (now («var_message» .entry)) (now («var_offset» .entry))) ⌝ }
+    ensures { λ r. ⌜ buildOutcome r (graph checks mechanisms (now («check_var» .exit)) (now («check_message» .exit)) (now («check_offset» .exit)) (now («var_check» .exit)) (now («var_message» .exit)) (now («var_offset» .exit))) ≡ buildDense (now (priors .entry)) (now (matrix .entry)) (graph checks mechanisms (now («check_var» .entry)) (now («check_message» .entry)) (now («check_offset» .entry)) (now («var_check» .entry)) (now («var_message» .entry)) (now («var_offset» .entry))) ⌝ }
 {
     let size = Size {
         checks: checks,

@@ -16,7 +16,7 @@ use Rattle.refusals.specs.declared.Answer.{Answer}
 use Rattle.refusals.specs.declared.Answer.the-variants.{Done, Refused}
 use Rattle.refusals.specs.declared.Refusal.the-variants.{SizeAboveLimit, ModelListLength}
 use Rattle.graph_lists.specs.Graph.{Graph, graphOf, marked}
-use Rattle.graph_lists.specs.Model.{edgesGood, graphFits, denseFits, priorFault, outcome, countEdges, buildDense, countsGood, denseFault}
+use Rattle.graph_lists.specs.Model.{edgesGood, graphFits, denseFits, priorFault, buildOutcome, countEdges, buildDense, countsGood, denseFault}
 use Rattle.graph_lists.proofs.SparseTests.{Few, few-told, built-done, built-refused}
 
 -- within the limits a matrix has at most 2 ^ 32 bytes
@@ -90,11 +90,11 @@ module _ (priors : List Float) (matrix : List ℕ) (a : Answer) (edges : ℕ) (f
       ∙ ap (λ (n : ℕ). denseFault (old .checks) (old .mechanisms) n priors (length matrix) (graphFits n old)) c
 
   -- built
-  pub dense-done : (new : Graph) → isDone a ≡ true → new ≡ graphOf (old .checks) (old .mechanisms) (marked (old .mechanisms) matrix) → outcome a new ≡ buildDense priors matrix old
+  pub dense-done : (new : Graph) → isDone a ≡ true → new ≡ graphOf (old .checks) (old .mechanisms) (marked (old .mechanisms) matrix) → buildOutcome a new ≡ buildDense priors matrix old
   unfolding buildDense
   dense-done new d e = built-done a _ (marked (old .mechanisms) matrix) old new answer d e
 
   -- refused
-  pub dense-refused : isDone a ≡ false → outcome a old ≡ buildDense priors matrix old
+  pub dense-refused : isDone a ≡ false → buildOutcome a old ≡ buildDense priors matrix old
   unfolding buildDense
   dense-refused d = built-refused a _ (marked (old .mechanisms) matrix) old answer d

@@ -19,7 +19,7 @@ use Rattle.refusals.specs.declared.Answer.the-variants.{Done}
 use Rattle.refusals.specs.declared.Refusal.the-variants.{BadPrior}
 use Rattle.graph_lists.specs.Graph.{Graph, mechanismsOf, flipped, checksOf, entries, graphOf, among}
 use Rattle.graph_lists.specs.Lists.{has, joined, offsets}
-use Rattle.graph_lists.specs.Model.{graphFits, offsetsGood, priorGood, priorFault, detectorFault, mechanismFault, outcome, buildSparse, graphFault, sizesGood, sparseFits, sparseFault, mechanismTest}
+use Rattle.graph_lists.specs.Model.{graphFits, offsetsGood, priorGood, priorFault, detectorFault, mechanismFault, buildOutcome, buildSparse, graphFault, sizesGood, sparseFits, sparseFault, mechanismTest}
 use Rattle.graph_lists.specs.Sound.{Rising}
 use Rattle.graph_lists.proofs.Built.{length-offsets, graph-among}
 use Rattle.graph_lists.proofs.GraphTests.{fault-none}
@@ -110,21 +110,21 @@ module _ (inc : ℕ → ℕ → Bool) (priors : List Float) (old : Graph) (hc : 
 
   -- and the model builds the graph
   pub some-model : buildSparse (length (entries (old .checks) (old .mechanisms) inc)) priors (offsets (old .mechanisms) (checksOf (old .checks) inc)) (joined (old .mechanisms) (checksOf (old .checks) inc)) old
-      ≡ outcome Done (graphOf (old .checks) (old .mechanisms) inc)
+      ≡ buildOutcome Done (graphOf (old .checks) (old .mechanisms) inc)
   some-model =
       sym (sparse-done _ priors _ _ Done true old (sym fit) passed-all _ refl refl)
-      ∙ ap (outcome Done) (graph-agrees (old .checks) (old .mechanisms) _ inc (λ c m h l. back (old .checks) (old .mechanisms) inc c m h l))
+      ∙ ap (buildOutcome Done) (graph-agrees (old .checks) (old .mechanisms) _ inc (λ c m h l. back (old .checks) (old .mechanisms) inc c m h l))
 
 -- a graph's own lists as the model
 pub built-from : (g old : Graph) (inc : ℕ → ℕ → Bool) (priors : List Float) → g ≡ graphOf (old .checks) (old .mechanisms) inc → old .checks ≤ 65536 → old .mechanisms ≤ 65536
     → length (g .checkVar) ≤ 1048576 → GoodPriors (old .mechanisms) priors → graphFits (length (g .checkVar)) old ≡ true
-    → buildSparse (length (g .checkVar)) priors (g .varOffset) (g .varCheck) old ≡ outcome Done g
+    → buildSparse (length (g .checkVar)) priors (g .varOffset) (g .varCheck) old ≡ buildOutcome Done g
 unfolding graphOf
 built-from g old inc priors e hc hm he p fit =
     let n : length (g .checkVar) ≡ length (entries (old .checks) (old .mechanisms) inc) = ap (λ (x : Graph). length (x .checkVar)) e in
     ap (λ (x : Graph). buildSparse (length (x .checkVar)) priors (x .varOffset) (x .varCheck) old) e
     ∙ some-model inc priors old hc hm (rw n at he) p (rw n at fit)
-    ∙ ap (outcome Done) (sym e)
+    ∙ ap (buildOutcome Done) (sym e)
 
 -- the graph of any incidence within the limits passes the tests of `check_graph`
 pub graph-checked : (checks mechanisms edges : ℕ) (inc : ℕ → ℕ → Bool) (priors : List Float) → checks ≤ 65536 → mechanisms ≤ 65536 → edges ≤ 1048576

@@ -10,10 +10,10 @@ use lib.Seq.{ext-getD}
 use Rattle.numbers.proofs.Cases.{less-or-not}
 use Rattle.numbers.proofs.Loops.{is-table, map-at, length-table, getD-table, length-part, getD-part}
 use Rattle.numbers.specs.Loops.{upto, row}
-use Rattle.graph_lists.specs.Graph.{Graph, mechanismsOf, flipped, checksOf, entries, graphOf, told}
+use Rattle.graph_lists.specs.Graph.{Graph, mechanismsOf, flipped, checksOf, entries, graphOf, ownIncidence}
 use Rattle.graph_lists.specs.Lists.{has, joined, start, offsets, stands, places}
 use Rattle.graph_lists.specs.Sound.{Offsets, Long, Keys, Rising}
-use Rattle.graph_lists.specs.Steps.{count, first, rowOf}
+use Rattle.graph_lists.specs.Steps.{countBefore, firstOfKey, rowOf}
 use Rattle.graph_lists.proofs.Built.{offsets-at, length-offsets, offsets-cut, graph-offsets, Entry, entry, graph-keys, graph-vars, graph-var-offsets}
 use Rattle.graph_lists.proofs.Cuts.{offsets-rise, row-of, row-is, row-end, Met}
 use Rattle.graph_lists.proofs.Passing.{length-rises, passed, start-suc, joined-at}
@@ -50,24 +50,24 @@ module _ (edges : ℕ) (g : Graph) (f : Long edges g) (t : Passes edges g) where
   cut = rw (f .check-var) (t .check-cut)
 
   -- the entries of a check are the mechanisms that they tell
-  check-row : (c : ℕ) → c < (g .checks) → row (g .checkOffset) c (g .checkVar) ≡ mechanismsOf (g .mechanisms) (told g) c
-  unfolding mechanismsOf told
+  check-row : (c : ℕ) → c < (g .checks) → row (g .checkOffset) c (g .checkVar) ≡ mechanismsOf (g .mechanisms) (ownIncidence g) c
+  unfolding mechanismsOf ownIncidence
   check-row c h =
       let xs = row (g .checkOffset) c (g .checkVar) in
-      all-full (told g c) (g .mechanisms) xs (t .check-rises c h) (λ q l. has-at xs q _ l refl) (λ i l e. has-place xs i e)
+      all-full (ownIncidence g c) (g .mechanisms) xs (t .check-rises c h) (λ q l. has-at xs q _ l refl) (λ i l e. has-place xs i e)
 
   -- so are all check entries
-  check-var-is : g .checkVar ≡ entries (g .checks) (g .mechanisms) (told g)
+  check-var-is : g .checkVar ≡ entries (g .checks) (g .mechanisms) (ownIncidence g)
   unfolding entries
   check-var-is = parts-joined (g .checks) (g .checkOffset) (g .checkVar) cut _ check-row
 
   -- and the check offsets
-  check-offset-is : g .checkOffset ≡ offsets (g .checks) (mechanismsOf (g .mechanisms) (told g))
+  check-offset-is : g .checkOffset ≡ offsets (g .checks) (mechanismsOf (g .mechanisms) (ownIncidence g))
   check-offset-is = parts-offsets (g .checks) (g .checkOffset) (g .checkVar) cut _ check-row
 
   -- every check entry is a mechanism
   pub keys : Keys (g .mechanisms) (g .checkVar)
-  keys = rw check-var-is (graph-keys (g .checks) (g .mechanisms) (told g))
+  keys = rw check-var-is (graph-keys (g .checks) (g .mechanisms) (ownIncidence g))
 
   -- a variable has as many messages as checks
   pub lengths-agree : (v : ℕ) → v < (g .mechanisms) → length (row (g .varOffset) v (g .varMessage)) ≡ length (row (g .varOffset) v (g .varCheck))
@@ -100,8 +100,8 @@ module _ (edges : ℕ) (g : Graph) (f : Long edges g) (t : Passes edges g) where
   messages-stand v h q l = stands-yes (g .checkVar) v _ (t .var-meets v q h (rw (lengths-agree v h) at l) .is)
 
   -- so it has at most as many as it stands at
-  degree : (v : ℕ) → v < (g .mechanisms) → getD (g .varOffset) (suc v) 0 ≤ getD (g .varOffset) v 0 + count (g .checkVar) v (length (g .checkVar))
-  unfolding count
+  degree : (v : ℕ) → v < (g .mechanisms) → getD (g .varOffset) (suc v) 0 ≤ getD (g .varOffset) v 0 + countBefore (g .checkVar) v (length (g .checkVar))
+  unfolding countBefore
   degree v h =
       omega (
         arith,
@@ -110,22 +110,22 @@ module _ (edges : ℕ) (g : Graph) (f : Long edges g) (t : Passes edges g) where
       )
 
   -- so no degree is less than it must be, since they sum up to the same
-  above : (v : ℕ) → v ≤ (g .mechanisms) → getD (g .varOffset) v 0 ≤ first (g .checkVar) v
+  above : (v : ℕ) → v ≤ (g .mechanisms) → getD (g .varOffset) v 0 ≤ firstOfKey (g .checkVar) v
   above zero h = omega (arith, t .var-cut .starts)
   above (suc v) h = omega (arith, above v (omega arith), degree v h, first-suc (g .checkVar) v)
 
   -- nor more
-  under : (d v : ℕ) → v + d ≡ (g .mechanisms) → first (g .checkVar) v ≤ getD (g .varOffset) v 0
+  under : (d v : ℕ) → v + d ≡ (g .mechanisms) → firstOfKey (g .checkVar) v ≤ getD (g .varOffset) v 0
   under zero v e = let w : v ≡ (g .mechanisms) = omega arith in rw w (omega (arith, t .var-cut .ends, first-last (g .mechanisms) (g .checkVar) keys, f .check-var))
   under (suc d) v e = omega (arith, under d (suc v) (omega arith), degree v (omega arith), first-suc (g .checkVar) v)
 
   -- so its part begins where its places do
-  starts-at : (v : ℕ) → v ≤ (g .mechanisms) → getD (g .varOffset) v 0 ≡ first (g .checkVar) v
+  starts-at : (v : ℕ) → v ≤ (g .mechanisms) → getD (g .varOffset) v 0 ≡ firstOfKey (g .checkVar) v
   starts-at v h = omega (arith, above v h, under ((g .mechanisms) - v) v (omega arith))
 
   -- and its messages are its places
   pub messages-row : (v : ℕ) → v < (g .mechanisms) → row (g .varOffset) v (g .varMessage) ≡ places (g .checkVar) v
-  unfolding places count
+  unfolding places countBefore
   messages-row v h =
       full (stands (g .checkVar) v) (length (g .checkVar)) (row (g .varOffset) v (g .varMessage)) (messages-rise v h) (messages-stand v h)
       (omega (arith, row-length (g .mechanisms) edges (g .varOffset) (g .varMessage) (t .var-cut) (f .var-message) v h, starts-at v (omega arith), starts-at (suc v) h, first-suc (g .checkVar) v))
@@ -164,28 +164,28 @@ module _ (edges : ℕ) (g : Graph) (f : Long edges g) (t : Passes edges g) where
           ∙ sym (map-at (rowOf (g .checkOffset) (g .checks)) (g .varMessage) i (omega (arith, f .var-check, f .var-message)))
 
   -- so the lists are the graph of what they tell
-  pub passes-graph : g ≡ graphOf (g .checks) (g .mechanisms) (told g)
+  pub passes-graph : g ≡ graphOf (g .checks) (g .mechanisms) (ownIncidence g)
   unfolding graphOf
   passes-graph = graph-same _ _ _ _ _ _ _ _ _ _ _ _ _ _ check-var-is msg check-offset-is vc vm vo
     where
-      msg : g .checkMessage ≡ upto (length (entries (g .checks) (g .mechanisms) (told g)))
+      msg : g .checkMessage ≡ upto (length (entries (g .checks) (g .mechanisms) (ownIncidence g)))
       msg = is-table _ (λ (k : ℕ). k) (g .checkMessage) (f .check-message ∙ many) (λ k l. t .numbers k (omega (arith, many)))
         where
-          many : edges ≡ length (entries (g .checks) (g .mechanisms) (told g))
+          many : edges ≡ length (entries (g .checks) (g .mechanisms) (ownIncidence g))
           many = sym (f .check-var) ∙ ap length check-var-is
 
-      vc : g .varCheck ≡ joined (g .mechanisms) (checksOf (g .checks) (told g))
+      vc : g .varCheck ≡ joined (g .mechanisms) (checksOf (g .checks) (ownIncidence g))
       vc =
           checks-are
           ∙ ap (map (rowOf (g .checkOffset) (g .checks))) (messages-are ∙ ap (λ (x : List ℕ). joined (g .mechanisms) (places x)) check-var-is)
-          ∙ ap (λ (x : List ℕ). map (rowOf x (g .checks)) (joined (g .mechanisms) (places (entries (g .checks) (g .mechanisms) (told g))))) check-offset-is
-          ∙ graph-vars (g .checks) (g .mechanisms) (told g)
+          ∙ ap (λ (x : List ℕ). map (rowOf x (g .checks)) (joined (g .mechanisms) (places (entries (g .checks) (g .mechanisms) (ownIncidence g))))) check-offset-is
+          ∙ graph-vars (g .checks) (g .mechanisms) (ownIncidence g)
 
-      vm : g .varMessage ≡ joined (g .mechanisms) (places (entries (g .checks) (g .mechanisms) (told g)))
+      vm : g .varMessage ≡ joined (g .mechanisms) (places (entries (g .checks) (g .mechanisms) (ownIncidence g)))
       vm = messages-are ∙ ap (λ (x : List ℕ). joined (g .mechanisms) (places x)) check-var-is
 
-      vo : g .varOffset ≡ offsets (g .mechanisms) (checksOf (g .checks) (told g))
-      vo = var-offset-is ∙ ap (λ (x : List ℕ). offsets (g .mechanisms) (places x)) check-var-is ∙ graph-var-offsets (g .checks) (g .mechanisms) (told g)
+      vo : g .varOffset ≡ offsets (g .mechanisms) (checksOf (g .checks) (ownIncidence g))
+      vo = var-offset-is ∙ ap (λ (x : List ℕ). offsets (g .mechanisms) (places x)) check-var-is ∙ graph-var-offsets (g .checks) (g .mechanisms) (ownIncidence g)
 
 -- ---- every graph passes
 

@@ -10,7 +10,7 @@ use borrow.Author.Tests.{eq-eqb, le-leb, ltb-true, leb-true, eqb-true, lt-ltb}
 use Rattle.numbers.proofs.Cases.{either, last-or-before, and-both}
 use Rattle.numbers.proofs.Loops.{every-at, every-true}
 use Rattle.numbers.specs.Loops.{row}
-use Rattle.graph_lists.specs.Graph.{Graph, entries, graphOf, told}
+use Rattle.graph_lists.specs.Graph.{Graph, entries, graphOf, ownIncidence}
 use Rattle.graph_lists.specs.Model.{rising, offsetsGood, isGraph}
 use Rattle.graph_lists.specs.QuickTest.{low, stepGood, risesBelow, ownNumber, metGood, entryGood, entriesGood, checkGood, varGood, graphTest}
 use Rattle.graph_lists.specs.Sound.{Offsets, Long, Rising}
@@ -166,5 +166,5 @@ test-is edges g f =
     (either (isGraph g)))
     (either (graphTest edges g))
   where
-    passes : g ≡ graphOf (g .checks) (g .mechanisms) (told g) → Passes edges g
-    passes e = all-pass (g .checks) (g .mechanisms) edges g (told g) (f .check-var) e
+    passes : g ≡ graphOf (g .checks) (g .mechanisms) (ownIncidence g) → Passes edges g
+    passes e = all-pass (g .checks) (g .mechanisms) edges g (ownIncidence g) (f .check-var) e

@@ -8,7 +8,7 @@ use lib.ListN.{length}
 use borrow.Author.Tests.{eq-eqb, eqb-true}
 use Rattle.numbers.proofs.Cases.{and-both}
 use Rattle.numbers.specs.Loops.{upto}
-use Rattle.graph_lists.specs.Graph.{Graph, graph, mechanismsOf, flipped, checksOf, entries, graphOf, among, told}
+use Rattle.graph_lists.specs.Graph.{Graph, graph, mechanismsOf, flipped, checksOf, entries, graphOf, among, ownIncidence}
 use Rattle.graph_lists.specs.Lists.{joined, offsets, places, sameList}
 use Rattle.graph_lists.specs.Model.{sameGraph, isGraph}
 use Rattle.graph_lists.proofs.Built.{offsets-same, graph-among}
@@ -94,13 +94,13 @@ graph-true g inc e =
 -- ---- 7 says that some incidences give these lists
 
 -- lists that pass 7 are the graph of what they tell
-pub is-graph-told : (g : Graph) → isGraph g ≡ true → g ≡ graphOf (g .checks) (g .mechanisms) (told g)
+pub is-graph-told : (g : Graph) → isGraph g ≡ true → g ≡ graphOf (g .checks) (g .mechanisms) (ownIncidence g)
 unfolding isGraph
 is-graph-told g h = graph-true g _ h
 
 -- a graph tells its incidences
-tells : (checks mechanisms : ℕ) (inc : ℕ → ℕ → Bool) (c m : ℕ) → c < checks → m < mechanisms → told (graphOf checks mechanisms inc) c m ≡ inc c m
-unfolding told among graphOf
+tells : (checks mechanisms : ℕ) (inc : ℕ → ℕ → Bool) (c m : ℕ) → c < checks → m < mechanisms → ownIncidence (graphOf checks mechanisms inc) c m ≡ inc c m
+unfolding ownIncidence among graphOf
 tells checks mechanisms inc c m h l = graph-among checks mechanisms inc c m h l
 
 -- so it passes 7

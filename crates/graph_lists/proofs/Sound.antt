@@ -4,7 +4,7 @@ use mathlib.Core.Path.{_≡_, refl}
 use Prim.Native.Nat.{ℕ, _<_}
 use lib.ListN.{length, getD}
 use Rattle.numbers.specs.Loops.{row}
-use Rattle.graph_lists.specs.Graph.{Graph, checkEntries, varEntries, told}
+use Rattle.graph_lists.specs.Graph.{Graph, checkEntries, varEntries, ownIncidence}
 use Rattle.graph_lists.specs.Model.{isGraph}
 use Rattle.graph_lists.specs.Sound.{Offsets, Long, Keys, Rising}
 use Rattle.graph_lists.proofs.Cuts.{Met}
@@ -41,4 +41,4 @@ quick-sound g f t =
 pub passes-sound : (g : Graph) → isGraph g ≡ true → Sound g
 passes-sound g h =
     let e = is-graph-told g h in
-    quick-sound g (all-long (g .checks) (g .mechanisms) (length (g .checkVar)) g (told g) refl e) (all-pass (g .checks) (g .mechanisms) (length (g .checkVar)) g (told g) refl e)
+    quick-sound g (all-long (g .checks) (g .mechanisms) (length (g .checkVar)) g (ownIncidence g) refl e) (all-pass (g .checks) (g .mechanisms) (length (g .checkVar)) g (ownIncidence g) refl e)

@@ -13,7 +13,7 @@ use Rattle.refusals.specs.declared.Answer.{Answer}
 use Rattle.refusals.specs.declared.Answer.the-variants.{Done, Refused}
 use Rattle.refusals.specs.declared.Refusal.the-variants.{SizeAboveLimit, ModelListLength, BadDetectorOffsets}
 use Rattle.graph_lists.specs.Graph.{Graph, graphOf, among}
-use Rattle.graph_lists.specs.Model.{graphFits, offsetsGood, mechanismFault, outcome, built, buildSparse, countsGood, edgesGood, sizesGood, sparseFits, sparseFault}
+use Rattle.graph_lists.specs.Model.{graphFits, offsetsGood, mechanismFault, buildOutcome, built, buildSparse, countsGood, edgesGood, sizesGood, sparseFits, sparseFault}
 use Rattle.graph_lists.specs.Sound.{Long}
 use Rattle.graph_lists.specs.Steps.{Valid}
 use Rattle.graph_lists.proofs.ModelTests.{offsets-told, valid-told}
@@ -122,12 +122,12 @@ long-fits edges g f =
     )
 
 -- a call that answers a: what it builds where it refuses nothing
-pub built-done : (a b : Answer) (inc : ℕ → ℕ → Bool) (old new : Graph) → a ≡ b → isDone a ≡ true → new ≡ graphOf (old .checks) (old .mechanisms) inc → outcome a new ≡ built b inc old
+pub built-done : (a b : Answer) (inc : ℕ → ℕ → Bool) (old new : Graph) → a ≡ b → isDone a ≡ true → new ≡ graphOf (old .checks) (old .mechanisms) inc → buildOutcome a new ≡ built b inc old
 unfolding built unlessRefused
 built-done a b inc old new p d e = rw (← p, d, e)
 
 -- and that it leaves the lists where it refuses
-pub built-refused : (a b : Answer) (inc : ℕ → ℕ → Bool) (old : Graph) → a ≡ b → isDone a ≡ false → outcome a old ≡ built b inc old
+pub built-refused : (a b : Answer) (inc : ℕ → ℕ → Bool) (old : Graph) → a ≡ b → isDone a ≡ false → buildOutcome a old ≡ built b inc old
 unfolding built unlessRefused
 built-refused a b inc old p d = rw (← p, d)
 
@@ -139,11 +139,11 @@ module _ (edges : ℕ) (priors : List Float) (off dets : List ℕ) (a : Answer) 
   answer = p ∙ ap (λ (b : Bool). sparseFault (old .checks) (old .mechanisms) edges priors off dets b) f
 
   -- built
-  pub sparse-done : (new : Graph) → isDone a ≡ true → new ≡ graphOf (old .checks) (old .mechanisms) (among off dets) → outcome a new ≡ buildSparse edges priors off dets old
+  pub sparse-done : (new : Graph) → isDone a ≡ true → new ≡ graphOf (old .checks) (old .mechanisms) (among off dets) → buildOutcome a new ≡ buildSparse edges priors off dets old
   unfolding buildSparse
   sparse-done new d e = built-done a _ (among off dets) old new answer d e
 
   -- refused
-  pub sparse-refused : isDone a ≡ false → outcome a old ≡ buildSparse edges priors off dets old
+  pub sparse-refused : isDone a ≡ false → buildOutcome a old ≡ buildSparse edges priors off dets old
   unfolding buildSparse
   sparse-refused d = built-refused a _ (among off dets) old answer d

@@ -76,5 +76,5 @@ unfoldable pub marked : ℕ → List ℕ → ℕ → ℕ → Bool
 marked mechanisms matrix c m = not (eqb (getD matrix (c * mechanisms + m) 0) 0)
 
 -- a graph's own check lists: m is among the variables of c
-unfoldable pub told : Graph → ℕ → ℕ → Bool
-told g c m = has (checkEntries g c) m
+unfoldable pub ownIncidence : Graph → ℕ → ℕ → Bool
+ownIncidence g c m = has (checkEntries g c) m

@@ -20,27 +20,28 @@ fromVariables g values = map (λ v. getD values v nan) (g .checkVar)
 unfoldable pub cleared : Graph → List Float
 cleared g = replicate (length (g .checkVar)) zero⁺
 
--- what the first pass over a check's messages knows: the total sign, the least and the next magnitude, and whose the least is
+-- what the first pass over a check's messages knows: the total sign, the least and the next magnitude, and who holds the least. Min-sum says
+-- who by its position in the check, Relay by its variable
 pub record Scan : Type 0 where
   pub totalSign : Float
   pub min1 : Float
   pub min2 : Float
-  pub least : ℕ
+  pub holder : ℕ
 
 -- a scan of its parts
 abbrev pub scanOf : Float → Float → Float → ℕ → Scan
-scanOf sign min1 min2 least = record { totalSign = sign; min1 = min1; min2 = min2; least = least }
+scanOf sign min1 min2 holder = record { totalSign = sign; min1 = min1; min2 = min2; holder = holder }
 
--- before the first message: the sign of the syndrome, infinite minima, and a least that is nobody's
+-- before the first message: the sign of the syndrome, infinite minima, and a holder that is nobody
 abbrev pub startScan : Bool → ℕ → Scan
 startScan odd nobody = scanOf (cond odd one⁻ one⁺) (inf false) (inf false) nobody
 
--- the scan, one message further, with its new total sign: strict comparison keeps the first minimum
+-- the scan, one message of `who` further, with its new total sign: strict comparison keeps the first minimum
 unfoldable pub lowered : Scan → Float → ℕ → Float → Scan
-lowered s sign own message =
+lowered s sign who message =
     let magnitude = abs message in
     let lower = lt magnitude (s .min1) in
-    scanOf sign (cond lower magnitude (s .min1)) (cond lower (s .min1) (cond (lt magnitude (s .min2)) magnitude (s .min2))) (cond lower own (s .least))
+    scanOf sign (cond lower magnitude (s .min1)) (cond lower (s .min1) (cond (lt magnitude (s .min2)) magnitude (s .min2))) (cond lower who (s .holder))
 
 -- the sum of the messages that the entries name, in their order, from -0.0
 unfoldable pub total : List Float → List ℕ → Float

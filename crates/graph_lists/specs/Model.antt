@@ -12,7 +12,7 @@ use Rattle.refusals.specs.declared.Refusal.the-variants.{SizeAboveLimit, ModelL
 use Rattle.refusals.specs.declared.Answer.{Answer}
 use Rattle.refusals.specs.Tests.{unless, orElse, firstOf, unlessRefused}
 use Rattle.graph_lists.specs.Lists.{has, sameList}
-use Rattle.graph_lists.specs.Graph.{Graph, graphOf, among, marked, told}
+use Rattle.graph_lists.specs.Graph.{Graph, graphOf, among, marked, ownIncidence}
 
 -- ---- 1: sizes
 
@@ -93,22 +93,22 @@ sameGraph g h =
 
 -- the lists are those of the graph of the incidences that they themselves tell
 unfoldable pub isGraph : Graph → Bool
-isGraph g = sameGraph g (graphOf (g .checks) (g .mechanisms) (told g))
+isGraph g = sameGraph g (graphOf (g .checks) (g .mechanisms) (ownIncidence g))
 
 -- ---- the calls. The lent lists come in as a graph: its two counts are those that the caller says, and `edges` is the number of edges that it says.
 
 -- an answer, and the graph lists as the call leaves them
-pub record Outcome : Type 0 where
+pub record BuildOutcome : Type 0 where
   pub answer : Answer
   pub lists : Graph
 
 -- an outcome of its parts
-abbrev pub outcome : Answer → Graph → Outcome
-outcome a g = record { answer = a; lists = g }
+abbrev pub buildOutcome : Answer → Graph → BuildOutcome
+buildOutcome a g = record { answer = a; lists = g }
 
 -- the graph of an incidence into the lent lists g, unless the call refuses
-unfoldable pub built : Answer → (ℕ → ℕ → Bool) → Graph → Outcome
-built a inc g = outcome a (unlessRefused a (graphOf (g .checks) (g .mechanisms) inc) g)
+unfoldable pub built : Answer → (ℕ → ℕ → Bool) → Graph → BuildOutcome
+built a inc g = buildOutcome a (unlessRefused a (graphOf (g .checks) (g .mechanisms) inc) g)
 
 -- the tests of `build_sparse`: 1, 2, 3, then mechanism by mechanism 4, 5 and 6. `fit` says whether the graph lists have their lengths
 unfoldable pub sparseFault : ℕ → ℕ → ℕ → List Float → List ℕ → List ℕ → Bool → Answer
@@ -118,7 +118,7 @@ sparseFault checks mechanisms edges priors off dets fit =
     (orElse (unless (offsetsGood mechanisms (length dets) off) BadDetectorOffsets) (firstOf mechanisms (mechanismFault checks priors off dets))))
 
 -- `build_sparse`: mechanism m's detectors stand in `dets` from offset m to offset m + 1
-unfoldable pub buildSparse : ℕ → List Float → List ℕ → List ℕ → Graph → Outcome
+unfoldable pub buildSparse : ℕ → List Float → List ℕ → List ℕ → Graph → BuildOutcome
 buildSparse edges priors off dets g = built (sparseFault (g .checks) (g .mechanisms) edges priors off dets (graphFits edges g)) (among off dets) g
 
 -- how many bytes of a matrix are not zero: `count_edges`
@@ -135,7 +135,7 @@ denseFault checks mechanisms edges priors bytes fit =
     (orElse (unless (edgesGood edges) SizeAboveLimit) (orElse (unless fit ModelListLength) (firstOf mechanisms (priorFault priors)))))
 
 -- `build_dense`: the matrix lies check by check, and a byte that is not zero is an incidence
-unfoldable pub buildDense : List Float → List ℕ → Graph → Outcome
+unfoldable pub buildDense : List Float → List ℕ → Graph → BuildOutcome
 buildDense priors matrix g =
     let edges = countEdges matrix in
     built (denseFault (g .checks) (g .mechanisms) edges priors (length matrix) (graphFits edges g)) (marked (g .mechanisms) matrix) g

@@ -18,8 +18,8 @@ use Rattle.graph_lists.proofs.GraphTests.{graph-told}
 use Rattle.graph_messages.specs.Needs.{Walks, walked}
 use Rattle.graph_messages.proofs.Parts.{walks-both}
 use Rattle.graph_messages.proofs.Walks.{graph-walks}
-use Rattle.min_sum_pass.specs.MinSum.{skipped, updateCheck, rawPosterior, updateVariable, parallelCheck, checksTo, variablesTo, parallelIteration, serialCheck, serialTo, serialIteration, averagedTo, averaged, startRound, turned, turn, roundTo, round, rounds, chosenTo, minSumBp}
-use Rattle.min_sum.specs.Beliefs.{Lists, lists, Outcome, outcome, listsFit, beliefsFault, ran, afterTests, beliefs}
+use Rattle.min_sum_pass.specs.MinSum.{skipped, updateCheck, rawPosterior, updateVariable, parallelCheck, checksTo, variablesTo, parallelIteration, serialCheck, serialTo, serialIteration, averagedTo, averaged, startRound, iterated, iteratedIn, outerRoundTo, outerRound, allRounds, chosenTo, minSumBp}
+use Rattle.min_sum.specs.Beliefs.{BeliefsLists, beliefsLists, BeliefsOutcome, beliefsOutcome, beliefsListsFit, beliefsFault, ran, afterBeliefsTests, beliefs}
 
 -- ---- what a run leaves
 
@@ -27,19 +27,19 @@ module _ (edges : ℕ) (g : Graph) (m out w c v : List Float) (a : Answer) (b : 
     (many : length out ≡ g .mechanisms) (ws : w ≡ replicate (g .mechanisms) zero⁺) (cs : c ≡ replicate edges zero⁺) (vs : v ≡ replicate edges zero⁺)
     (told : b ≡ isDone a) where
   -- a posterior that is as the definition has it
-  left : (p : List Float) → p ≡ unlessRefused a out (replicate (g .mechanisms) zero⁺) → outcome a (lists p w c v) ≡ ran edges g m
+  left : (p : List Float) → p ≡ unlessRefused a out (replicate (g .mechanisms) zero⁺) → beliefsOutcome a (beliefsLists p w c v) ≡ ran edges g m
   unfolding ran posteriorFault
   left p e =
       let q : a ≡ firstOf (g .mechanisms) (valueFault out) = first ∙ ap (λ n. firstOf n (valueFault out)) many in
       rw (e, ws, cs, vs, q, run)
 
   -- nothing is refused: the posterior stays
-  pub ran-passed : not b ≡ false → outcome a (lists out w c v) ≡ ran edges g m
+  pub ran-passed : not b ≡ false → beliefsOutcome a (beliefsLists out w c v) ≡ ran edges g m
   unfolding unlessRefused
   ran-passed h = left out (rw (sym told ∙ not-false b h))
 
   -- 30: it is zeroed
-  pub ran-refused : (p : List Float) → not b ≡ true → p ≡ replicate (length out) zero⁺ → outcome a (lists p w c v) ≡ ran edges g m
+  pub ran-refused : (p : List Float) → not b ≡ true → p ≡ replicate (length out) zero⁺ → beliefsOutcome a (beliefsLists p w c v) ≡ ran edges g m
   unfolding unlessRefused
   ran-refused p h e = left p (rw (sym told ∙ not-true b h) (e ∙ ap (λ n. replicate n zero⁺) many))
 
@@ -49,7 +49,7 @@ module _ (checks mechanisms : ℕ) (cv cm co vc vm vo : List ℕ) (scale : Float
   -- the beliefs of the whole graph are those of the four
   same-run : (serial : Bool)
       → minSumBp (walked checks mechanisms cv co vm vo) serial scale syndrome priors n ≡ minSumBp (graph checks mechanisms cv cm co vc vm vo) serial scale syndrome priors n
-  unfolding minSumBp chosenTo rounds round roundTo startRound cleared fromVariables turn turned averaged averagedTo rawPosterior updateVariable updateCheck skipped parallelCheck checksTo variablesTo parallelIteration serialCheck serialTo serialIteration
+  unfolding minSumBp chosenTo allRounds outerRound outerRoundTo startRound cleared fromVariables iteratedIn iterated averaged averagedTo rawPosterior updateVariable updateCheck skipped parallelCheck checksTo variablesTo parallelIteration serialCheck serialTo serialIteration
   same-run true = refl
   same-run false = refl
 
@@ -63,7 +63,7 @@ module _ (checks mechanisms : ℕ) (cv cm co vc vm vo : List ℕ) (scale : Float
 -- ---- the call
 
 -- a call that its tests refuse leaves the lists
-leaves : (a : Answer) (o : Outcome) (l : Lists) → isDone a ≡ false → outcome a l ≡ afterTests a o l
+leaves : (a : Answer) (o : BeliefsOutcome) (l : BeliefsLists) → isDone a ≡ false → beliefsOutcome a l ≡ afterBeliefsTests a o l
 leaves Done o l h = absurd (true≢false h)
 leaves (Refused r) o l h = refl
 
@@ -75,7 +75,7 @@ ran-counted : (edges edges′ checks checks′ mechanisms mechanisms′ : ℕ) (
 ran-counted edges edges′ checks checks′ mechanisms mechanisms′ cv co vm vo scale syndrome priors n serial p q r = rw (p, q, r)
 
 -- what the tests tell where none refuses
-pub record Told (edges checks mechanisms : ℕ) (cv co vm vo : List ℕ) (priors : List Float) (syndrome : List ℕ) (l : Lists) : Type 0 where
+pub record Told (edges checks mechanisms : ℕ) (cv co vm vo : List ℕ) (priors : List Float) (syndrome : List ℕ) (l : BeliefsLists) : Type 0 where
   pub edges-many : length cv ≡ edges
   pub checks-many : length syndrome ≡ checks
   pub mechanisms-many : length priors ≡ mechanisms
@@ -86,11 +86,11 @@ pub record Told (edges checks mechanisms : ℕ) (cv co vm vo : List ℕ) (priors
   pub c-many : length (l .cToV) ≡ length cv
   pub v-many : length (l .vToC) ≡ length cv
 
-module _ (edges checks mechanisms : ℕ) (cv cm co vc vm vo : List ℕ) (priors : List Float) (syndrome : List ℕ) (iterations : ℕ) (l : Lists) where
+module _ (edges checks mechanisms : ℕ) (cv cm co vc vm vo : List ℕ) (priors : List Float) (syndrome : List ℕ) (iterations : ℕ) (l : BeliefsLists) where
   -- where none refuses, they tell all that the run asks
   pub told : (a : Answer) (b : Bool) → a ≡ beliefsFault edges priors (graph checks mechanisms cv cm co vc vm vo) syndrome iterations l → b ≡ isDone a
       → not b ≡ false → Told edges checks mechanisms cv co vm vo priors syndrome l
-  unfolding beliefsFault listsFit
+  unfolding beliefsFault beliefsListsFit
   told a b e d h =
       let t1 = or-done _ _ (sym e ∙ done-is a (sym d ∙ not-false b h)) in
       let t2 = or-done _ _ (t1 .1) in
@@ -116,12 +116,12 @@ module _ (edges checks mechanisms : ℕ) (cv cm co vc vm vo : List ℕ) (priors 
   module _ (scale : Float) (serial : Bool) where
     -- a call that is refused
     pub beliefs-refused : (a : Answer) (b : Bool) → a ≡ beliefsFault edges priors (graph checks mechanisms cv cm co vc vm vo) syndrome iterations l → b ≡ isDone a
-        → not b ≡ true → outcome a l ≡ beliefs edges priors (graph checks mechanisms cv cm co vc vm vo) syndrome iterations scale serial l
+        → not b ≡ true → beliefsOutcome a l ≡ beliefs edges priors (graph checks mechanisms cv cm co vc vm vo) syndrome iterations scale serial l
     unfolding beliefs
     beliefs-refused a b e d h = rw (← e) (leaves a _ l (sym d ∙ not-true b h))
 
     -- one that is not
-    pub beliefs-ran : (a : Answer) (b : Bool) (o : Outcome) → a ≡ beliefsFault edges priors (graph checks mechanisms cv cm co vc vm vo) syndrome iterations l
+    pub beliefs-ran : (a : Answer) (b : Bool) (o : BeliefsOutcome) → a ≡ beliefsFault edges priors (graph checks mechanisms cv cm co vc vm vo) syndrome iterations l
         → b ≡ isDone a → not b ≡ false
         → o ≡ ran (length cv) (walked (length syndrome) (length priors) cv co vm vo) (minSumBp (walked (length syndrome) (length priors) cv co vm vo) serial scale syndrome priors iterations)
         → o ≡ beliefs edges priors (graph checks mechanisms cv cm co vc vm vo) syndrome iterations scale serial l

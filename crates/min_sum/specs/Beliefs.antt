@@ -16,52 +16,52 @@ use Rattle.graph_lists.specs.Model.{graphFault}
 use Rattle.min_sum_pass.specs.MinSum.{minSumBp}
 
 -- the lent lists: the posterior is the result, and the others are for work
-pub record Lists : Type 0 where
+pub record BeliefsLists : Type 0 where
   pub posterior : List Float
   pub ewaPosterior : List Float
   pub cToV : List Float
   pub vToC : List Float
 
 -- the lists of their parts
-abbrev pub lists : List Float → List Float → List Float → List Float → Lists
-lists p w c v = record { posterior = p; ewaPosterior = w; cToV = c; vToC = v }
+abbrev pub beliefsLists : List Float → List Float → List Float → List Float → BeliefsLists
+beliefsLists p w c v = record { posterior = p; ewaPosterior = w; cToV = c; vToC = v }
 
 -- an answer, and the lent lists as the call leaves them
-pub record Outcome : Type 0 where
+pub record BeliefsOutcome : Type 0 where
   pub answer : Answer
-  pub left : Lists
+  pub left : BeliefsLists
 
 -- an outcome of its parts
-abbrev pub outcome : Answer → Lists → Outcome
-outcome a l = record { answer = a; left = l }
+abbrev pub beliefsOutcome : Answer → BeliefsLists → BeliefsOutcome
+beliefsOutcome a l = record { answer = a; left = l }
 
 -- 22: the lent lists fit a graph with this many edges exactly
-unfoldable pub listsFit : ℕ → Graph → Lists → Bool
-listsFit edges g l =
+unfoldable pub beliefsListsFit : ℕ → Graph → BeliefsLists → Bool
+beliefsListsFit edges g l =
     eqb (length (l .posterior)) (g .mechanisms)
     && (eqb (length (l .ewaPosterior)) (g .mechanisms) && (eqb (length (l .cToV)) edges && eqb (length (l .vToC)) edges))
 
 -- the tests before the run: 1, 2, 4, 7, 12, 20, 22. The scale is untested
-unfoldable pub beliefsFault : ℕ → List Float → Graph → List ℕ → ℕ → Lists → Answer
+unfoldable pub beliefsFault : ℕ → List Float → Graph → List ℕ → ℕ → BeliefsLists → Answer
 beliefsFault edges priors g syndrome iterations l =
     orElse (graphFault edges priors g)
     (orElse (unless (leb iterations 65535) BadIterations)
-    (orElse (unless (eqb (length syndrome) (g .checks)) SyndromeLength) (unless (listsFit edges g l) LentListLength)))
+    (orElse (unless (eqb (length syndrome) (g .checks)) SyndromeLength) (unless (beliefsListsFit edges g l) LentListLength)))
 
 -- past the tests: 30 with the first mechanism whose belief is not finite, the posterior, zeroed on 30, and zeroed work lists
-unfoldable pub ran : ℕ → Graph → List Float → Outcome
+unfoldable pub ran : ℕ → Graph → List Float → BeliefsOutcome
 ran edges g posterior =
     let a = posteriorFault g posterior in
     let zeros = replicate (g .mechanisms) zero⁺ in
-    outcome a (lists (unlessRefused a posterior zeros) zeros (replicate edges zero⁺) (replicate edges zero⁺))
+    beliefsOutcome a (beliefsLists (unlessRefused a posterior zeros) zeros (replicate edges zero⁺) (replicate edges zero⁺))
 
 -- a call that its tests refuse writes nothing
-abbrev pub afterTests : Answer → Outcome → Lists → Outcome
-afterTests Done o l = o
-afterTests (Refused r) o l = outcome (Refused r) l
+abbrev pub afterBeliefsTests : Answer → BeliefsOutcome → BeliefsLists → BeliefsOutcome
+afterBeliefsTests Done o l = o
+afterBeliefsTests (Refused r) o l = beliefsOutcome (Refused r) l
 
 -- `beliefs`: serial or not
-unfoldable pub beliefs : ℕ → List Float → Graph → List ℕ → ℕ → Float → Bool → Lists → Outcome
+unfoldable pub beliefs : ℕ → List Float → Graph → List ℕ → ℕ → Float → Bool → BeliefsLists → BeliefsOutcome
 beliefs edges priors g syndrome iterations scale serial l =
     let o = ran edges g (minSumBp g serial scale syndrome priors iterations) in
-    afterTests (beliefsFault edges priors g syndrome iterations l) o l
+    afterBeliefsTests (beliefsFault edges priors g syndrome iterations l) o l

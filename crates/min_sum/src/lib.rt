@@ -4,7 +4,7 @@ mod tests;
 
 ghost use mathlib.Core.Path.{_≡_};
 ghost use Rattle.graph_lists.specs.Graph.{graph};
-ghost use Rattle.min_sum.specs.Beliefs.{lists, outcome, beliefs as beliefsOf};
+ghost use Rattle.min_sum.specs.Beliefs.{beliefsLists, beliefsOutcome, beliefs as beliefsOf};
 use refusals::Answer;
 use refusals_tests::is_done;
 
@@ -28,7 +28,7 @@ pub fn beliefs(
     c_to_v: &mut [f64],
     v_to_c: &mut [f64],
 ) -> Answer
-    ensures { λ r. ⌜ outcome r (lists (now (posterior .exit)) (now («ewa_posterior» .exit)) (now («c_to_v» .exit)) (now («v_to_c» .exit))) ≡ beliefsOf (size .edges) (now (priors .entry)) (graph (size .checks) (size .mechanisms) (now («check_var» .entry)) (now («check_message» .entry)) (now («check_offset» .entry)) (now («var_check» .entry)) (now («var_message» .entry)) (now («var_offset» .entry))) (now (syndrome .entry)) iterations scale serial (lists (now (posterior .entry)) (now («ewa_posterior» .entry)) (now («c_to_v» .entry)) (now («v_to_c» .entry))) ⌝ }
+    ensures { λ r. ⌜ beliefsOutcome r (beliefsLists (now (posterior .exit)) (now («ewa_posterior» .exit)) (now («c_to_v» .exit)) (now («v_to_c» .exit))) ≡ beliefsOf (size .edges) (now (priors .entry)) (graph (size .checks) (size .mechanisms) (now («check_var» .entry)) (now («check_message» .entry)) (now («check_offset» .entry)) (now («var_check» .entry)) (now («var_message» .entry)) (now («var_offset» .entry))) (now (syndrome .entry)) iterations scale serial (beliefsLists (now (posterior .entry)) (now («ewa_posterior» .entry)) (now («c_to_v» .entry)) (now («v_to_c» .entry))) ⌝ }
 {
     let n = tests::Lengths {
         syndrome: syndrome.len(),

@@ -4,8 +4,8 @@ ghost use mathlib.Core.Bool.{true, false};
 ghost use mathlib.Core.List.{[]};
 ghost use lib.ListN.{length};
 ghost use Rattle.graph_messages.specs.Needs.{Walks, walked, ofVariables};
-ghost use Rattle.min_sum_pass.specs.MinSum.{messages, belief, weightOf, turned, round as roundOf, rounds as roundsOf, chosen as chosenOf, chosenTo, minSumBp};
-ghost use Rattle.min_sum.specs.Beliefs.{lists, outcome, ran as ranOf};
+ghost use Rattle.min_sum_pass.specs.MinSum.{messages, belief, weightOf, iterated, outerRound as outerRoundOf, allRounds as allRoundsOf, chosen as chosenOf, chosenTo, minSumBp};
+ghost use Rattle.min_sum.specs.Beliefs.{beliefsLists, beliefsOutcome, ran as ranOf};
 use refusals::Answer;
 use refusals_tests::both;
 use refusals_tests::is_done;
@@ -22,7 +22,7 @@ fn weight(outer: usize, i: usize) -> f64
 }
 
 // An iteration that is not serial: all checks, then all variables.
-fn parallel_turn(
+fn iterate_parallel(
     weight: f64,
     scale: f64,
     syndrome: &[u8],
@@ -38,7 +38,7 @@ fn parallel_turn(
     requires { ⌜ Walks (length (now syndrome)) (length (now priors)) (now «check_var») (now «check_offset») ⌝ }
     requires { ⌜ Walks (length (now priors)) (length (now «check_var»)) (now «var_message») (now «var_offset») ⌝ }
     requires { ⌜ (length (now «c_to_v») ≡ length (now «check_var»)) × (length (now «v_to_c») ≡ length (now «check_var»)) × (length (now «ewa_posterior») ≡ length (now priors)) ⌝ }
-    ensures { λ _. ⌜ belief (messages (now («c_to_v» .exit)) (now («v_to_c» .exit))) (now («ewa_posterior» .exit)) ≡ turned (walked (length (now (syndrome .entry))) (length (now (priors .entry))) (now («check_var» .entry)) (now («check_offset» .entry)) (now («var_message» .entry)) (now («var_offset» .entry))) false scale (now (syndrome .entry)) (now (priors .entry)) weight (belief (messages (now («c_to_v» .entry)) (now («v_to_c» .entry))) (now («ewa_posterior» .entry))) ⌝ }
+    ensures { λ _. ⌜ belief (messages (now («c_to_v» .exit)) (now («v_to_c» .exit))) (now («ewa_posterior» .exit)) ≡ iterated (walked (length (now (syndrome .entry))) (length (now (priors .entry))) (now («check_var» .entry)) (now («check_offset» .entry)) (now («var_message» .entry)) (now («var_offset» .entry))) false scale (now (syndrome .entry)) (now (priors .entry)) weight (belief (messages (now («c_to_v» .entry)) (now («v_to_c» .entry))) (now («ewa_posterior» .entry))) ⌝ }
 {
     min_sum_pass::pass::parallel_checks(scale, syndrome, check_var, check_offset, v_to_c, c_to_v);
     min_sum_pass::pass::update_and_average(
@@ -53,7 +53,7 @@ fn parallel_turn(
 }
 
 // A serial iteration: each check, and then its variables.
-fn serial_turn(
+fn iterate_serial(
     weight: f64,
     scale: f64,
     syndrome: &[u8],
@@ -69,7 +69,7 @@ fn serial_turn(
     requires { ⌜ Walks (length (now syndrome)) (length (now priors)) (now «check_var») (now «check_offset») ⌝ }
     requires { ⌜ Walks (length (now priors)) (length (now «check_var»)) (now «var_message») (now «var_offset») ⌝ }
     requires { ⌜ (length (now «c_to_v») ≡ length (now «check_var»)) × (length (now «v_to_c») ≡ length (now «check_var»)) × (length (now «ewa_posterior») ≡ length (now priors)) ⌝ }
-    ensures { λ _. ⌜ belief (messages (now («c_to_v» .exit)) (now («v_to_c» .exit))) (now («ewa_posterior» .exit)) ≡ turned (walked (length (now (syndrome .entry))) (length (now (priors .entry))) (now («check_var» .entry)) (now («check_offset» .entry)) (now («var_message» .entry)) (now («var_offset» .entry))) true scale (now (syndrome .entry)) (now (priors .entry)) weight (belief (messages (now («c_to_v» .entry)) (now («v_to_c» .entry))) (now («ewa_posterior» .entry))) ⌝ }
+    ensures { λ _. ⌜ belief (messages (now («c_to_v» .exit)) (now («v_to_c» .exit))) (now («ewa_posterior» .exit)) ≡ iterated (walked (length (now (syndrome .entry))) (length (now (priors .entry))) (now («check_var» .entry)) (now («check_offset» .entry)) (now («var_message» .entry)) (now («var_offset» .entry))) true scale (now (syndrome .entry)) (now (priors .entry)) weight (belief (messages (now («c_to_v» .entry)) (now («v_to_c» .entry))) (now («ewa_posterior» .entry))) ⌝ }
 {
     min_sum_pass::pass::serial_checks(
         scale,
@@ -93,7 +93,7 @@ fn serial_turn(
 }
 
 // An iteration, serial or not.
-fn turn(
+fn iterate(
     serial: bool,
     weight: f64,
     scale: f64,
@@ -110,10 +110,10 @@ fn turn(
     requires { ⌜ Walks (length (now syndrome)) (length (now priors)) (now «check_var») (now «check_offset») ⌝ }
     requires { ⌜ Walks (length (now priors)) (length (now «check_var»)) (now «var_message») (now «var_offset») ⌝ }
     requires { ⌜ (length (now «c_to_v») ≡ length (now «check_var»)) × (length (now «v_to_c») ≡ length (now «check_var»)) × (length (now «ewa_posterior») ≡ length (now priors)) ⌝ }
-    ensures { λ _. ⌜ belief (messages (now («c_to_v» .exit)) (now («v_to_c» .exit))) (now («ewa_posterior» .exit)) ≡ turned (walked (length (now (syndrome .entry))) (length (now (priors .entry))) (now («check_var» .entry)) (now («check_offset» .entry)) (now («var_message» .entry)) (now («var_offset» .entry))) serial scale (now (syndrome .entry)) (now (priors .entry)) weight (belief (messages (now («c_to_v» .entry)) (now («v_to_c» .entry))) (now («ewa_posterior» .entry))) ⌝ }
+    ensures { λ _. ⌜ belief (messages (now («c_to_v» .exit)) (now («v_to_c» .exit))) (now («ewa_posterior» .exit)) ≡ iterated (walked (length (now (syndrome .entry))) (length (now (priors .entry))) (now («check_var» .entry)) (now («check_offset» .entry)) (now («var_message» .entry)) (now («var_offset» .entry))) serial scale (now (syndrome .entry)) (now (priors .entry)) weight (belief (messages (now («c_to_v» .entry)) (now («v_to_c» .entry))) (now («ewa_posterior» .entry))) ⌝ }
 {
     if serial {
-        serial_turn(
+        iterate_serial(
             weight,
             scale,
             syndrome,
@@ -128,7 +128,7 @@ fn turn(
         );
         return;
     }
-    parallel_turn(
+    iterate_parallel(
         weight,
         scale,
         syndrome,
@@ -144,7 +144,7 @@ fn turn(
 }
 
 // An outer round: messages start from the running posterior.
-fn round(
+fn outer_round(
     inner: usize,
     outer: usize,
     serial: bool,
@@ -162,13 +162,13 @@ fn round(
     requires { ⌜ Walks (length (now syndrome)) (length (now priors)) (now «check_var») (now «check_offset») ⌝ }
     requires { ⌜ Walks (length (now priors)) (length (now «check_var»)) (now «var_message») (now «var_offset») ⌝ }
     requires { ⌜ (length (now «c_to_v») ≡ length (now «check_var»)) × (length (now «v_to_c») ≡ length (now «check_var»)) × (length (now «ewa_posterior») ≡ length (now priors)) ⌝ }
-    ensures { λ _. ⌜ belief (messages (now («c_to_v» .exit)) (now («v_to_c» .exit))) (now («ewa_posterior» .exit)) ≡ roundOf (walked (length (now (syndrome .entry))) (length (now (priors .entry))) (now («check_var» .entry)) (now («check_offset» .entry)) (now («var_message» .entry)) (now («var_offset» .entry))) serial scale (now (syndrome .entry)) (now (priors .entry)) inner outer (belief (messages (now («c_to_v» .entry)) (now («v_to_c» .entry))) (now («ewa_posterior» .entry))) ⌝ }
+    ensures { λ _. ⌜ belief (messages (now («c_to_v» .exit)) (now («v_to_c» .exit))) (now («ewa_posterior» .exit)) ≡ outerRoundOf (walked (length (now (syndrome .entry))) (length (now (priors .entry))) (now («check_var» .entry)) (now («check_offset» .entry)) (now («var_message» .entry)) (now («var_offset» .entry))) serial scale (now (syndrome .entry)) (now (priors .entry)) inner outer (belief (messages (now («c_to_v» .entry)) (now («v_to_c» .entry))) (now («ewa_posterior» .entry))) ⌝ }
 {
     graph_messages::clear(c_to_v);
     graph_messages::from_variables(check_var, ewa_posterior, v_to_c);
     let mut i = 0;
     while i < inner {
-        turn(
+        iterate(
             serial,
             weight(outer, i),
             scale,
@@ -187,7 +187,7 @@ fn round(
 }
 
 // Two outer rounds of as many iterations each.
-fn two_rounds(
+fn two_outer_rounds(
     inner: usize,
     serial: bool,
     scale: f64,
@@ -204,9 +204,9 @@ fn two_rounds(
     requires { ⌜ Walks (length (now syndrome)) (length (now priors)) (now «check_var») (now «check_offset») ⌝ }
     requires { ⌜ Walks (length (now priors)) (length (now «check_var»)) (now «var_message») (now «var_offset») ⌝ }
     requires { ⌜ (length (now «c_to_v») ≡ length (now «check_var»)) × (length (now «v_to_c») ≡ length (now «check_var»)) × (length (now «ewa_posterior») ≡ length (now priors)) ⌝ }
-    ensures { λ _. ⌜ belief (messages (now («c_to_v» .exit)) (now («v_to_c» .exit))) (now («ewa_posterior» .exit)) ≡ roundOf (walked (length (now (syndrome .entry))) (length (now (priors .entry))) (now («check_var» .entry)) (now («check_offset» .entry)) (now («var_message» .entry)) (now («var_offset» .entry))) serial scale (now (syndrome .entry)) (now (priors .entry)) inner 1 (roundOf (walked (length (now (syndrome .entry))) (length (now (priors .entry))) (now («check_var» .entry)) (now («check_offset» .entry)) (now («var_message» .entry)) (now («var_offset» .entry))) serial scale (now (syndrome .entry)) (now (priors .entry)) inner 0 (belief (messages (now («c_to_v» .entry)) (now («v_to_c» .entry))) (now («ewa_posterior» .entry)))) ⌝ }
+    ensures { λ _. ⌜ belief (messages (now («c_to_v» .exit)) (now («v_to_c» .exit))) (now («ewa_posterior» .exit)) ≡ outerRoundOf (walked (length (now (syndrome .entry))) (length (now (priors .entry))) (now («check_var» .entry)) (now («check_offset» .entry)) (now («var_message» .entry)) (now («var_offset» .entry))) serial scale (now (syndrome .entry)) (now (priors .entry)) inner 1 (outerRoundOf (walked (length (now (syndrome .entry))) (length (now (priors .entry))) (now («check_var» .entry)) (now («check_offset» .entry)) (now («var_message» .entry)) (now («var_offset» .entry))) serial scale (now (syndrome .entry)) (now (priors .entry)) inner 0 (belief (messages (now («c_to_v» .entry)) (now («v_to_c» .entry))) (now («ewa_posterior» .entry)))) ⌝ }
 {
-    round(
+    outer_round(
         inner,
         0,
         serial,
@@ -221,7 +221,7 @@ fn two_rounds(
         v_to_c,
         ewa_posterior,
     );
-    round(
+    outer_round(
         inner,
         1,
         serial,
@@ -239,7 +239,7 @@ fn two_rounds(
 }
 
 // Two outer rounds of n / 2 from 6 on, so that 7 are 3 and 3; else one of n.
-fn rounds(
+fn all_rounds(
     n: usize,
     serial: bool,
     scale: f64,
@@ -256,11 +256,11 @@ fn rounds(
     requires { ⌜ Walks (length (now syndrome)) (length (now priors)) (now «check_var») (now «check_offset») ⌝ }
     requires { ⌜ Walks (length (now priors)) (length (now «check_var»)) (now «var_message») (now «var_offset») ⌝ }
     requires { ⌜ (length (now «c_to_v») ≡ length (now «check_var»)) × (length (now «v_to_c») ≡ length (now «check_var»)) × (length (now «ewa_posterior») ≡ length (now priors)) ⌝ }
-    ensures { λ _. ⌜ belief (messages (now («c_to_v» .exit)) (now («v_to_c» .exit))) (now («ewa_posterior» .exit)) ≡ roundsOf (walked (length (now (syndrome .entry))) (length (now (priors .entry))) (now («check_var» .entry)) (now («check_offset» .entry)) (now («var_message» .entry)) (now («var_offset» .entry))) serial scale (now (syndrome .entry)) (now (priors .entry)) n ⌝ }
+    ensures { λ _. ⌜ belief (messages (now («c_to_v» .exit)) (now («v_to_c» .exit))) (now («ewa_posterior» .exit)) ≡ allRoundsOf (walked (length (now (syndrome .entry))) (length (now (priors .entry))) (now («check_var» .entry)) (now («check_offset» .entry)) (now («var_message» .entry)) (now («var_offset» .entry))) serial scale (now (syndrome .entry)) (now (priors .entry)) n ⌝ }
 {
     graph_messages::copy(priors, ewa_posterior);
     if n < 6 {
-        round(
+        outer_round(
             n,
             0,
             serial,
@@ -277,7 +277,7 @@ fn rounds(
         );
         return;
     }
-    two_rounds(
+    two_outer_rounds(
         n / 2,
         serial,
         scale,
@@ -349,7 +349,7 @@ pub(crate) fn min_sum_bp(
     requires { ⌜ length (now posterior) ≡ length (now priors) ⌝ }
     ensures { λ _. ⌜ now (posterior .exit) ≡ minSumBp (walked (length (now (syndrome .entry))) (length (now (priors .entry))) (now («check_var» .entry)) (now («check_offset» .entry)) (now («var_message» .entry)) (now («var_offset» .entry))) serial scale (now (syndrome .entry)) (now (priors .entry)) n ⌝ }
 {
-    rounds(
+    all_rounds(
         n,
         serial,
         scale,
@@ -393,7 +393,7 @@ pub(crate) fn ran(
     requires { ⌜ Walks (length (now priors)) (length (now «check_var»)) (now «var_message») (now «var_offset») ⌝ }
     requires { ⌜ (length (now «c_to_v») ≡ length (now «check_var»)) × (length (now «v_to_c») ≡ length (now «check_var»)) × (length (now «ewa_posterior») ≡ length (now priors)) ⌝ }
     requires { ⌜ length (now posterior) ≡ length (now priors) ⌝ }
-    ensures { λ r. ⌜ outcome r (lists (now (posterior .exit)) (now («ewa_posterior» .exit)) (now («c_to_v» .exit)) (now («v_to_c» .exit))) ≡ ranOf (length (now («check_var» .entry))) (walked (length (now (syndrome .entry))) (length (now (priors .entry))) (now («check_var» .entry)) (now («check_offset» .entry)) (now («var_message» .entry)) (now («var_offset» .entry))) (minSumBp (walked (length (now (syndrome .entry))) (length (now (priors .entry))) (now («check_var» .entry)) (now («check_offset» .entry)) (now («var_message» .entry)) (now («var_offset» .entry))) serial scale (now (syndrome .entry)) (now (priors .entry)) n) ⌝ }
+    ensures { λ r. ⌜ beliefsOutcome r (beliefsLists (now (posterior .exit)) (now («ewa_posterior» .exit)) (now («c_to_v» .exit)) (now («v_to_c» .exit))) ≡ ranOf (length (now («check_var» .entry))) (walked (length (now (syndrome .entry))) (length (now (priors .entry))) (now («check_var» .entry)) (now («check_offset» .entry)) (now («var_message» .entry)) (now («var_offset» .entry))) (minSumBp (walked (length (now (syndrome .entry))) (length (now (priors .entry))) (now («check_var» .entry)) (now («check_offset» .entry)) (now («var_message» .entry)) (now («var_offset» .entry))) serial scale (now (syndrome .entry)) (now (priors .entry)) n) ⌝ }
 {
     min_sum_bp(
         n,

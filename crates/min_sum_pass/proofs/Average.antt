@@ -9,7 +9,7 @@ use lib.ListN.{length, getD, take, drop, set}
 use lib.Seq.{take-all, drop-set-lt, drop-drop, getD-drop}
 use Rattle.numbers.proofs.Turns.{turns-turn, table-turn}
 use Rattle.graph_lists.specs.Graph.{Graph}
-use Rattle.min_sum_pass.specs.MinSum.{Messages, rawPosterior, updateVariable, variablesTo, mixed, averagedTo, averaged}
+use Rattle.min_sum_pass.specs.MinSum.{Messages, rawPosterior, updateVariable, variablesTo, runningAverage, averagedTo, averaged}
 
 -- one variable further
 pub variables-further : (g : Graph) (priors : List Float) (s t u : Messages) (v : ℕ) → t ≡ variablesTo g priors s v → u ≡ updateVariable g priors t v
@@ -29,7 +29,7 @@ same-after old new v x d = drop-set-lt (v + 1) new v x (omega arith) ∙ sym (dr
 
 -- the running posterior, one element further
 pub average-turn : (g : Graph) (priors : List Float) (weight : Float) (s : Messages) (old new : List Float) (v : ℕ) (sum x : Float) → v < length new
-    → take v new ≡ averagedTo g priors weight s old v → drop v new ≡ drop v old → sum ≡ rawPosterior g priors s v → x ≡ mixed weight (getD new v nan) sum
+    → take v new ≡ averagedTo g priors weight s old v → drop v new ≡ drop v old → sum ≡ rawPosterior g priors s v → x ≡ runningAverage weight (getD new v nan) sum
     → take (v + 1) (set new v x) ≡ averagedTo g priors weight s old (v + 1)
 unfolding averagedTo
 average-turn g priors weight s old new v sum x h p d q r = table-turn _ new v x h p (r ∙ rw (same-at old new v d, q))

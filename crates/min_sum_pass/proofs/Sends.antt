@@ -12,23 +12,23 @@ use Rattle.numbers.specs.Floats.{_*ᶠ_}
 use Rattle.numbers.proofs.Cases.{either-way}
 use Rattle.numbers.proofs.Loops.{tables-agree, but-one}
 use Rattle.graph_lists.specs.Messages.{scanOf}
-use Rattle.min_sum_pass.specs.MinSum.{signWithout, sent, scan, sentTo, checkMessages}
+use Rattle.min_sum_pass.specs.MinSum.{signWithout, sentAt, scan, sentTo, checkMessages}
 
 -- one minimum for both, in one message
-pub one-minimum : (scale sign minimum message : Float) (i : ℕ) → signWithout sign message *ᶠ minimum *ᶠ scale ≡ sent scale (scanOf sign minimum minimum 0) i message
-unfolding sent
+pub one-minimum : (scale sign minimum message : Float) (i : ℕ) → signWithout sign message *ᶠ minimum *ᶠ scale ≡ sentAt scale (scanOf sign minimum minimum 0) i message
+unfolding sentAt
 one-minimum scale sign minimum message i = rw (either-way (eqb i 0) minimum)
 
 module _ (scale sign min1 min2 : Float) (least : ℕ) (messages : List Float) (n : ℕ) where
   -- elsewhere the least is sent
   elsewhere : (i : ℕ) → (i ≡ least → ⊥)
-      → sent scale (scanOf sign min1 min1 0) i (getD messages i nan) ≡ sent scale (scanOf sign min1 min2 least) i (getD messages i nan)
-  unfolding sent
+      → sentAt scale (scanOf sign min1 min1 0) i (getD messages i nan) ≡ sentAt scale (scanOf sign min1 min2 least) i (getD messages i nan)
+  unfolding sentAt
   elsewhere i h = rw (either-way (eqb i 0) min1, ne-eqb i least h)
 
   -- at the least's position the next
-  there : signWithout sign (getD messages least nan) *ᶠ min2 *ᶠ scale ≡ sent scale (scanOf sign min1 min2 least) least (getD messages least nan)
-  unfolding sent
+  there : signWithout sign (getD messages least nan) *ᶠ min2 *ᶠ scale ≡ sentAt scale (scanOf sign min1 min2 least) least (getD messages least nan)
+  unfolding sentAt
   there = rw (eq-eqb least least refl)
 
   -- all, where the least is one of them
@@ -36,7 +36,7 @@ module _ (scale sign min1 min2 : Float) (least : ℕ) (messages : List Float) (n
       → set (sentTo scale (scanOf sign min1 min1 0) messages n) least x ≡ sentTo scale (scanOf sign min1 min2 least) messages n
   unfolding sentTo
   least-put x h e =
-      rw (e ∙ there) (but-one n (λ i. sent scale (scanOf sign min1 min2 least) i (getD messages i nan)) (λ i. sent scale (scanOf sign min1 min1 0) i (getD messages i nan)) least nan h (λ i k q. elsewhere i q))
+      rw (e ∙ there) (but-one n (λ i. sentAt scale (scanOf sign min1 min2 least) i (getD messages i nan)) (λ i. sentAt scale (scanOf sign min1 min1 0) i (getD messages i nan)) least nan h (λ i k q. elsewhere i q))
 
   -- and where it is nobody's
   least-nowhere : n ≤ least → sentTo scale (scanOf sign min1 min1 0) messages n ≡ sentTo scale (scanOf sign min1 min2 least) messages n

@@ -42,12 +42,12 @@ unfoldable pub signWithout : Float → Float → Float
 signWithout totalSign message = cond (isNegative (totalSign *ᶠ message)) one⁻ one⁺
 
 -- the message sent at a position: (sign times minimum) times scale
-unfoldable pub sent : Float → Scan → ℕ → Float → Float
-sent scale s position message = signWithout (s .totalSign) message *ᶠ cond (eqb position (s .least)) (s .min2) (s .min1) *ᶠ scale
+unfoldable pub sentAt : Float → Scan → ℕ → Float → Float
+sentAt scale s position message = signWithout (s .totalSign) message *ᶠ cond (eqb position (s .holder)) (s .min2) (s .min1) *ᶠ scale
 
 -- the first n that are sent
 unfoldable pub sentTo : Float → Scan → List Float → ℕ → List Float
-sentTo scale s messages n = table n (λ i. sent scale s i (getD messages i nan))
+sentTo scale s messages n = table n (λ i. sentAt scale s i (getD messages i nan))
 
 -- all that a check of two entries or more sends
 unfoldable pub checkMessages : Float → Bool → List Float → List Float
@@ -80,8 +80,8 @@ unfoldable pub damped : Float → Float → Float → Float
 damped sum own old = (one⁺ -ᶠ damp) *ᶠ (sum -ᶠ own) +ᶠ damp *ᶠ old
 
 -- that, for each message that the entries name
-unfoldable pub written : Float → List Float → List Float → List ℕ → List Float
-written sum cToV vToC entries = foldl (λ (l : List Float) (m : ℕ). set l m (damped sum (getD cToV m nan) (getD l m nan))) vToC entries
+unfoldable pub dampedMessages : Float → List Float → List Float → List ℕ → List Float
+dampedMessages sum cToV vToC entries = foldl (λ (l : List Float) (m : ℕ). set l m (damped sum (getD cToV m nan) (getD l m nan))) vToC entries
 
 -- the prior and all that the checks say
 unfoldable pub rawPosterior : Graph → List Float → Messages → ℕ → Float
@@ -89,7 +89,7 @@ rawPosterior g priors s v = getD priors v nan +ᶠ total (s .cToV) (varEntries g
 
 -- a variable's messages: the sum is prior + total
 unfoldable pub updateVariable : Graph → List Float → Messages → ℕ → Messages
-updateVariable g priors s v = messages (s .cToV) (written (rawPosterior g priors s v) (s .cToV) (s .vToC) (varEntries g v))
+updateVariable g priors s v = messages (s .cToV) (dampedMessages (rawPosterior g priors s v) (s .cToV) (s .vToC) (varEntries g v))
 
 -- one check of an iteration that is not serial
 unfoldable pub parallelCheck : Graph → Float → List ℕ → Messages → ℕ → Messages
@@ -128,12 +128,12 @@ iteration false = parallelIteration
 -- ---- the run
 
 -- an element of the running posterior: (1 - weight) old + weight current
-unfoldable pub mixed : Float → Float → Float → Float
-mixed weight old current = (one⁺ -ᶠ weight) *ᶠ old +ᶠ weight *ᶠ current
+unfoldable pub runningAverage : Float → Float → Float → Float
+runningAverage weight old current = (one⁺ -ᶠ weight) *ᶠ old +ᶠ weight *ᶠ current
 
 -- the first n elements of the running posterior after an iteration
 unfoldable pub averagedTo : Graph → List Float → Float → Messages → List Float → ℕ → List Float
-averagedTo g priors weight s ewa n = table n (λ v. mixed weight (getD ewa v nan) (rawPosterior g priors s v))
+averagedTo g priors weight s ewa n = table n (λ v. runningAverage weight (getD ewa v nan) (rawPosterior g priors s v))
 
 -- the running posterior
 unfoldable pub averaged : Graph → List Float → Float → Messages → List Float → List Float
@@ -166,29 +166,29 @@ startRound g ewa = belief (messages (cleared g) (fromVariables g ewa)) ewa
 
 module _ (g : Graph) (serial : Bool) (scale : Float) (syndrome : List ℕ) (priors : List Float) where
   -- an iteration of this weight
-  unfoldable pub turned : Float → Belief → Belief
-  turned weight b =
+  unfoldable pub iterated : Float → Belief → Belief
+  iterated weight b =
       let s = iteration serial g scale syndrome priors (b .now) in
       belief s (averaged g priors weight s (b .ewaPosterior))
 
   -- iteration i of the outer round `outer`
-  unfoldable pub turn : ℕ → ℕ → Belief → Belief
-  turn outer i b = turned (weightOf outer i) b
+  unfoldable pub iteratedIn : ℕ → ℕ → Belief → Belief
+  iteratedIn outer i b = iterated (weightOf outer i) b
 
   -- the first n iterations of an outer round
-  unfoldable pub roundTo : ℕ → Belief → ℕ → Belief
-  roundTo outer b n = turns n (turn outer) (startRound g (b .ewaPosterior))
+  unfoldable pub outerRoundTo : ℕ → Belief → ℕ → Belief
+  outerRoundTo outer b n = turns n (iteratedIn outer) (startRound g (b .ewaPosterior))
 
   -- an outer round
-  unfoldable pub round : ℕ → ℕ → Belief → Belief
-  round inner outer b = roundTo outer b inner
+  unfoldable pub outerRound : ℕ → ℕ → Belief → Belief
+  outerRound inner outer b = outerRoundTo outer b inner
 
   -- two outer rounds of n / 2 from 6 on, else one of n. Where there is no iteration the round still sets the messages
-  unfoldable pub rounds : ℕ → Belief
-  rounds n =
+  unfoldable pub allRounds : ℕ → Belief
+  allRounds n =
       let outerIterations : ℕ = cond (leb 6 n) 2 1 in
-      turns outerIterations (round (n / outerIterations)) (startRound g priors)
+      turns outerIterations (outerRound (n / outerIterations)) (startRound g priors)
 
   -- the beliefs after n iterations
   unfoldable pub minSumBp : ℕ → List Float
-  minSumBp n = chosenTo g priors (rounds n) (g .mechanisms)
+  minSumBp n = chosenTo g priors (allRounds n) (g .mechanisms)

@@ -54,7 +54,7 @@ fn sign_without(total_sign: f64, message: f64) -> f64
 }
 
 // A message sent: (sign times minimum) times scale.
-fn sent(scale: f64, total_sign: f64, minimum: f64, message: f64) -> f64
+fn sent_at(scale: f64, total_sign: f64, minimum: f64, message: f64) -> f64
     ensures { λ r. ⌜ r ≡ signWithout «total_sign» message *ᶠ minimum *ᶠ scale ⌝ }
 {
     sign_without(total_sign, message) * minimum * scale
@@ -67,7 +67,7 @@ fn send(scale: f64, total_sign: f64, minimum: f64, v_to_c: &[f64], c_to_v: &mut 
 {
     let mut i = 0;
     while i < v_to_c.len() {
-        c_to_v[i] = sent(scale, total_sign, minimum, v_to_c[i]);
+        c_to_v[i] = sent_at(scale, total_sign, minimum, v_to_c[i]);
         i += 1;
     }
 }
@@ -81,7 +81,7 @@ fn update_check(scale: f64, odd: bool, v_to_c: &[f64], c_to_v: &mut [f64])
     send(scale, s.total_sign, s.min1, v_to_c, c_to_v);
     let least = s.least;
     if least < v_to_c.len() {
-        c_to_v[least] = sent(scale, s.total_sign, s.min2, v_to_c[least]);
+        c_to_v[least] = sent_at(scale, s.total_sign, s.min2, v_to_c[least]);
     }
 }
 

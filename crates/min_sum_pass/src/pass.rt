@@ -6,7 +6,7 @@ ghost use lib.Dec.{ltb};
 ghost use lib.ListN.{length};
 ghost use Rattle.graph_lists.specs.Sound.{Offsets};
 ghost use Rattle.graph_messages.specs.Needs.{Walks, walked, ofChecks, ofVariables};
-ghost use Rattle.min_sum_pass.specs.MinSum.{messages, parallelCheck, serialCheck, checksTo, serialTo, variablesTo, mixed as mixedOf, averaged};
+ghost use Rattle.min_sum_pass.specs.MinSum.{messages, parallelCheck, serialCheck, checksTo, serialTo, variablesTo, runningAverage as mixedOf, averaged};
 
 // A check with so few entries is skipped.
 fn too_few(entries: &[u32]) -> bool
@@ -59,7 +59,7 @@ pub fn parallel_checks(
 }
 
 // An element of the running posterior.
-fn mixed(weight: f64, old: f64, current: f64) -> f64
+fn running_average(weight: f64, old: f64, current: f64) -> f64
     ensures { λ r. ⌜ r ≡ mixedOf weight old current ⌝ }
 {
     (1.0 - weight) * old + weight * current
@@ -90,7 +90,7 @@ pub fn update_and_average(
             c_to_v,
             v_to_c,
         );
-        ewa_posterior[v] = mixed(weight, ewa_posterior[v], sum);
+        ewa_posterior[v] = running_average(weight, ewa_posterior[v], sum);
         v += 1;
     }
 }
@@ -111,7 +111,7 @@ pub fn average(
     let mut v = 0;
     while v < priors.len() {
         let sum = crate::variable::raw_posterior(v, priors, var_message, var_offset, c_to_v);
-        ewa_posterior[v] = mixed(weight, ewa_posterior[v], sum);
+        ewa_posterior[v] = running_average(weight, ewa_posterior[v], sum);
         v += 1;
     }
 }

@@ -7,7 +7,7 @@ ghost use Rattle.numbers.specs.Floats.{_+ᶠ_};
 ghost use Rattle.graph_lists.specs.Messages.{total};
 ghost use Rattle.graph_lists.specs.Sound.{Keys};
 ghost use Rattle.graph_messages.specs.Needs.{Walks, ofVariables};
-ghost use Rattle.min_sum_pass.specs.MinSum.{damped as dampedOf, written, messages, rawPosterior, updateVariable};
+ghost use Rattle.min_sum_pass.specs.MinSum.{damped as dampedOf, dampedMessages, messages, rawPosterior, updateVariable};
 
 // What is written over an old message, where the sum at the variable holds the own message.
 fn damped(sum: f64, own: f64, old: f64) -> f64
@@ -20,7 +20,7 @@ fn damped(sum: f64, own: f64, old: f64) -> f64
 fn write_messages(entries: &[u32], sum: f64, c_to_v: &[f64], v_to_c: &mut [f64])
     requires { ⌜ Keys (length (now «c_to_v»)) (now entries) ⌝ }
     requires { ⌜ length (now «v_to_c») ≡ length (now «c_to_v») ⌝ }
-    ensures { λ _. ⌜ now («v_to_c» .exit) ≡ written sum (now («c_to_v» .entry)) (now («v_to_c» .entry)) (now (entries .entry)) ⌝ }
+    ensures { λ _. ⌜ now («v_to_c» .exit) ≡ dampedMessages sum (now («c_to_v» .entry)) (now («v_to_c» .entry)) (now (entries .entry)) ⌝ }
 {
     let mut i = 0;
     while i < entries.len() {
@@ -35,7 +35,7 @@ fn update_entries(prior: f64, entries: &[u32], c_to_v: &[f64], v_to_c: &mut [f64
     requires { ⌜ Keys (length (now «c_to_v»)) (now entries) ⌝ }
     requires { ⌜ length (now «v_to_c») ≡ length (now «c_to_v») ⌝ }
     ensures sum { λ r. ⌜ r ≡ prior +ᶠ total (now («c_to_v» .entry)) (now (entries .entry)) ⌝ }
-    ensures messages { λ r. ⌜ now («v_to_c» .exit) ≡ written r (now («c_to_v» .entry)) (now («v_to_c» .entry)) (now (entries .entry)) ⌝ }
+    ensures messages { λ r. ⌜ now («v_to_c» .exit) ≡ dampedMessages r (now («c_to_v» .entry)) (now («v_to_c» .entry)) (now (entries .entry)) ⌝ }
 {
     let sum = prior + graph_messages::total(entries, c_to_v);
     write_messages(entries, sum, c_to_v, v_to_c);

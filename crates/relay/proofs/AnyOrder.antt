@@ -13,15 +13,15 @@ use Rattle.relay_settings.specs.declared.Schedule.the-variants.{Flooding, Check
 use Rattle.numbers.specs.Loops.{upto}
 use Rattle.relay_orders.specs.Order.{NamesOnce, KeepsOrder, namesFault, exchangeFault}
 use Rattle.relay_calls.specs.Decode.{Shot, Ended, decoded, refused, decodeLegs}
-use Rattle.relay_calls.specs.Calls.{Lists, listsFit, decodeFault, leftBy, zeroed, afterLegs, afterTests, decodeInOrder, decode}
+use Rattle.relay_calls.specs.Calls.{DecodeLists, decodeListsFit, decodeFault, leftBy, zeroed, afterLegs, afterDecodeTests, decodeInOrder, decode}
 use Rattle.relay_orders.proofs.OrderWords.{upto-names, index-taken, none-exchanged-is}
 use Rattle.relay_calls.proofs.Named.{names-told, names-taken}
 use Rattle.relay.proofs.SameOutcome.{inIndexOrder, decode-same}
 
-module _ (edges : ℕ) (x : Shot) (l : Lists) (names : namesFault (x .graph .checks) (x .order) ≡ Done) (free : exchangeFault (x .settings .schedule) (x .graph) (x .order) ≡ Done) where
+module _ (edges : ℕ) (x : Shot) (l : DecodeLists) (names : namesFault (x .graph .checks) (x .order) ≡ Done) (free : exchangeFault (x .settings .schedule) (x .graph) (x .order) ≡ Done) where
   -- the tests say the same of the index order
   fault-same : decodeFault edges x l ≡ decodeFault edges (inIndexOrder x) l
-  unfolding decodeFault listsFit
+  unfolding decodeFault decodeListsFit
   fault-same = rw (names, free, names-taken (x .graph .checks) (upto (x .graph .checks)) (upto-names (x .graph .checks)), index-taken (x .settings .schedule) (x .graph))
 
   -- what a run leaves does not depend on the order
@@ -36,7 +36,7 @@ module _ (edges : ℕ) (x : Shot) (l : Lists) (names : namesFault (x .graph .che
   passed-sound h = passes-sound (x .graph) (graph-told edges (x .prior) (x .graph) (or-done _ _ h .0) .is-graph)
 
   -- whatever the tests say
-  whole-same : (a : Answer) → decodeFault edges x l ≡ a → afterTests a (afterLegs edges x (decodeLegs x) l) l ≡ afterTests a (afterLegs edges (inIndexOrder x) (decodeLegs (inIndexOrder x)) l) l
+  whole-same : (a : Answer) → decodeFault edges x l ≡ a → afterDecodeTests a (afterLegs edges x (decodeLegs x) l) l ≡ afterDecodeTests a (afterLegs edges (inIndexOrder x) (decodeLegs (inIndexOrder x)) l) l
   whole-same Done h =
       ap (λ e. afterLegs edges x e l) (decode-same x (passed-sound h) (names-told (x .graph .checks) (x .order) names) free) ∙ left-same (decodeLegs (inIndexOrder x))
   whole-same (Refused r) h = refl
@@ -44,7 +44,7 @@ module _ (edges : ℕ) (x : Shot) (l : Lists) (names : namesFault (x .graph .che
   -- the call in that order is the call in index order
   pub order-free : decodeInOrder edges x l ≡ decode edges x l
   unfolding decodeInOrder decode
-  order-free = whole-same (decodeFault edges x l) refl ∙ ap (λ a. afterTests a (afterLegs edges (inIndexOrder x) (decodeLegs (inIndexOrder x)) l) l) fault-same
+  order-free = whole-same (decodeFault edges x l) refl ∙ ap (λ a. afterDecodeTests a (afterLegs edges (inIndexOrder x) (decodeLegs (inIndexOrder x)) l) l) fault-same
 
 -- ---- which orders are taken
 

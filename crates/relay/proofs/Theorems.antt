@@ -20,7 +20,7 @@ use Rattle.relay_step.specs.Step.{State, iteration}
 use Rattle.relay_step.specs.Leg.{startLeg, runLeg, satisfied}
 use Rattle.relay_gammas.specs.Gammas.{gammaOf}
 use Rattle.relay_calls.specs.Decode.{Shot, iterationLimit, stepOf, executedLeg}
-use Rattle.relay_calls.specs.Calls.{StepLists, StepOutcome, stepOutcome, stepFault, stepped, iterationCall, legRecord, Lists, Outcome, outcome, decodeInOrder, decode}
+use Rattle.relay_calls.specs.Calls.{StepLists, StepOutcome, stepOutcome, stepFault, stepped, iterationCall, legRecord, DecodeLists, DecodeOutcome, decodeOutcome, decodeInOrder, decode}
 use Rattle.relay_orders.proofs.OrderWords.{exchanged-is}
 use Rattle.relay.proofs.AnyOrder.{order-free, flooding-takes, serial-takes}
 
@@ -39,13 +39,13 @@ pub one-record : (legState legIterations : List ℕ) (legWeight : List Float) (r
 one-record legState legIterations legWeight r x y h k = h ∙ sym k
 
 -- two results that the contract of `decode_in_order` allows for one input coincide: the answer, and each lent list
-pub one-decode-in-order : (edges : ℕ) (x : Shot) (l : Lists) (a b : Decoded) (p q : Lists) → outcome a p ≡ decodeInOrder edges x l → outcome b q ≡ decodeInOrder edges x l
+pub one-decode-in-order : (edges : ℕ) (x : Shot) (l : DecodeLists) (a b : Decoded) (p q : DecodeLists) → decodeOutcome a p ≡ decodeInOrder edges x l → decodeOutcome b q ≡ decodeInOrder edges x l
     → (a ≡ b) × (p ≡ q)
-one-decode-in-order edges x l a b p q h k = let e = h ∙ sym k in (ap (λ (o : Outcome). o .answer) e, ap (λ (o : Outcome). o .left) e)
+one-decode-in-order edges x l a b p q h k = let e = h ∙ sym k in (ap (λ (o : DecodeOutcome). o .answer) e, ap (λ (o : DecodeOutcome). o .left) e)
 
 -- and so do two that the contract of `decode` allows
-pub one-decode : (edges : ℕ) (x : Shot) (l : Lists) (a b : Decoded) (p q : Lists) → outcome a p ≡ decode edges x l → outcome b q ≡ decode edges x l → (a ≡ b) × (p ≡ q)
-one-decode edges x l a b p q h k = let e = h ∙ sym k in (ap (λ (o : Outcome). o .answer) e, ap (λ (o : Outcome). o .left) e)
+pub one-decode : (edges : ℕ) (x : Shot) (l : DecodeLists) (a b : Decoded) (p q : DecodeLists) → decodeOutcome a p ≡ decode edges x l → decodeOutcome b q ≡ decode edges x l → (a ≡ b) × (p ≡ q)
+one-decode edges x l a b p q h k = let e = h ∙ sym k in (ap (λ (o : DecodeOutcome). o .answer) e, ap (λ (o : DecodeOutcome). o .left) e)
 
 -- ---- "Decode's definition repeats this step in the order handed in"
 
@@ -66,7 +66,7 @@ iteration-steps edges prior g schedule alpha gamma syndrome order l h = rw h
 -- ---- demand 3 (docs/PROMISES.md): an order that is taken gives the index order's outcome
 
 -- a decode in an order that 23 and 24 take is the decode in index order: the answer, and each lent list
-pub any-order : (edges : ℕ) (x : Shot) (l : Lists) → namesFault (x .graph .checks) (x .order) ≡ Done → exchangeFault (x .settings .schedule) (x .graph) (x .order) ≡ Done
+pub any-order : (edges : ℕ) (x : Shot) (l : DecodeLists) → namesFault (x .graph .checks) (x .order) ≡ Done → exchangeFault (x .settings .schedule) (x .graph) (x .order) ≡ Done
     → decodeInOrder edges x l ≡ decode edges x l
 any-order edges x l names free = order-free edges x l names free
 

@@ -29,8 +29,8 @@ use Rattle.relay_settings.specs.declared.Schedule.the-variants.{Flooding, Check
 use Rattle.relay_calls.specs.declared.LegRecord.{LegRecord}
 use Rattle.relay_calls.specs.declared.LegRecord.the-variants as LegRecord
 use Rattle.relay_step.specs.Step.{State, state, updateCheck, updateVariable, checkPass, variablePass, floodingIteration, serialCheck, serialPass, checkSerialIteration, iteration}
-use Rattle.relay_calls.specs.Decode.{Shot, Run, Progress, running, finished, afterLeg, legs}
-use Rattle.relay_calls.specs.Calls.{byteFault, syndromeFault, StepLists, stepLists, StepOutcome, stepOutcome, stepFits, finiteAt, stepFault, messageFinite, mechanismFinite, mechanismFault, stepEnd, stepped, afterStepTests, iterationCall, recordOf, legRecord}
+use Rattle.relay_calls.specs.Decode.{Shot, Run, Progress, running, finished, afterLeg, legsFrom}
+use Rattle.relay_calls.specs.Calls.{byteFault, syndromeFault, StepLists, stepLists, StepOutcome, stepOutcome, stepFits, finiteAt, stepFault, messageFinite, mechanismFinite, finiteFault, stepEnd, stepped, afterStepTests, iterationCall, recordOf, legRecord}
 use Rattle.relay_calls.proofs.Named.{names-entries}
 
 -- ---- what the tests tell
@@ -85,7 +85,7 @@ pub stepped-is : (edges checks mechanisms : ℕ) (cv co vm vo : List ℕ) (s t u
     → length (t .vToC) ≡ edges → length (t .posterior) ≡ mechanisms → bias ≡ replicate mechanisms zero⁺ → a ≡ stepEnd (ofVariables (length (t .posterior)) vm vo) t
     → u ≡ unlessRefused a t (state (replicate (length (t .cToV)) zero⁺) (replicate (length (t .vToC)) zero⁺) (replicate (length (t .posterior)) zero⁺))
     → stepOutcome a (stepLists u bias) ≡ stepped edges (walked checks mechanisms cv co vm vo) s
-unfolding stepped stepEnd mechanismFault mechanismFinite
+unfolding stepped stepEnd finiteFault mechanismFinite
 stepped-is edges checks mechanisms cv co vm vo s t u bias a e n m k b h l =
     let q : a ≡ stepEnd (walked checks mechanisms cv co vm vo) t = h ∙ ap (λ x. stepEnd (ofVariables x vm vo) t) k in
     rw (l, b, n, m, k, q, e)
@@ -103,7 +103,7 @@ module _ (checks mechanisms : ℕ) (cv cm co vc vm vo : List ℕ) (alpha : Float
 
   -- and so is its end
   same-end : (edges : ℕ) (s : State) → stepped edges (walked checks mechanisms cv co vm vo) s ≡ stepped edges (graph checks mechanisms cv cm co vc vm vo) s
-  unfolding stepped stepEnd mechanismFault mechanismFinite
+  unfolding stepped stepEnd finiteFault mechanismFinite
   same-end edges s = refl
 
 -- as many checks, mechanisms and edges, however they are counted
@@ -192,11 +192,11 @@ module _ (edges checks mechanisms : ℕ) (cv cm co vc vm vo : List ℕ) (prior :
 -- ---- the legs
 
 -- two shots each of whose legs is recorded and judged alike end alike
-pub legs-agree : (x y : Shot) → ((r : ℕ) (run : Run) → afterLeg x r run ≡ afterLeg y r run) → (n : ℕ) (p : Progress) (r : ℕ) → legs x n p r ≡ legs y n p r
-unfolding legs
+pub legs-agree : (x y : Shot) → ((r : ℕ) (run : Run) → afterLeg x r run ≡ afterLeg y r run) → (n : ℕ) (p : Progress) (r : ℕ) → legsFrom x n p r ≡ legsFrom y n p r
+unfolding legsFrom
 legs-agree x y e zero (running run) r = refl
 legs-agree x y e zero (finished f) r = refl
-legs-agree x y e (suc n) (running run) r = legs-agree x y e n (afterLeg x r run) (suc r) ∙ ap (λ p. legs y n p (suc r)) (e r run)
+legs-agree x y e (suc n) (running run) r = legs-agree x y e n (afterLeg x r run) (suc r) ∙ ap (λ p. legsFrom y n p (suc r)) (e r run)
 legs-agree x y e (suc n) (finished f) r = refl
 
 -- ---- a leg's record

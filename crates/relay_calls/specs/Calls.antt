@@ -88,12 +88,12 @@ unfoldable pub mechanismFinite : Graph → State → ℕ → Bool
 mechanismFinite g s v = finiteAt (s .posterior) v && every (length (varEntries g v)) (messageFinite s (varEntries g v))
 
 -- 30 for one mechanism
-unfoldable pub mechanismFault : Graph → State → ℕ → Answer
-mechanismFault g s v = unless (mechanismFinite g s v) (NonFinite v)
+unfoldable pub finiteFault : Graph → State → ℕ → Answer
+finiteFault g s v = unless (mechanismFinite g s v) (NonFinite v)
 
 -- 30: the first mechanism that has a posterior or a message that is not finite
 unfoldable pub stepEnd : Graph → State → Answer
-stepEnd g s = firstOf (g .mechanisms) (mechanismFault g s)
+stepEnd g s = firstOf (g .mechanisms) (finiteFault g s)
 
 -- past the tests: the state after the step, zeroed on 30, and a zeroed bias
 unfoldable pub stepped : ℕ → Graph → State → StepOutcome
@@ -116,7 +116,7 @@ iterationCall edges prior g schedule alpha gamma syndrome order l =
 -- ---- decode
 
 -- its lent lists: the legs' records, the correction and the posterior are results, and the rest is for work
-pub record Lists : Type 0 where
+pub record DecodeLists : Type 0 where
   pub legState : List ℕ
   pub legIterations : List ℕ
   pub legWeight : List Float
@@ -129,16 +129,16 @@ pub record Lists : Type 0 where
   pub vToC : List Float
 
 -- the answer, and the lists as they are after
-pub record Outcome : Type 0 where
+pub record DecodeOutcome : Type 0 where
   pub answer : Decoded
-  pub left : Lists
+  pub left : DecodeLists
 
-abbrev pub outcome : Decoded → Lists → Outcome
-outcome a l = record { answer = a; left = l }
+abbrev pub decodeOutcome : Decoded → DecodeLists → DecodeOutcome
+decodeOutcome a l = record { answer = a; left = l }
 
 -- 22: the legs' lists have at least num_legs + 1 rows, and the others fit a graph with this many edges exactly
-unfoldable pub listsFit : ℕ → Shot → Lists → Bool
-listsFit edges x l =
+unfoldable pub decodeListsFit : ℕ → Shot → DecodeLists → Bool
+decodeListsFit edges x l =
     let legs = suc (x .settings .«num_legs») in
     let mechanisms = x .graph .mechanisms in
     leb legs (length (l .legState))
@@ -151,12 +151,12 @@ listsFit edges x l =
     && (eqb (length (l .bias)) mechanisms && (eqb (length (l .cToV)) edges && eqb (length (l .vToC)) edges))))))))
 
 -- the tests of a decode: 1, 2, 4, 7, 10 to 24
-unfoldable pub decodeFault : ℕ → Shot → Lists → Answer
+unfoldable pub decodeFault : ℕ → Shot → DecodeLists → Answer
 decodeFault edges x l =
     orElse (graphFault edges (x .prior) (x .graph))
     (orElse (settingsFault (x .settings) (x .graph .mechanisms) (x .gammas))
     (orElse (syndromeFault (x .graph .checks) (x .syndrome))
-    (orElse (unless (listsFit edges x l) LentListLength)
+    (orElse (unless (decodeListsFit edges x l) LentListLength)
     (orElse (namesFault (x .graph .checks) (x .order)) (exchangeFault (x .settings .schedule) (x .graph) (x .order))))))
 
 -- what a run answers
@@ -165,7 +165,7 @@ answered run none = Decoded.NotConverged (run .executedLegs) (run .totalIteratio
 answered run (some weight) = Decoded.Converged (run .executedLegs) (run .totalIterations) weight
 
 -- the lists after a run: the legs' records over the front of theirs, whose surplus is kept, and zeroed work lists
-unfoldable pub leftBy : ℕ → Shot → Run → Lists → Lists
+unfoldable pub leftBy : ℕ → Shot → Run → DecodeLists → DecodeLists
 leftBy edges x run l =
     let zeros = replicate (x .graph .mechanisms) zero⁺ in
     record {
@@ -182,7 +182,7 @@ leftBy edges x run l =
     }
 
 -- the lists after refusal 30: every result list is zeroed, all num_legs + 1 rows, and the work lists too
-unfoldable pub zeroed : ℕ → Shot → Lists → Lists
+unfoldable pub zeroed : ℕ → Shot → DecodeLists → DecodeLists
 zeroed edges x l =
     let legs = suc (x .settings .«num_legs») in
     let mechanisms = x .graph .mechanisms in
@@ -201,18 +201,18 @@ zeroed edges x l =
     }
 
 -- past the tests
-abbrev pub afterLegs : ℕ → Shot → Ended → Lists → Outcome
-afterLegs edges x (decoded run) l = outcome (answered run (run .bestWeight)) (leftBy edges x run l)
-afterLegs edges x (refused r) l = outcome (Decoded.Refused r) (zeroed edges x l)
+abbrev pub afterLegs : ℕ → Shot → Ended → DecodeLists → DecodeOutcome
+afterLegs edges x (decoded run) l = decodeOutcome (answered run (run .bestWeight)) (leftBy edges x run l)
+afterLegs edges x (refused r) l = decodeOutcome (Decoded.Refused r) (zeroed edges x l)
 
 -- a call that its tests refuse writes nothing
-abbrev pub afterTests : Answer → Outcome → Lists → Outcome
-afterTests Done o l = o
-afterTests (Refused r) o l = outcome (Decoded.Refused r) l
+abbrev pub afterDecodeTests : Answer → DecodeOutcome → DecodeLists → DecodeOutcome
+afterDecodeTests Done o l = o
+afterDecodeTests (Refused r) o l = decodeOutcome (Decoded.Refused r) l
 
 -- `decode_in_order`: the checks in the order that the shot has
-unfoldable pub decodeInOrder : ℕ → Shot → Lists → Outcome
-decodeInOrder edges x l = let o = afterLegs edges x (decodeLegs x) l in afterTests (decodeFault edges x l) o l
+unfoldable pub decodeInOrder : ℕ → Shot → DecodeLists → DecodeOutcome
+decodeInOrder edges x l = let o = afterLegs edges x (decodeLegs x) l in afterDecodeTests (decodeFault edges x l) o l
 
 -- a shot in another order
 abbrev pub withOrder : Shot → List ℕ → Shot
@@ -220,25 +220,25 @@ withOrder x order =
     record { graph = x .graph; prior = x .prior; settings = x .settings; gammas = x .gammas; order = order; syndrome = x .syndrome; seed = x .seed }
 
 -- `decode`: the checks in index order, whatever order the shot has
-unfoldable pub decode : ℕ → Shot → Lists → Outcome
+unfoldable pub decode : ℕ → Shot → DecodeLists → DecodeOutcome
 decode edges x l = decodeInOrder edges (withOrder x (upto (x .graph .checks))) l
 
 -- document 01's words for an answer: the refusal, if there is one; converged or not; executed legs; total iterations; and the weight, if there is one
-pub record Told : Type 0 where
+pub record Summary : Type 0 where
   pub refusal : Answer
   pub converged : Bool
   pub executedLegs : ℕ
   pub totalIterations : ℕ
   pub weight : Option Float
 
-abbrev pub told : Answer → Bool → ℕ → ℕ → Option Float → Told
-told a c n t w = record { refusal = a; converged = c; executedLegs = n; totalIterations = t; weight = w }
+abbrev pub summary : Answer → Bool → ℕ → ℕ → Option Float → Summary
+summary a c n t w = record { refusal = a; converged = c; executedLegs = n; totalIterations = t; weight = w }
 
 -- what each answer says in them
-abbrev pub tellOf : Decoded → Told
-tellOf (Decoded.Converged n t w) = told Done true n t (some w)
-tellOf (Decoded.NotConverged n t) = told Done false n t none
-tellOf (Decoded.Refused r) = told (Refused r) false 0 0 none
+abbrev pub summaryOf : Decoded → Summary
+summaryOf (Decoded.Converged n t w) = summary Done true n t (some w)
+summaryOf (Decoded.NotConverged n t) = summary Done false n t none
+summaryOf (Decoded.Refused r) = summary (Refused r) false 0 0 none
 
 -- ---- a leg's record
 

@@ -122,27 +122,27 @@ pub data Progress : Type 0 where
   finished : Ended → Progress
 
 -- after a leg: refused, or ended once enough have converged, or on to the next
-abbrev pub judged : Answer → Bool → Run → Progress
-judged (Refused r) enough run = finished (refused r)
-judged Done true run = finished (decoded run)
-judged Done false run = running run
+abbrev pub legJudged : Answer → Bool → Run → Progress
+legJudged (Refused r) enough run = finished (refused r)
+legJudged Done true run = finished (decoded run)
+legJudged Done false run = running run
 
 -- the leg r, recorded and judged
 unfoldable pub afterLeg : Shot → ℕ → Run → Progress
 afterLeg x r before =
     let run = recorded x before r (executedLeg x r (before .posterior)) in
-    judged (posteriorFault (x .graph) (run .posterior)) (leb (x .settings .«stop_after_converged») (run .numConverged)) run
+    legJudged (posteriorFault (x .graph) (run .posterior)) (leb (x .settings .«stop_after_converged») (run .numConverged)) run
 
 -- n legs to go, from the leg r on
-unfoldable pub legs : Shot → ℕ → Progress → ℕ → Ended
-legs x zero (running run) r = decoded run
-legs x zero (finished e) r = e
-legs x (suc n) (running run) r = legs x n (afterLeg x r run) (suc r)
-legs x (suc n) (finished e) r = e
+unfoldable pub legsFrom : Shot → ℕ → Progress → ℕ → Ended
+legsFrom x zero (running run) r = decoded run
+legsFrom x zero (finished e) r = e
+legsFrom x (suc n) (running run) r = legsFrom x n (afterLeg x r run) (suc r)
+legsFrom x (suc n) (finished e) r = e
 
 -- all legs, from leg zero
 unfoldable pub decodeLegs : Shot → Ended
-decodeLegs x = legs x (suc (x .settings .«num_legs»)) (running (startRun x)) 0
+decodeLegs x = legsFrom x (suc (x .settings .«num_legs»)) (running (startRun x)) 0
 
 -- the least weighty correction, or without convergence the last hard decision
 abbrev pub correctionOf : Run → Option Float → List ℕ

@@ -33,7 +33,7 @@ use Rattle.numbers.specs.Loops.{upto}
 use Rattle.relay_orders.specs.Order.{namesOnce, namesFault, exchangeFault}
 use Rattle.relay_calls.proofs.Named.{names-entries, index-passes}
 use Rattle.relay_calls.specs.Decode.{Shot, decodeLegs}
-use Rattle.relay_calls.specs.Calls.{syndromeFault, Lists, Outcome, outcome, listsFit, decodeFault, afterLegs, decodeInOrder, decode}
+use Rattle.relay_calls.specs.Calls.{syndromeFault, DecodeLists, DecodeOutcome, decodeOutcome, decodeListsFit, decodeFault, afterLegs, decodeInOrder, decode}
 use Rattle.relay_record.specs.Kept.{Reads, shotOf, shotFault}
 use Rattle.relay_decode.proofs.WholeGraph.{whole, legs-read-four}
 use Rattle.relay_decode.proofs.Shots.{along-order}
@@ -67,7 +67,7 @@ unfolding orElse
 or-none Done = refl
 or-none (Refused r) = refl
 
-module _ (edges : ℕ) (x : Shot) (l : Lists) where
+module _ (edges : ℕ) (x : Shot) (l : DecodeLists) where
   -- the tests of a decode are those of both calls, then 23 and 24
   fault-joined : decodeFault edges x l
       ≡ orElse (shotFault edges x l) (orElse (namesFault (x .graph .checks) (x .order)) (exchangeFault (x .settings .schedule) (x .graph) (x .order)))
@@ -76,13 +76,13 @@ module _ (edges : ℕ) (x : Shot) (l : Lists) where
 
   module _ (records work : Bool) (er : records ≡ (leb (suc (x .settings .«num_legs»)) (length (l .legState)) && (leb (suc (x .settings .«num_legs»)) (length (l .legIterations)) && (leb (suc (x .settings .«num_legs»)) (length (l .legWeight)) && leb (suc (x .settings .«num_legs») * x .graph .mechanisms) (length (l .rows)))))) (ew : work ≡ (eqb (length (l .correction)) (x .graph .mechanisms) && (eqb (length (l .posterior)) (x .graph .mechanisms) && (eqb (length (l .gamma)) (x .graph .mechanisms) && (eqb (length (l .bias)) (x .graph .mechanisms) && (eqb (length (l .cToV)) edges && eqb (length (l .vToC)) edges)))))) where
     -- the legs' lists, then the others
-    fits-is : (records && work) ≡ listsFit edges x l
-    unfolding listsFit
+    fits-is : (records && work) ≡ decodeListsFit edges x l
+    unfolding decodeListsFit
     fits-is = rw (er, ew) (fits-joined (leb (suc (x .settings .«num_legs»)) (length (l .legState))) (leb (suc (x .settings .«num_legs»)) (length (l .legIterations))) (leb (suc (x .settings .«num_legs»)) (length (l .legWeight))) (leb (suc (x .settings .«num_legs») * x .graph .mechanisms) (length (l .rows))) _)
 
     -- 20, 21 and 22
     pub lists-fault : (f : Bool) (s u r : Answer) → f ≡ (records && work) → s ≡ syndromeFault (x .graph .checks) (x .syndrome) → u ≡ unless f LentListLength → r ≡ orElse s u
-        → r ≡ orElse (syndromeFault (x .graph .checks) (x .syndrome)) (unless (listsFit edges x l) LentListLength)
+        → r ≡ orElse (syndromeFault (x .graph .checks) (x .syndrome)) (unless (decodeListsFit edges x l) LentListLength)
     lists-fault f s u r a b c d = d ∙ rw (b, c, a ∙ fits-is)
 
 -- ---- 23 and 24, by themselves
@@ -152,7 +152,7 @@ pub legs-few : (t : Settings) (m : ℕ) (flat : List Float) (a : Answer) (b : Bo
 legs-few t m flat a b e d h = settings-told t m flat (sym e ∙ done-is a (sym d ∙ not-false b h)) .legs-few
 
 -- all that a decode asks, where the tests refuse nothing
-pub record Passed (edges checks mechanisms : ℕ) (t : Settings) (flat : List Float) (syndrome : List ℕ) (prior : List Float) (cv co vm vo order : List ℕ) (l : Lists) : Type 0 where
+pub record Passed (edges checks mechanisms : ℕ) (t : Settings) (flat : List Float) (syndrome : List ℕ) (prior : List Float) (cv co vm vo order : List ℕ) (l : DecodeLists) : Type 0 where
   pub reads : Reads t flat syndrome prior cv co vm vo order
   pub legs-fit :
       (suc (t .«num_legs») ≤ length (l .legState)) × (suc (t .«num_legs») ≤ length (l .legIterations)) × (suc (t .«num_legs») ≤ length (l .legWeight)) × (suc (t .«num_legs») * length prior ≤ length (l .rows))
@@ -168,10 +168,10 @@ module _ (edges checks mechanisms : ℕ) (t : Settings) (flat : List Float) (see
   abbrev X : List ℕ → Shot
   X o = whole t flat seed syndrome prior cv cm co vc vm vo o checks mechanisms
 
-  module _ (order : List ℕ) (l : Lists) where
+  module _ (order : List ℕ) (l : DecodeLists) where
     -- read off the tests of both calls, with an order that names checks
     pub passed : shotFault edges (X order) l ≡ Done → Keys checks order → Passed edges checks mechanisms t flat syndrome prior cv co vm vo order l
-    unfolding shotFault listsFit syndromeFault
+    unfolding shotFault decodeListsFit syndromeFault
     passed h names =
         let t1 = or-done _ _ h in
         let t2 = or-done _ _ (t1 .1) in
@@ -228,13 +228,13 @@ module _ (edges checks mechanisms : ℕ) (t : Settings) (flat : List Float) (see
 
     -- a shot that is refused before them
     pub fault-before : (a : Answer) (b : Bool) → a ≡ shotFault edges (X []) l → b ≡ isDone a → not b ≡ true → a ≡ decodeFault edges (X order) l
-    unfolding shotFault listsFit
+    unfolding shotFault decodeListsFit
     fault-before a b e d h = e ∙ sym (fault-joined edges (X order) l ∙ or-first _ _ (ap isDone (sym e) ∙ sym d ∙ not-true b h))
 
     -- and one that is not
     pub fault-after : (a r : Answer) (b : Bool) → a ≡ shotFault edges (X []) l → b ≡ isDone a → not b ≡ false
         → r ≡ orElse (namesFault checks order) (exchangeFault (t .schedule) (ofChecks checks cv co) order) → r ≡ decodeFault edges (X order) l
-    unfolding shotFault listsFit exchangeFault
+    unfolding shotFault decodeListsFit exchangeFault
     fault-after a r b e d h q =
         q ∙ ap (orElse (namesFault checks order)) (exchange-whole (t .schedule)) ∙ sym (fault-joined edges (X order) l ∙ or-second _ _ (sym e ∙ done-is a (sym d ∙ not-false b h)))
       where
@@ -244,13 +244,13 @@ module _ (edges checks mechanisms : ℕ) (t : Settings) (flat : List Float) (see
 
     -- the tests do not look at the seed
     pub fault-seed : decodeFault edges (whole t flat 0 syndrome prior cv cm co vc vm vo order checks mechanisms) l ≡ decodeFault edges (X order) l
-    unfolding decodeFault listsFit
+    unfolding decodeFault decodeListsFit
     fault-seed = refl
 
     -- ---- the calls
 
     -- refused by a test
-    pub in-order-refused : (a : Answer) (r : Refusal) → a ≡ decodeFault edges (X order) l → a ≡ Refused r → outcome (Decoded.Refused r) l ≡ decodeInOrder edges (X order) l
+    pub in-order-refused : (a : Answer) (r : Refusal) → a ≡ decodeFault edges (X order) l → a ≡ Refused r → decodeOutcome (Decoded.Refused r) l ≡ decodeInOrder edges (X order) l
     unfolding decodeInOrder
     in-order-refused a r e d = rw (sym e ∙ d)
 
@@ -262,7 +262,7 @@ module _ (edges checks mechanisms : ℕ) (t : Settings) (flat : List Float) (see
         passed (w .0) (names-entries checks order (or-done _ _ (w .1) .0))
 
     -- let through: what the legs leave
-    pub in-order-ran : (a : Answer) (o : Outcome) → a ≡ decodeFault edges (X order) l → a ≡ Done
+    pub in-order-ran : (a : Answer) (o : DecodeOutcome) → a ≡ decodeFault edges (X order) l → a ≡ Done
         → o ≡ afterLegs (length cv) (shotOf t flat seed syndrome prior cv co vm vo order) (decodeLegs (shotOf t flat seed syndrome prior cv co vm vo order)) l
         → o ≡ decodeInOrder edges (X order) l
     unfolding decodeInOrder
@@ -272,19 +272,19 @@ module _ (edges checks mechanisms : ℕ) (t : Settings) (flat : List Float) (see
 
   -- ---- in index order
 
-  module _ (l : Lists) where
+  module _ (l : DecodeLists) where
     -- the tests do not look at the seed
     pub shot-seed : shotFault edges (whole t flat 0 syndrome prior cv cm co vc vm vo [] checks mechanisms) l ≡ shotFault edges (X []) l
-    unfolding shotFault listsFit
+    unfolding shotFault decodeListsFit
     shot-seed = refl
 
     -- the index order passes 23 and 24
     index-fault : shotFault edges (X []) l ≡ decodeFault edges (X (upto checks)) l
-    unfolding shotFault listsFit
+    unfolding shotFault decodeListsFit
     index-fault = sym (fault-joined edges (X (upto checks)) l ∙ ap (orElse _) (index-passes (t .schedule) (graph checks mechanisms cv cm co vc vm vo)) ∙ or-none _)
 
     -- refused by a test
-    pub index-refused : (a : Answer) (r : Refusal) → a ≡ shotFault edges (X []) l → a ≡ Refused r → outcome (Decoded.Refused r) l ≡ decode edges (X []) l
+    pub index-refused : (a : Answer) (r : Refusal) → a ≡ shotFault edges (X []) l → a ≡ Refused r → decodeOutcome (Decoded.Refused r) l ≡ decode edges (X []) l
     unfolding decode
     index-refused a r e d = in-order-refused (upto checks) l a r (e ∙ index-fault) d
 
@@ -301,7 +301,7 @@ module _ (edges checks mechanisms : ℕ) (t : Settings) (flat : List Float) (see
     index-told a e d = let w = index-told-at a e d in along (length syndrome) (w .checks-many) w
 
     -- let through: what the legs leave
-    pub index-ran : (a : Answer) (o : Outcome) → a ≡ shotFault edges (X []) l → a ≡ Done
+    pub index-ran : (a : Answer) (o : DecodeOutcome) → a ≡ shotFault edges (X []) l → a ≡ Done
         → o ≡ afterLegs (length cv) (shotOf t flat seed syndrome prior cv co vm vo (upto (length syndrome))) (decodeLegs (shotOf t flat seed syndrome prior cv co vm vo (upto (length syndrome)))) l
         → o ≡ decode edges (X []) l
     unfolding decode

@@ -16,7 +16,7 @@ use Rattle.refusals.specs.Tests.{isDone, firstOf}
 use Rattle.graph_lists.specs.Messages.{valueFault, posteriorFault}
 use Rattle.relay_calls.specs.declared.Decoded.{Decoded}
 use Rattle.relay_step.specs.Leg.{Leg, hardDecision, correctionWeight}
-use Rattle.relay_calls.specs.Decode.{Shot, Run, Ended, decoded, refused, Progress, running, finished, isNoneOr, executedLeg, startRun, recorded, judged, afterLeg, legs, decodeLegs, correctionOf}
+use Rattle.relay_calls.specs.Decode.{Shot, Run, Ended, decoded, refused, Progress, running, finished, isNoneOr, executedLeg, startRun, recorded, legJudged, afterLeg, legsFrom, decodeLegs, correctionOf}
 use Rattle.relay_calls.specs.Calls.{answered}
 use Rattle.relay_record.specs.Kept.{Kept, kept, keptOf, corrected, keptWith, keptAfter, Blank, answerOf, isRefused, answerBy, Results, results, resultsOf, started}
 
@@ -60,19 +60,19 @@ abbrev endOf : Answer → Run → Ended
 endOf (Refused r) run = refused r
 endOf Done run = decoded run
 
-judged-end : (a : Answer) (enough : Bool) (run : Run) → (not (isDone a) || enough) ≡ true → judged a enough run ≡ finished (endOf a run)
+judged-end : (a : Answer) (enough : Bool) (run : Run) → (not (isDone a) || enough) ≡ true → legJudged a enough run ≡ finished (endOf a run)
 judged-end (Refused r) enough run h = refl
 judged-end Done true run h = refl
 judged-end Done false run h = absurd (false≢true h)
 
-judged-on : (a : Answer) (enough : Bool) (run : Run) → (not (isDone a) || enough) ≡ false → judged a enough run ≡ running run
+judged-on : (a : Answer) (enough : Bool) (run : Run) → (not (isDone a) || enough) ≡ false → legJudged a enough run ≡ running run
 judged-on (Refused r) enough run h = absurd (true≢false h)
 judged-on Done true run h = absurd (true≢false h)
 judged-on Done false run h = refl
 
 -- nothing follows the end
-legs-finished : (x : Shot) (n : ℕ) (e : Ended) (r : ℕ) → legs x n (finished e) r ≡ e
-unfolding legs
+legs-finished : (x : Shot) (n : ℕ) (e : Ended) (r : ℕ) → legsFrom x n (finished e) r ≡ e
+unfolding legsFrom
 legs-finished x zero e r = refl
 legs-finished x (suc n) e r = refl
 
@@ -84,13 +84,13 @@ module _ (x : Shot) where
   -- before the leg r, some run is reached of which this is kept
   pub record Reached (r : ℕ) (k : Kept) : Type 0 where
     pub run : Run
-    pub ahead : legs x (many - r) (running run) r ≡ decodeLegs x
+    pub ahead : legsFrom x (many - r) (running run) r ≡ decodeLegs x
     pub is : keptOf run ≡ k
 
   -- and after it, not yet judged
   pub record Turned (r : ℕ) (k : Kept) : Type 0 where
     pub run : Run
-    pub ahead : legs x (many - suc r) (judged (posteriorFault (x .graph) (k .posterior)) (leb (x .settings .«stop_after_converged») (k .numConverged)) run) (suc r) ≡ decodeLegs x
+    pub ahead : legsFrom x (many - suc r) (legJudged (posteriorFault (x .graph) (k .posterior)) (leb (x .settings .«stop_after_converged») (k .numConverged)) run) (suc r) ≡ decodeLegs x
     pub is : keptOf run ≡ k
 
   -- what is answered at the end e, and left
@@ -100,17 +100,17 @@ module _ (x : Shot) where
   module _ (r : ℕ) (k′ : Kept) where
     -- the leg r
     pub turned : (k : Kept) → Reached r k → r < many → k′ ≡ keptAfter x k r (executedLeg x r (k .posterior)) → Turned r k′
-    unfolding legs afterLeg
+    unfolding legsFrom afterLeg
     turned k s h e =
         let l = executedLeg x r (s .run .posterior) in
         let new = recorded x (s .run) r l in
         let same : keptOf new ≡ k′ = kept-recorded x (s .run) r l ∙ ap (λ (z : Kept). keptAfter x z r (executedLeg x r (z .posterior))) (s .is) ∙ sym e in
         let left : many - r ≡ suc (many - suc r) = omega arith in
-        let whole : legs x (many - suc r) (afterLeg x r (s .run)) (suc r) ≡ decodeLegs x = ap (λ n. legs x n (running (s .run)) r) (sym left) ∙ s .ahead in
+        let whole : legsFrom x (many - suc r) (afterLeg x r (s .run)) (suc r) ≡ decodeLegs x = ap (λ n. legsFrom x n (running (s .run)) r) (sym left) ∙ s .ahead in
         record {
           run = new;
           ahead =
-              ap (λ (z : Kept). legs x (many - suc r) (judged (posteriorFault (x .graph) (z .posterior)) (leb (x .settings .«stop_after_converged») (z .numConverged)) new) (suc r)) (sym same)
+              ap (λ (z : Kept). legsFrom x (many - suc r) (legJudged (posteriorFault (x .graph) (z .posterior)) (leb (x .settings .«stop_after_converged») (z .numConverged)) new) (suc r)) (sym same)
               ∙ whole;
           is = same;
         }
@@ -118,20 +118,20 @@ module _ (x : Shot) where
     module _ (s : Turned r k′) (a : Answer) (b : Bool) (e : a ≡ posteriorFault (x .graph) (k′ .posterior)) (d : b ≡ (not (isDone a) || leb (x .settings .«stop_after_converged») (k′ .numConverged))) where
       -- the verdict, by what the test said
       abbrev verdict : Answer → Progress
-      verdict z = judged z (leb (x .settings .«stop_after_converged») (k′ .numConverged)) (s .run)
+      verdict z = legJudged z (leb (x .settings .«stop_after_converged») (k′ .numConverged)) (s .run)
 
-      ahead-by : legs x (many - suc r) (verdict a) (suc r) ≡ decodeLegs x
-      ahead-by = ap (λ z. legs x (many - suc r) (verdict z) (suc r)) e ∙ s .ahead
+      ahead-by : legsFrom x (many - suc r) (verdict a) (suc r) ≡ decodeLegs x
+      ahead-by = ap (λ z. legsFrom x (many - suc r) (verdict z) (suc r)) e ∙ s .ahead
 
       -- on to the next leg
       reached-on : b ≡ false → Reached (suc r) k′
-      reached-on h = record { run = s .run; ahead = ap (λ z. legs x (many - suc r) z (suc r)) (sym (judged-on a _ (s .run) (sym d ∙ h))) ∙ ahead-by; is = s .is }
+      reached-on h = record { run = s .run; ahead = ap (λ z. legsFrom x (many - suc r) z (suc r)) (sym (judged-on a _ (s .run) (sym d ∙ h))) ∙ ahead-by; is = s .is }
 
       -- or no leg follows
       ended-at : b ≡ true → endOf a (s .run) ≡ decodeLegs x
       ended-at h =
           sym (legs-finished x (many - suc r) (endOf a (s .run)) (suc r))
-          ∙ ap (λ z. legs x (many - suc r) z (suc r)) (sym (judged-end a _ (s .run) (sym d ∙ h)))
+          ∙ ap (λ z. legsFrom x (many - suc r) z (suc r)) (sym (judged-end a _ (s .run) (sym d ∙ h)))
           ∙ ahead-by
 
   -- what an end says of a run of which this is kept
@@ -176,10 +176,10 @@ module _ (x : Shot) where
     -- and after all of them
     pub run-over : (r : ℕ) (c : Decoded) → Reached r (kept best num total r ss is ws rows cor p) → many ≤ r → c ≡ answerBy Done best r total
         → (c ≡ answerOf (decodeLegs x)) × (isRefused c ≡ false → results ss is ws rows cor p ≡ resultsOf x (decodeLegs x))
-    unfolding legs
+    unfolding legsFrom
     run-over r c s h q =
         let none-left : many - r ≡ 0 = sub-eq-zero-of-le h in
-        let end : decoded (s .run) ≡ decodeLegs x = ap (λ n. legs x n (running (s .run)) r) (sym none-left) ∙ s .ahead in
+        let end : decoded (s .run) ≡ decodeLegs x = ap (λ n. legsFrom x n (running (s .run)) r) (sym none-left) ∙ s .ahead in
         ends-as _ _ _ c (kept best num total r ss is ws rows cor p) end q (ends-by Done (s .run) _ (s .is))
 
 -- ---- the rows

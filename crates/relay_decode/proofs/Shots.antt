@@ -19,7 +19,7 @@ use Rattle.relay_calls.specs.declared.Decoded.{Decoded}
 use Rattle.numbers.specs.Loops.{upto}
 use Rattle.numbers.proofs.Loops.{length-table}
 use Rattle.relay_calls.specs.Decode.{Shot, Run, Ended, decoded, refused, decodeLegs, correctionOf}
-use Rattle.relay_calls.specs.Calls.{Lists, Outcome, outcome, answered, leftBy, zeroed, afterLegs}
+use Rattle.relay_calls.specs.Calls.{DecodeLists, DecodeOutcome, decodeOutcome, answered, leftBy, zeroed, afterLegs}
 use Rattle.relay_record.specs.Kept.{shotOf, Reads, answerOf, isRefused, Results, results, resultsOf, started}
 
 -- a run that has ended is not refused
@@ -61,12 +61,12 @@ module _ (x : Shot) (ss is : List ℕ) (ws : List Float) (rows cor : List ℕ) (
 
 -- ---- the leg lists with their surplus
 
-module _ (x : Shot) (edges : ℕ) (l : Lists) (ss is : List ℕ) (ws : List Float) (rows cor : List ℕ) (p gamma bias c v : List Float) (t1 t2 : List ℕ) (t3 : List Float) (t4 : List ℕ) where
+module _ (x : Shot) (edges : ℕ) (l : DecodeLists) (ss is : List ℕ) (ws : List Float) (rows cor : List ℕ) (p gamma bias c v : List Float) (t1 t2 : List ℕ) (t3 : List Float) (t4 : List ℕ) where
   -- the answer, the result lists before their surplus, and the zeroed work lists are what the definition leaves
   pub shot-is : (e : Ended) (d : Decoded) → d ≡ answerOf e → results ss is ws rows cor p ≡ resultsOf x e
       → (t1 ≡ drop (length ss) (l .legState)) × (t2 ≡ drop (length is) (l .legIterations)) × (t3 ≡ drop (length ws) (l .legWeight)) × (t4 ≡ drop (length rows) (l .rows))
       → (gamma ≡ replicate (x .graph .mechanisms) zero⁺) × (bias ≡ replicate (x .graph .mechanisms) zero⁺) × (c ≡ replicate edges zero⁺) × (v ≡ replicate edges zero⁺)
-      → outcome d (record { legState = ss ++ t1; legIterations = is ++ t2; legWeight = ws ++ t3; rows = rows ++ t4; correction = cor; posterior = p; gamma = gamma; bias = bias; cToV = c; vToC = v })
+      → decodeOutcome d (record { legState = ss ++ t1; legIterations = is ++ t2; legWeight = ws ++ t3; rows = rows ++ t4; correction = cor; posterior = p; gamma = gamma; bias = bias; cToV = c; vToC = v })
       ≡ afterLegs edges x e l
   unfolding leftBy zeroed
   shot-is (decoded run) d q h t w =
@@ -92,7 +92,7 @@ module _ (x : Shot) (edges : ℕ) (l : Lists) (ss is : List ℕ) (ws : List Floa
 
 module _ (t : Settings) (flat : List Float) (seed : ℕ) (syndrome : List ℕ) (prior : List Float) (cv co vm vo : List ℕ) where
   -- the same decode in an order that is the same
-  pub along-order : (o o′ : List ℕ) (n : ℕ) (l : Lists) (r : Outcome) → o ≡ o′
+  pub along-order : (o o′ : List ℕ) (n : ℕ) (l : DecodeLists) (r : DecodeOutcome) → o ≡ o′
       → r ≡ afterLegs n (shotOf t flat seed syndrome prior cv co vm vo o) (decodeLegs (shotOf t flat seed syndrome prior cv co vm vo o)) l
       → r ≡ afterLegs n (shotOf t flat seed syndrome prior cv co vm vo o′) (decodeLegs (shotOf t flat seed syndrome prior cv co vm vo o′)) l
   along-order o o′ n l r e q = rw e at q

@@ -12,7 +12,7 @@ use Rattle.relay_settings.specs.declared.Settings.{Settings}
 use Rattle.relay_gammas.specs.Gammas.{gammaOf}
 use Rattle.relay_step.specs.Leg.{startLeg, runLeg, matches, satisfied}
 use Rattle.relay_calls.specs.Decode.{Shot, Run, Ended, decoded, refused, running, iterationLimit, stepOf, executedLeg, startRun, recorded, afterLeg, decodeLegs}
-use Rattle.relay_calls.specs.Calls.{Lists, Outcome, leftBy, zeroed, afterLegs}
+use Rattle.relay_calls.specs.Calls.{DecodeLists, DecodeOutcome, leftBy, zeroed, afterLegs}
 use Rattle.relay_calls.proofs.Calls.{same-step, legs-agree}
 use Rattle.relay_record.specs.Kept.{shotOf}
 
@@ -47,13 +47,13 @@ module _ (t : Settings) (flat : List Float) (seed : ℕ) (syndrome : List ℕ) (
     decode-whole = legs-agree (few checks mechanisms) (whole checks mechanisms) after-whole (suc (t .«num_legs»)) (running (startRun (few checks mechanisms))) 0
 
     -- and what they leave
-    left-whole : (edges : ℕ) (l : Lists) (e : Ended) → afterLegs edges (few checks mechanisms) e l ≡ afterLegs edges (whole checks mechanisms) e l
+    left-whole : (edges : ℕ) (l : DecodeLists) (e : Ended) → afterLegs edges (few checks mechanisms) e l ≡ afterLegs edges (whole checks mechanisms) e l
     unfolding leftBy zeroed
     left-whole edges l (decoded run) = refl
     left-whole edges l (refused r) = refl
 
   -- what the legs leave, however the graph is counted
-  pub legs-read-four : (edges n checks mechanisms : ℕ) (l : Lists) (o : Outcome) → n ≡ edges → length syndrome ≡ checks → length prior ≡ mechanisms
+  pub legs-read-four : (edges n checks mechanisms : ℕ) (l : DecodeLists) (o : DecodeOutcome) → n ≡ edges → length syndrome ≡ checks → length prior ≡ mechanisms
       → o ≡ afterLegs n (shotOf t flat seed syndrome prior cv co vm vo order) (decodeLegs (shotOf t flat seed syndrome prior cv co vm vo order)) l
       → o ≡ afterLegs edges (whole checks mechanisms) (decodeLegs (whole checks mechanisms)) l
   legs-read-four edges n checks mechanisms l o p q s e =

@@ -19,7 +19,7 @@ use Rattle.refusals.specs.declared.Answer.the-variants.{Done, Refused}
 use Rattle.graph_lists.specs.Lists.{has}
 use Rattle.graph_lists.specs.Sound.{Keys}
 use Rattle.relay_orders.specs.Order.{count, namesOnce, anyOf, shares, above, late, exchanged}
-use Rattle.relay_orders.specs.Marks.{highest, marked, overtaken}
+use Rattle.relay_orders.specs.Marks.{highest, markedAt, overtaken}
 use Rattle.relay_orders.proofs.All.{All, nil, cons, all-map, all-always, all-places, all-at, all-append, not-so, any-none}
 use Rattle.relay_orders.proofs.Counts.{count-same, count-other, count-insert, sum-length, ones, names-below, names-once-is}
 
@@ -183,19 +183,19 @@ has-all {P} v e (cons {x = x} {xs = xs} h t) = go (eqb x v) refl e (λ q. has-al
     go false q k rec = rec k
 
 -- one mark more
-marked-take : (x : ℕ) (l es : List ℕ) (i : ℕ) → i < length es → marked x l (take (suc i) es) ≡ set (marked x l (take i es)) (getD es i 0) x
-unfolding marked
+marked-take : (x : ℕ) (l es : List ℕ) (i : ℕ) → i < length es → markedAt x l (take (suc i) es) ≡ set (markedAt x l (take i es)) (getD es i 0) x
+unfolding markedAt
 marked-take x l es i h = foldl-take _ _ es i 0 h
 
 -- marks leave the length
-pub length-marked : (x : ℕ) (l es : List ℕ) → length (marked x l es) ≡ length l
-unfolding marked
+pub length-marked : (x : ℕ) (l es : List ℕ) → length (markedAt x l es) ≡ length l
+unfolding markedAt
 length-marked x l [] = refl
 length-marked x l (e ∷ es) = length-marked x (set l e x) es ∙ length-set l e x
 
 -- what stands at a place after marking
-getD-marked : (x : ℕ) (l es : List ℕ) (v : ℕ) → v < length l → getD (marked x l es) v 0 ≡ cond (has es v) x (getD l v 0)
-unfolding marked has
+getD-marked : (x : ℕ) (l es : List ℕ) (v : ℕ) → v < length l → getD (markedAt x l es) v 0 ≡ cond (has es v) x (getD l v 0)
+unfolding markedAt has
 getD-marked x l [] v h = refl
 getD-marked x l (e ∷ es) v h = getD-marked x (set l e x) es v (rw (length-set l e x) h) ∙ go (eqb e v) refl (has es v)
   where
@@ -260,7 +260,7 @@ overtaken-is entries before last c t b =
 
 -- and its marks tell of one check more
 tells-turn : (entries : ℕ → List ℕ) (before last : List ℕ) (c : ℕ) → length last ≡ 65536 → Tells entries before last → overtaken c last (entries c) ≡ false
-    → Tells entries (before ++ (c ∷ [])) (marked c last (entries c))
+    → Tells entries (before ++ (c ∷ [])) (markedAt c last (entries c))
 unfolding overtaken highest
 tells-turn entries before last c l t o v h =
     getD-marked c last (entries c) v (omega arith)
@@ -304,7 +304,7 @@ unfolding overtaken
 overtaken-found x last es i v h e l = sym (any-found (λ w. ltb x (getD last w 0)) es i h (lt-ltb x (getD last (getD es i 0) 0) (rw (← e) l)))
 
 -- a turn of `mark`
-pub marked-turn : (x : ℕ) (l es m : List ℕ) (i v : ℕ) → i < length es → v ≡ getD es i 0 → m ≡ marked x l (take i es) → set m v x ≡ marked x l (take (i + 1) es)
+pub marked-turn : (x : ℕ) (l es m : List ℕ) (i v : ℕ) → i < length es → v ≡ getD es i 0 → m ≡ markedAt x l (take i es) → set m v x ≡ markedAt x l (take (i + 1) es)
 marked-turn x l es m i v h e q = rw (add-one, marked-take x l es i h, ← e, q)
 
 -- ---- a turn of `exchanged_check`, as the code has it
@@ -335,9 +335,9 @@ module _ (off mech order last : List ℕ) (i c a e next : ℕ) (h : i < length o
   test-goes-on b o m y = exchange-turn entries order i c h q (sym (found-late b o m) ∙ y)
 
   -- and the marks tell of it too
-  pub test-tells : (b : Bool) → b ≡ overtaken next last (part a e mech) → b ≡ false → length last ≡ 65536 → (new : List ℕ) → new ≡ marked next last (part a e mech)
+  pub test-tells : (b : Bool) → b ≡ overtaken next last (part a e mech) → b ≡ false → length last ≡ 65536 → (new : List ℕ) → new ≡ markedAt next last (part a e mech)
       → Tells entries (take (i + 1) order) new
   test-tells b o y l new w =
       let z : overtaken c last (entries c) ≡ false = ap (λ k. overtaken k last (entries c)) (sym x) ∙ ap (overtaken next last) (sym part-is) ∙ sym o ∙ y in
-      let w′ : new ≡ marked c last (entries c) = w ∙ ap (marked next last) part-is ∙ ap (λ k. marked k last (entries c)) x in
+      let w′ : new ≡ markedAt c last (entries c) = w ∙ ap (markedAt next last) part-is ∙ ap (λ k. markedAt k last (entries c)) x in
       rw (add-one i, take-suc order i 0 h, ← q, w′) (tells-turn entries (take i order) last c l t z)

@@ -8,7 +8,7 @@ ghost use Rattle.numbers.specs.Loops.{row, upto};
 ghost use Rattle.graph_lists.specs.Sound.{Offsets, Keys};
 ghost use Rattle.graph_messages.specs.Needs.{ofChecks};
 ghost use Rattle.relay_orders.specs.Order.{namesOnce, exchanged, namesFault, exchangeFault};
-ghost use Rattle.relay_orders.specs.Marks.{marked, overtaken};
+ghost use Rattle.relay_orders.specs.Marks.{markedAt, overtaken};
 use graph_lists::indices::at;
 use refusals::Answer;
 use refusals::Refusal;
@@ -69,7 +69,7 @@ fn is_overtaken(c: u16, entries: &[u32], last: &[u16; 65536]) -> bool
 // The check c has named the mechanisms of these entries last.
 fn mark(c: u16, entries: &[u32], last: &mut [u16; 65536])
     requires { ⌜ Keys 65536 (now entries) ⌝ }
-    ensures { λ _. ⌜ now (last .exit) ≡ marked c (now (last .entry)) (now (entries .entry)) ⌝ }
+    ensures { λ _. ⌜ now (last .exit) ≡ markedAt c (now (last .entry)) (now (entries .entry)) ⌝ }
 {
     let mut i = 0;
     while i < entries.len() {

@@ -23,7 +23,7 @@ use Rattle.relay_calls.specs.declared.Decoded.the-variants as Decoded
 use Rattle.relay_settings.specs.Settings.{settingsFault}
 use Rattle.relay_step.specs.Leg.{Leg, hardDecision, correctionWeight}
 use Rattle.relay_calls.specs.Decode.{Shot, Run, Ended, decoded, refused, isNoneOr, correctionOf}
-use Rattle.relay_calls.specs.Calls.{Lists, syndromeFault, listsFit, answered}
+use Rattle.relay_calls.specs.Calls.{DecodeLists, syndromeFault, decodeListsFit, answered}
 
 -- a shot by the lists that its legs read: four of the six graph lists
 abbrev pub shotOf : Settings → List Float → ℕ → List ℕ → List Float → List ℕ → List ℕ → List ℕ → List ℕ → List ℕ → Shot
@@ -182,8 +182,8 @@ started x =
 -- ---- the tests
 
 -- those of both calls: 1, 2, 4, 7, 10 to 22
-unfoldable pub shotFault : ℕ → Shot → Lists → Answer
+unfoldable pub shotFault : ℕ → Shot → DecodeLists → Answer
 shotFault edges x l =
     orElse (graphFault edges (x .prior) (x .graph))
     (orElse (settingsFault (x .settings) (x .graph .mechanisms) (x .gammas))
-    (orElse (syndromeFault (x .graph .checks) (x .syndrome)) (unless (listsFit edges x l) LentListLength)))
+    (orElse (syndromeFault (x .graph .checks) (x .syndrome)) (unless (decodeListsFit edges x l) LentListLength)))

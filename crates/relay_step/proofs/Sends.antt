@@ -23,7 +23,7 @@ use Rattle.relay_step.specs.Places.{scanPlaces, bySigns}
 pub record Found (odd : Bool) (variables : List ℕ) (messages : List Float) (n : ℕ) (s : Scan) : Type 0 where
   pub variable : ℕ
   pub is : scan odd variables messages n ≡ scanOf (s .totalSign) (s .min1) (s .min2) variable
-  pub whose : ((s .least < n) × (variable ≡ getD variables (s .least) 0)) ⊎ (s .min1 ≡ s .min2)
+  pub whose : ((s .holder < n) × (variable ≡ getD variables (s .holder) 0)) ⊎ (s .min1 ≡ s .min2)
 
 module _ (odd : Bool) (variables : List ℕ) (messages : List Float) where
   -- one message further, by whether it is the least so far
@@ -40,7 +40,7 @@ module _ (odd : Bool) (variables : List ℕ) (messages : List Float) where
       record {
         variable = f .variable;
         is = rw (f .is, sym e, h);
-        whose = rw h (⊎-elim (λ (w : (s .least < n) × (f .variable ≡ getD variables (s .least) 0)). inl (omega (arith, w .0), w .1)) (λ (w : s .min1 ≡ s .min2). inr (same w (rw w at h))) (f .whose));
+        whose = rw h (⊎-elim (λ (w : (s .holder < n) × (f .variable ≡ getD variables (s .holder) 0)). inl (omega (arith, w .0), w .1)) (λ (w : s .min1 ≡ s .min2). inr (same w (rw w at h))) (f .whose));
       }
     where
       same : s .min1 ≡ s .min2 → lt (abs x) (s .min2) ≡ false → s .min1 ≡ cond (lt (abs x) (s .min2)) (abs x) (s .min2)

@@ -33,7 +33,7 @@ saturated x = cond (isFinite x) x saturation
 
 -- the message sent to a variable: (alpha times sign) times minimum
 unfoldable pub sent : Float → Scan → ℕ → Float → Float
-sent alpha s variable message = alpha *ᶠ (s .totalSign *ᶠ messageSign message) *ᶠ saturated (cond (eqb variable (s .least)) (s .min2) (s .min1))
+sent alpha s variable message = alpha *ᶠ (s .totalSign *ᶠ messageSign message) *ᶠ saturated (cond (eqb variable (s .holder)) (s .min2) (s .min1))
 
 -- the first n that are sent
 unfoldable pub sentTo : Float → Scan → List ℕ → List Float → ℕ → List Float

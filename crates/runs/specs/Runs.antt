@@ -24,7 +24,7 @@ use Rattle.relay_settings.specs.declared.Schedule.the-variants.{Flooding, Check
 use Rattle.relay_settings.specs.declared.GammaSource.the-variants.{Seeded}
 use Rattle.relay_step.specs.Leg.{startLeg}
 use Rattle.relay_calls.specs.Calls as Calls
-use Rattle.relay_calls.specs.Calls.{iterationCall, decodeInOrder, stepLists, told, tellOf}
+use Rattle.relay_calls.specs.Calls.{iterationCall, decodeInOrder, stepLists, summary, summaryOf}
 
 -- ---- numbers
 
@@ -58,31 +58,31 @@ blank checks mechanisms edges =
     graph checks mechanisms nines nines (replicate (suc checks) 9) nines nines (replicate (suc mechanisms) 9)
 
 -- what `build_sparse` makes of checks, priors, detector offsets and detectors
-abbrev pub built : ℕ → List Float → List ℕ → List ℕ → Model.Outcome
-built checks priors off dets = buildSparse (length dets) priors off dets (blank checks (length priors) (length dets))
+abbrev pub modelBuilt : ℕ → List Float → List ℕ → List ℕ → Model.BuildOutcome
+modelBuilt checks priors off dets = buildSparse (length dets) priors off dets (blank checks (length priors) (length dets))
 
 -- the priors of G
 abbrev pub fours : List Float
 fours = replicate 3 four
 
 -- G: 2 checks; detectors {0}, {0,1}, {1}; priors 4
-abbrev pub builtG : Model.Outcome
-builtG = built 2 fours (0 ∷ 1 ∷ 3 ∷ 4 ∷ []) (0 ∷ 0 ∷ 1 ∷ 1 ∷ [])
+abbrev pub builtG : Model.BuildOutcome
+builtG = modelBuilt 2 fours (0 ∷ 1 ∷ 3 ∷ 4 ∷ []) (0 ∷ 0 ∷ 1 ∷ 1 ∷ [])
 
 abbrev pub G : Graph
 G = builtG .lists
 
 -- one check and one mechanism, which touch
 abbrev pub single : Float → Graph
-single prior = built 1 (prior ∷ []) (0 ∷ 1 ∷ []) (0 ∷ []) .lists
+single prior = modelBuilt 1 (prior ∷ []) (0 ∷ 1 ∷ []) (0 ∷ []) .lists
 
 -- one check and two mechanisms, which both touch it
 abbrev pub pair : Float → Graph
-pair prior = built 1 (prior ∷ two ∷ []) (0 ∷ 1 ∷ 2 ∷ []) (0 ∷ 0 ∷ []) .lists
+pair prior = modelBuilt 1 (prior ∷ two ∷ []) (0 ∷ 1 ∷ 2 ∷ []) (0 ∷ 0 ∷ []) .lists
 
 -- nothing in the graph
 abbrev pub empty : Graph
-empty = built 0 [] (0 ∷ []) [] .lists
+empty = modelBuilt 0 [] (0 ∷ []) [] .lists
 
 -- ---- calls
 
@@ -103,7 +103,7 @@ settings schedule pre =
     }
 
 -- a decode's lent lists, filled with 9, with a row more than it needs
-abbrev pub lent : ℕ → ℕ → Calls.Lists
+abbrev pub lent : ℕ → ℕ → Calls.DecodeLists
 lent mechanisms edges =
     let floats = replicate mechanisms nine in
     record {
@@ -120,28 +120,28 @@ lent mechanisms edges =
     }
 
 -- a decode in the order given
-abbrev pub decoded : Graph → List Float → List ℕ → List ℕ → Schedule → ℕ → Calls.Outcome
-decoded g prior syndrome order schedule pre =
+abbrev pub decodedRun : Graph → List Float → List ℕ → List ℕ → Schedule → ℕ → Calls.DecodeOutcome
+decodedRun g prior syndrome order schedule pre =
     decodeInOrder (length (g .checkVar))
     (record { graph = g; prior = prior; settings = settings schedule pre; gammas = []; order = order; syndrome = syndrome; seed = 0 })
     (lent (length prior) (length (g .checkVar)))
 
 -- what a run says of it: the answer, the correction's bits and the posterior
 pub record Shown : Type 0 where
-  pub answer : Calls.Told
+  pub answer : Calls.Summary
   pub bits : List ℕ
   pub posterior : List Float
 
-abbrev pub shown : Calls.Told → List ℕ → List Float → Shown
+abbrev pub shown : Calls.Summary → List ℕ → List Float → Shown
 shown a b p = record { answer = a; bits = b; posterior = p }
 
 -- that, of a decode's outcome
-abbrev pub show : Calls.Outcome → Shown
-show o = shown (tellOf (o .answer)) (o .left .correction) (o .left .posterior)
+abbrev pub show : Calls.DecodeOutcome → Shown
+show o = shown (summaryOf (o .answer)) (o .left .correction) (o .left .posterior)
 
 -- the first iteration of a leg on G, in the order given, with gammas 0
-abbrev pub first : Schedule → List ℕ → Calls.StepOutcome
-first schedule order = iterationCall 4 fours G schedule one⁺ (replicate 3 zero⁺) (1 ∷ 0 ∷ []) order (stepLists (startLeg G fours fours) (replicate 3 nine))
+abbrev pub firstStep : Schedule → List ℕ → Calls.StepOutcome
+firstStep schedule order = iterationCall 4 fours G schedule one⁺ (replicate 3 zero⁺) (1 ∷ 0 ∷ []) order (stepLists (startLeg G fours fours) (replicate 3 nine))
 
 -- of a single iteration, what a run says: the answer and the posterior
 pub record Stepped : Type 0 where
@@ -149,60 +149,60 @@ pub record Stepped : Type 0 where
   pub posterior : List Float
 
 -- that, of an iteration's outcome
-abbrev pub stepped : Calls.StepOutcome → Stepped
-stepped o = record { answer = o .answer; posterior = o .left .now .posterior }
+abbrev pub shownStep : Calls.StepOutcome → Stepped
+shownStep o = record { answer = o .answer; posterior = o .left .now .posterior }
 
 -- nothing is refused, and this is the posterior
-abbrev pub steppedTo : List Float → Stepped
-steppedTo p = record { answer = Done; posterior = p }
+abbrev pub shownStepTo : List Float → Stepped
+shownStepTo p = record { answer = Done; posterior = p }
 
 -- min-sum beliefs, not serial, scale 1, one iteration
-abbrev pub believed : Graph → List Float → List ℕ → Beliefs.Outcome
+abbrev pub believed : Graph → List Float → List ℕ → Beliefs.BeliefsOutcome
 believed g prior syndrome =
     let edges = length (g .checkVar) in
     let floats = replicate (length prior) nine in
-    Beliefs.beliefs edges prior g syndrome 1 one⁺ false (Beliefs.lists floats floats (replicate edges nine) (replicate edges nine))
+    Beliefs.beliefs edges prior g syndrome 1 one⁺ false (Beliefs.beliefsLists floats floats (replicate edges nine) (replicate edges nine))
 
 -- answered with this posterior, and the work lists are zero
-abbrev pub believes : ℕ → List Float → Beliefs.Outcome
-believes edges p = Beliefs.outcome Done (Beliefs.lists p (replicate (length p) zero⁺) (replicate edges zero⁺) (replicate edges zero⁺))
+abbrev pub believes : ℕ → List Float → Beliefs.BeliefsOutcome
+believes edges p = Beliefs.beliefsOutcome Done (Beliefs.beliefsLists p (replicate (length p) zero⁺) (replicate edges zero⁺) (replicate edges zero⁺))
 
 -- ---- the table
 
 -- what R3, R4 and R7 say: converged at 2, bits 100, weight 4, posterior -4, 4, 4
 abbrev pub at2 : Shown
-at2 = shown (told Done true 1 2 (some four)) (1 ∷ 0 ∷ 0 ∷ []) (four⁻ ∷ four ∷ four ∷ [])
+at2 = shown (summary Done true 1 2 (some four)) (1 ∷ 0 ∷ 0 ∷ []) (four⁻ ∷ four ∷ four ∷ [])
 
 -- the runs that document 01 lists
 pub record Table : Type 0 where
   -- offsets 0,2,4 and 0,1,3,4; variable 1 has messages 1 and 2
-  pub r1 : (builtG ≡ Model.outcome Done (graph 2 3 (0 ∷ 1 ∷ 1 ∷ 2 ∷ []) (0 ∷ 1 ∷ 2 ∷ 3 ∷ []) (0 ∷ 2 ∷ 4 ∷ []) (0 ∷ 0 ∷ 1 ∷ 1 ∷ []) (0 ∷ 1 ∷ 2 ∷ 3 ∷ []) (0 ∷ 1 ∷ 3 ∷ 4 ∷ [])))
+  pub r1 : (builtG ≡ Model.buildOutcome Done (graph 2 3 (0 ∷ 1 ∷ 1 ∷ 2 ∷ []) (0 ∷ 1 ∷ 2 ∷ 3 ∷ []) (0 ∷ 2 ∷ 4 ∷ []) (0 ∷ 0 ∷ 1 ∷ 1 ∷ []) (0 ∷ 1 ∷ 2 ∷ 3 ∷ []) (0 ∷ 1 ∷ 3 ∷ 4 ∷ [])))
       × (varEntries G 1 ≡ 1 ∷ 2 ∷ [])
   -- Flooding, pre 1: not converged, posterior 0,4,8, bits 000
-  pub r2 : show (decoded G fours (1 ∷ 0 ∷ []) (0 ∷ 1 ∷ []) Flooding 1) ≡ shown (told Done false 1 1 none) (0 ∷ 0 ∷ 0 ∷ []) (zero⁺ ∷ four ∷ eight ∷ [])
+  pub r2 : show (decodedRun G fours (1 ∷ 0 ∷ []) (0 ∷ 1 ∷ []) Flooding 1) ≡ shown (summary Done false 1 1 none) (0 ∷ 0 ∷ 0 ∷ []) (zero⁺ ∷ four ∷ eight ∷ [])
   -- Flooding, pre 2: converged at 2, bits 100, weight 4, posterior -4,4,4
-  pub r3 : show (decoded G fours (1 ∷ 0 ∷ []) (0 ∷ 1 ∷ []) Flooding 2) ≡ at2
+  pub r3 : show (decodedRun G fours (1 ∷ 0 ∷ []) (0 ∷ 1 ∷ []) Flooding 2) ≡ at2
   -- CheckSerial, pre 2: same outcome as R3
-  pub r4 : show (decoded G fours (1 ∷ 0 ∷ []) (0 ∷ 1 ∷ []) CheckSerial 2) ≡ at2
+  pub r4 : show (decodedRun G fours (1 ∷ 0 ∷ []) (0 ∷ 1 ∷ []) CheckSerial 2) ≡ at2
   -- first serial iteration, order 0,1: posterior 0,4,4
-  pub r5 : stepped (first CheckSerial (0 ∷ 1 ∷ [])) ≡ steppedTo (zero⁺ ∷ four ∷ four ∷ [])
+  pub r5 : shownStep (firstStep CheckSerial (0 ∷ 1 ∷ [])) ≡ shownStepTo (zero⁺ ∷ four ∷ four ∷ [])
   -- first serial iteration, order 1,0: posterior -4,4,8; decode refuses it: 24, check 0, and writes nothing
-  pub r6 : (stepped (first CheckSerial (1 ∷ 0 ∷ [])) ≡ steppedTo (four⁻ ∷ four ∷ eight ∷ []))
-      × (tellOf (decoded G fours (1 ∷ 0 ∷ []) (1 ∷ 0 ∷ []) CheckSerial 2 .answer) ≡ told (Refused (OrderExchanged 0)) false 0 0 none)
+  pub r6 : (shownStep (firstStep CheckSerial (1 ∷ 0 ∷ [])) ≡ shownStepTo (four⁻ ∷ four ∷ eight ∷ []))
+      × (summaryOf (decodedRun G fours (1 ∷ 0 ∷ []) (1 ∷ 0 ∷ []) CheckSerial 2 .answer) ≡ summary (Refused (OrderExchanged 0)) false 0 0 none)
       × (answerNumber (Refused (OrderExchanged 0)) ≡ 24)
       × (answerPlace (Refused (OrderExchanged 0)) ≡ At 0)
-      × (decoded G fours (1 ∷ 0 ∷ []) (1 ∷ 0 ∷ []) CheckSerial 2 .left ≡ lent 3 4)
+      × (decodedRun G fours (1 ∷ 0 ∷ []) (1 ∷ 0 ∷ []) CheckSerial 2 .left ≡ lent 3 4)
   -- Flooding order 1,0: as R3
-  pub r7 : show (decoded G fours (1 ∷ 0 ∷ []) (1 ∷ 0 ∷ []) Flooding 2) ≡ at2
+  pub r7 : show (decodedRun G fours (1 ∷ 0 ∷ []) (1 ∷ 0 ∷ []) Flooding 2) ≡ at2
   -- min-sum, not serial, one iteration: 0,4,8
   pub r8 : believed G fours (1 ∷ 0 ∷ []) ≡ believes 4 (zero⁺ ∷ four ∷ eight ∷ [])
   -- one check, one mechanism, prior 2, syndrome 1: Relay -28, bit 1; min-sum, one iteration, 2
-  pub r9 : (show (decoded (single two) (two ∷ []) (1 ∷ []) (0 ∷ []) Flooding 1) ≡ shown (told Done true 1 1 (some two)) (1 ∷ []) (twentyEight⁻ ∷ []))
+  pub r9 : (show (decodedRun (single two) (two ∷ []) (1 ∷ []) (0 ∷ []) Flooding 1) ≡ shown (summary Done true 1 1 (some two)) (1 ∷ []) (twentyEight⁻ ∷ []))
       × (believed (single two) (two ∷ []) (1 ∷ []) ≡ believes 1 (two ∷ []))
   -- the same in Relay, prior 30: posterior 0, bit 0, not converged
-  pub r10 : show (decoded (single saturation) (saturation ∷ []) (1 ∷ []) (0 ∷ []) Flooding 1) ≡ shown (told Done false 1 1 none) (0 ∷ []) (zero⁺ ∷ [])
+  pub r10 : show (decodedRun (single saturation) (saturation ∷ []) (1 ∷ []) (0 ∷ []) Flooding 1) ≡ shown (summary Done false 1 1 none) (0 ∷ []) (zero⁺ ∷ [])
   -- nothing in the graph: converged after 1, weight negative zero
-  pub r11 : show (decoded empty [] [] [] Flooding 1) ≡ shown (told Done true 1 1 (some zero⁻)) [] []
+  pub r11 : show (decodedRun empty [] [] [] Flooding 1) ≡ shown (summary Done true 1 1 (some zero⁻)) [] []
   -- min-sum, one check, priors -0.0 and 2, syndrome 0, one iteration: -2, 2; with +0.0: 2, 2
   pub r12 : (believed (pair zero⁻) (zero⁻ ∷ two ∷ []) (0 ∷ []) ≡ believes 2 (two⁻ ∷ two ∷ []))
       × (believed (pair zero⁺) (zero⁺ ∷ two ∷ []) (0 ∷ []) ≡ believes 2 (two ∷ two ∷ []))

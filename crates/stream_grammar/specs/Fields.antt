@@ -15,8 +15,8 @@ use Rattle.stream_grammar.specs.Stream.{checks, mechanisms, edges, prior
 
 -- ---- a model's counts
 
-unfoldable pub countsOf : List ℕ → Counts
-countsOf p = record { checks = checks p; mechanisms = mechanisms p; edges = edges p }
+unfoldable pub countsRead : List ℕ → Counts
+countsRead p = record { checks = checks p; mechanisms = mechanisms p; edges = edges p }
 
 -- ---- a model's lists
 
@@ -50,14 +50,14 @@ modelRead p l =
 -- ---- settings
 
 -- 0 is Flooding, 1 CheckSerial; another byte was refused with 45
-unfoldable pub scheduleOf : ℕ → Schedule
-scheduleOf b = cond (eqb b 0) Flooding CheckSerial
+unfoldable pub scheduleRead : ℕ → Schedule
+scheduleRead b = cond (eqb b 0) Flooding CheckSerial
 
 -- Relay's settings, with a seeded source
-unfoldable pub settingsOf : List ℕ → Settings
-settingsOf p =
+unfoldable pub settingsRead : List ℕ → Settings
+settingsRead p =
     record {
-      schedule = scheduleOf (scheduleByte p);
+      schedule = scheduleRead (scheduleByte p);
       alpha = ofBits binary64 (alphaBits p);
       gamma0 = ofBits binary64 (gamma0Bits p);
       «pre_iterations» = preIterations p;

@@ -5,7 +5,7 @@ ghost use lib.Ieee.{nan, binary64, ofBits};
 ghost use lib.ListN.{getD, length};
 ghost use Rattle.numbers.specs.Loops.{table};
 ghost use Rattle.stream_grammar.specs.Stream.{numberAt, legs as legsOf, scheduleByte, degree as degreeOf, detector as detectorOf};
-ghost use Rattle.stream_grammar.specs.Fields.{prior, offset, scheduleOf};
+ghost use Rattle.stream_grammar.specs.Fields.{prior, offset, scheduleRead};
 use relay_settings::Schedule;
 
 // ---- numbers
@@ -89,7 +89,7 @@ pub fn schedule_byte(payload: &[u8]) -> usize
 
 // The schedule that a byte says.
 pub fn schedule_of(byte: usize) -> Schedule
-    ensures { λ x. ⌜ x ≡ scheduleOf byte ⌝ }
+    ensures { λ x. ⌜ x ≡ scheduleRead byte ⌝ }
 {
     if byte == 0 {
         return Schedule::Flooding;

@@ -14,7 +14,7 @@ use Rattle.refusals.specs.declared.Answer.the-variants.{Done}
 use Rattle.refusals.specs.Tests.{unless}
 use Rattle.stream_reader.specs.declared.Reader.{Reader}
 use Rattle.stream_grammar.specs.Stream.{AreBytes, Rec, Sayable, lengthSaid}
-use Rattle.stream_reader.specs.Reading.{fresh, holding, isWhole, opened, keptOf, Held, held, pushed, fed, met, atEnd}
+use Rattle.stream_reader.specs.Reading.{fresh, holding, isWhole, opened, payloadKept, Held, held, pushed, fed, met, atEnd}
 use Rattle.stream_laws.proofs.Encoding.{encoded, length-encode, length-said, payload-said, bytes-encode}
 use Rattle.stream_laws.proofs.Whole.{not-whole, read-first, read-all}
 
@@ -37,13 +37,13 @@ module _ (offset : ℕ) (xs room : List ℕ) (f : AreBytes xs) (h : length xs �
   met-next : (i : ℕ) → i < length xs
       → met (take (suc i) xs) (held (fresh offset) room)
       ≡ met (take i xs) (held (fresh offset) room)
-      ++ cond (isWhole (holding offset (take (suc i) xs))) (held (holding offset (take (suc i) xs)) (keptOf (drop 6 (take (suc i) xs)) room) ∷ []) []
+      ++ cond (isWhole (holding offset (take (suc i) xs))) (held (holding offset (take (suc i) xs)) (payloadKept (drop 6 (take (suc i) xs)) room) ∷ []) []
   unfolding met fed
   met-next i l =
       let start = held (fresh offset) room in
       let b = getD xs i 0 in
       let e : take (suc i) xs ≡ take i xs ++ (b ∷ []) = take-suc xs i 0 l in
-      let p : pushed (fed (take i xs) start) b ≡ held (holding offset (take (suc i) xs)) (keptOf (drop 6 (take (suc i) xs)) room) =
+      let p : pushed (fed (take i xs) start) b ≡ held (holding offset (take (suc i) xs)) (payloadKept (drop 6 (take (suc i) xs)) room) =
       sym (foldl-append pushed start (take i xs) (b ∷ [])) ∙ ap (λ ys. fed ys start) (sym e) ∙ read-first offset xs room f h (suc i) l in
       ap (λ ys. met ys start) e ∙ met-append (take i xs) (b ∷ []) start ∙ ap (λ s. met (take i xs) start ++ cond (isWhole (s .reader)) (s ∷ []) []) p
 
@@ -54,7 +54,7 @@ module _ (offset : ℕ) (xs room : List ℕ) (f : AreBytes xs) (h : length xs �
   met-within (suc i) l = met-next i (omega arith) ∙ rw (not-whole offset xs (suc i) h l, met-within i (omega arith))
 
   -- at its end it is
-  met-whole : (n : ℕ) → length xs ≡ suc n → isWhole (holding offset xs) ≡ true → met xs (held (fresh offset) room) ≡ held (holding offset xs) (keptOf (drop 6 xs) room) ∷ []
+  met-whole : (n : ℕ) → length xs ≡ suc n → isWhole (holding offset xs) ≡ true → met xs (held (fresh offset) room) ≡ held (holding offset xs) (payloadKept (drop 6 xs) room) ∷ []
   met-whole n e w =
       let t : take (suc n) xs ≡ xs = ap (λ k. take k xs) (sym e) ∙ take-length xs in
       let w′ : isWhole (holding offset (take (suc n) xs)) ≡ true = ap (λ ys. isWhole (holding offset ys)) t ∙ w in
@@ -114,7 +114,7 @@ module _ (h : Held) (w : isWhole (h .reader) ≡ true) where
 
 module _ (r : Rec) (s : Sayable r) (offset : ℕ) (room : List ℕ) where
   abbrev atItsEnd : Held
-  atItsEnd = held (holding offset (encoded r)) (keptOf (r .payload) room)
+  atItsEnd = held (holding offset (encoded r)) (payloadKept (r .payload) room)
 
   -- the head says the payload's length
   pub said : lengthSaid (encoded r) ≡ length (r .payload)
@@ -137,20 +137,20 @@ module _ (r : Rec) (s : Sayable r) (offset : ℕ) (room : List ℕ) where
   fed-record : fed (encoded r) (held (fresh offset) room) ≡ atItsEnd
   fed-record =
       read-all offset (encoded r) room (bytes-encode (r .kind) (r .payload) (s .bytes)) (omega (arith, to-its-end))
-      ∙ ap (λ p. held (holding offset (encoded r)) (keptOf p room)) follows
+      ∙ ap (λ p. held (holding offset (encoded r)) (payloadKept p room)) follows
 
   -- it is met once
   met-record : met (encoded r) (held (fresh offset) room) ≡ atItsEnd ∷ []
   met-record =
       met-whole offset (encoded r) room (bytes-encode (r .kind) (r .payload) (s .bytes)) (omega (arith, to-its-end)) (5 + length (r .payload)) (length-encode (r .kind) (r .payload) ∙ omega arith) whole
-      ∙ ap (λ p. held (holding offset (encoded r)) (keptOf p room) ∷ []) follows
+      ∙ ap (λ p. held (holding offset (encoded r)) (payloadKept p room) ∷ []) follows
 
   -- where the next record begins
   abbrev after : Held
-  after = held (fresh ((offset + (6 + length (r .payload))) % 2 ^ 64)) (keptOf (r .payload) room)
+  after = held (fresh ((offset + (6 + length (r .payload))) % 2 ^ 64)) (payloadKept (r .payload) room)
 
   after-is : next atItsEnd whole ≡ after
-  after-is = ap (λ n. held (fresh ((offset + n) % 2 ^ 64)) (keptOf (r .payload) room)) (length-encode (r .kind) (r .payload))
+  after-is = ap (λ n. held (fresh ((offset + n) % 2 ^ 64)) (payloadKept (r .payload) room)) (length-encode (r .kind) (r .payload))
 
   -- with more bytes behind it
   pub met-then : (ys : List ℕ) → met (encoded r ++ ys) (held (fresh offset) room) ≡ atItsEnd ∷ met ys after

@@ -7,7 +7,7 @@ use native.Mathlib.Omega.{arith}
 use lib.ListN.{length}
 use Rattle.stream_reader.specs.declared.Reader.{Reader}
 use Rattle.stream_grammar.specs.Stream.{Rec, AllSayable, more, leftOver}
-use Rattle.stream_reader.specs.Reading.{keptOf, toMeet}
+use Rattle.stream_reader.specs.Reading.{payloadKept, toMeet}
 use Rattle.stream_laws.proofs.Whole.{length-kept}
 use Rattle.stream_laws.proofs.Along.{endOf}
 use Rattle.stream_laws.proofs.Theorems.{offsetAfter}
@@ -34,7 +34,7 @@ unfolding metText toMeet recordsText endText reads
 met-told [] rest offset room final s model line a l h e = other (s .stopped) _ _ h ∙ e (s .shots)
 met-told (r ∷ rs) rest offset room final s model line (more a others) l h e =
     let o = (offset + (6 + length (r .payload))) % 2 ^ 64 in
-    let kept = keptOf (r .payload) room in
+    let kept = payloadKept (r .payload) room in
     let t = recordSaid s offset r model line in
     ap
     (λ (t : Taken). textOf (t .now) ++ cond (t .now .session .stopped) [] (metText (toMeet rs o kept) final (t .now .session) (t .model) (t .now .line)))

@@ -9,7 +9,7 @@ use lib.ListN.{length, getD, set, take, drop, length-append, length-drop, length
 use lib.Seq.{take-all, drop-cons, drop-append-le, take-append-le, set-at, set-out, append-snoc}
 use Rattle.numbers.proofs.Cases.{less-or-not}
 use Rattle.stream_grammar.specs.Stream.{AreBytes, numberAt, lengthSaid, kindSaid, checks, mechanisms, edges, degrees}
-use Rattle.stream_reader.specs.Reading.{holding, grown, summed, added, keptOf}
+use Rattle.stream_reader.specs.Reading.{holding, grown, summed, added, payloadKept}
 use Rattle.stream_grammar.proofs.Bytes.{bytes-more, bytes-drop, number-bound, number-drop, number-before, number-within, number-after}
 use Rattle.stream_laws.proofs.Degrees.{degrees-none, degrees-same, degrees-more, degrees-small}
 use Rattle.stream_reader.proofs.Steps.{grown-before, grown-after, grown-within, summed-before, summed-after, summed-within}
@@ -84,8 +84,8 @@ holding-more offset xs b f h s =
     (t, field-grows 4 0 xs b (omega arith) f h, field-grows 2 4 xs b (omega arith) f h, sum-grows xs b f h, number-drop 4 0 6 xs, number-drop 4 4 6 xs, number-drop 4 8 6 xs, field-grows 4 6 xs b (omega arith) f h, field-grows 4 10 xs b (omega arith) f h, field-grows 4 14 xs b (omega arith) f h, number-drop 4 0 6 xs′, number-drop 4 4 6 xs′, number-drop 4 8 6 xs′)
 
 -- what is kept, one byte of the payload further
-pub kept-more : (p room : List ℕ) (b : ℕ) → set (keptOf p room) (length p) b ≡ keptOf (p ++ (b ∷ [])) room
-unfolding keptOf
+pub kept-more : (p room : List ℕ) (b : ℕ) → set (payloadKept p room) (length p) b ≡ payloadKept (p ++ (b ∷ [])) room
+unfolding payloadKept
 kept-more p room b =
     let n = length room in
     let l : length (p ++ (b ∷ [])) ≡ length p + 1 = length-append p (b ∷ []) in

@@ -12,7 +12,7 @@ use Rattle.refusals.specs.declared.Answer.{Answer}
 use Rattle.refusals.specs.declared.Refusal.the-variants.{UnknownKind, PayloadLength}
 use Rattle.refusals.specs.Tests.{unless, orElse}
 use Rattle.stream_grammar.specs.Stream.{lengthSaid, kindSaid, checks, mechanisms, edges, degrees, legs, scheduleByte, kindGood, lengthGood, roomGood, scheduleGood, tested, judge}
-use Rattle.stream_reader.specs.Reading.{holding, keptOf, verdict}
+use Rattle.stream_reader.specs.Reading.{holding, payloadKept, verdict}
 use Rattle.stream_laws.proofs.Kept.{kept-number, kept-byte}
 
 -- 41, then a 42 that refuses: what comes after does not matter
@@ -25,7 +25,7 @@ module _ (hasModel hasSettings : Bool) (kind : ℕ) (p room : List ℕ) (r : 49 
   -- 41 to 45 by what is kept
   abbrev byKept : Answer
   byKept =
-      tested hasModel hasSettings kind (length p) (checks p) (mechanisms p) (edges p) (degrees (mechanisms p) p) (legs (keptOf p room)) (scheduleByte (keptOf p room))
+      tested hasModel hasSettings kind (length p) (checks p) (mechanisms p) (edges p) (degrees (mechanisms p) p) (legs (payloadKept p room)) (scheduleByte (payloadKept p room))
 
   -- a model or a shot: neither legs nor schedule are looked at
   others : (kind ≡ 2 → ⊥) → byKept ≡ judge hasModel hasSettings kind p
@@ -52,7 +52,7 @@ module _ (hasModel hasSettings : Bool) (kind : ℕ) (p room : List ℕ) (r : 49 
 
 -- a whole record
 pub judged : (hasModel hasSettings : Bool) (offset : ℕ) (xs room : List ℕ) → length xs ≡ 6 + lengthSaid xs → 49 ≤ length room
-    → verdict hasModel hasSettings (holding offset xs) (keptOf (drop 6 xs) room) ≡ judge hasModel hasSettings (kindSaid xs) (drop 6 xs)
+    → verdict hasModel hasSettings (holding offset xs) (payloadKept (drop 6 xs) room) ≡ judge hasModel hasSettings (kindSaid xs) (drop 6 xs)
 unfolding verdict
 judged hasModel hasSettings offset xs room e h =
     let l : lengthSaid xs ≡ length (drop 6 xs) = omega (arith, length-drop 6 xs) in

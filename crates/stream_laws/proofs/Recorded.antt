@@ -18,7 +18,7 @@ use Rattle.relay_calls.specs.declared.Decoded.{Decoded}
 use Rattle.relay_calls.specs.declared.Decoded.the-variants as Decoded
 use Rattle.stream_reader.specs.declared.Reader.{Reader}
 use Rattle.stream_grammar.specs.Stream.{Rec, Sayable, lengthSaid, mechanisms, isOfShot, lengthGood, roomGood}
-use Rattle.stream_reader.specs.Reading.{holding, keptOf, verdict}
+use Rattle.stream_reader.specs.Reading.{holding, payloadKept, verdict}
 use Rattle.stream_laws.proofs.Accepted.{passed, model-within}
 use Rattle.stream_laws.proofs.Kept.{kept-front}
 use Rattle.stream_laws.proofs.Along.{said}
@@ -26,7 +26,7 @@ use Rattle.stream_laws.proofs.Encoding.{encoded}
 use Rattle.stream_laws.proofs.Theorems.{judges}
 use Rattle.stream_table.specs.Table.{modelFault, settingsAnswer, shotDecoded}
 use Rattle.stream_session.specs.declared.Session.{Session}
-use Rattle.stream_session.specs.Shots.{Told, Taken, taken, stops, says, refuses, finds, answers, tells, shotTaken, goesOn, settingsTaken, modelTaken, kindTaken, judged, recordTaken, reads}
+use Rattle.stream_session.specs.Shots.{Told, Taken, taken, stops, says, refuses, finds, answers, tells, shotTaken, goesOn, settingsTaken, modelTaken, kindTaken, recordJudged, recordTaken, reads}
 use Rattle.stream_session.specs.Text.{recordSaid}
 
 -- ---- the reader stays
@@ -68,7 +68,7 @@ shot-stays s model p line =
     answers-stays s (d .answer) (d .correction) line
 
 -- a record of any kind, past 41 to 45 or not
-judged-stays : (s : Session) (a : Answer) (p model line : List ℕ) → judged s a p model line .now .session .reader ≡ s .reader
+judged-stays : (s : Session) (a : Answer) (p model line : List ℕ) → recordJudged s a p model line .now .session .reader ≡ s .reader
 unfolding kindTaken
 judged-stays s Done p model line =
     let x = modelTaken s (modelFault p) p model line in
@@ -105,14 +105,14 @@ fits-room kind size c m e sum l h k = ⊎-elim one (λ n. ⊎-elim (two n) (thre
 -- ---- a record that is met
 
 -- a refused payload is not looked at
-same-payload : (s : Session) (a : Answer) (q p model line : List ℕ) → (a ≡ Done → q ≡ p) → judged s a q model line ≡ judged s a p model line
+same-payload : (s : Session) (a : Answer) (q p model line : List ℕ) → (a ≡ Done → q ≡ p) → recordJudged s a q model line ≡ recordJudged s a p model line
 same-payload s Done q p model line h = ap (λ x. kindTaken s x model line) (h refl)
 same-payload s (Refused r) q p model line h = refl
 
 module _ (r : Rec) (sayable : Sayable r) (offset : ℕ) (room : List ℕ) (large : 5132 ≤ length room) where
   -- what 41 to 45 let through is kept whole
-  kept-whole : (hasModel hasSettings : Bool) → verdict hasModel hasSettings (holding offset (encoded r)) (keptOf (r .payload) room) ≡ Done
-      → take (lengthSaid (encoded r)) (keptOf (r .payload) room) ≡ r .payload
+  kept-whole : (hasModel hasSettings : Bool) → verdict hasModel hasSettings (holding offset (encoded r)) (payloadKept (r .payload) room) ≡ Done
+      → take (lengthSaid (encoded r)) (payloadKept (r .payload) room) ≡ r .payload
   unfolding verdict
   kept-whole hasModel hasSettings d =
       let p = passed hasModel hasSettings _ _ _ _ _ _ _ _ d in
@@ -121,8 +121,8 @@ module _ (r : Rec) (sayable : Sayable r) (offset : ℕ) (room : List ℕ) (large
       rw (n, kept-front (r .payload) room (omega (arith, l, n, large))) (take-append-seam (r .payload) (drop (length (r .payload)) room))
 
   -- it is told as the grammar and the table say
-  pub record-told : (s : Session) (model line : List ℕ) → recordTaken (reads s (holding offset (encoded r))) (keptOf (r .payload) room) model line ≡ recordSaid s offset r model line
+  pub record-told : (s : Session) (model line : List ℕ) → recordTaken (reads s (holding offset (encoded r))) (payloadKept (r .payload) room) model line ≡ recordSaid s offset r model line
   unfolding recordTaken recordSaid reads
   record-told s model line =
       same-payload _ _ _ _ model line (kept-whole (s .known .«has_model») (s .known .«has_settings»))
-      ∙ ap (λ a. judged (reads s (holding offset (encoded r))) a (r .payload) model line) (judges (s .known .«has_model») (s .known .«has_settings») r offset room sayable (omega (arith, large)))
+      ∙ ap (λ a. recordJudged (reads s (holding offset (encoded r))) a (r .payload) model line) (judges (s .known .«has_model») (s .known .«has_settings») r offset room sayable (omega (arith, large)))

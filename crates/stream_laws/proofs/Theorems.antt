@@ -17,8 +17,8 @@ use Rattle.refusals.specs.declared.Answer.the-variants.{Done}
 use Rattle.relay_settings.specs.declared.Settings.{Settings}
 use Rattle.stream_reader.specs.declared.Reader.{Reader}
 use Rattle.stream_grammar.specs.declared.Counts.{Counts}
-use Rattle.stream_grammar.specs.Fields.{offset, countsOf, ModelLists, modelRead, settingsOf}
-use Rattle.stream_reader.specs.Reading.{fresh, holding, isWhole, opened, keptOf, Held, held, pushed, fed, met, toMeet, verdict, atEnd}
+use Rattle.stream_grammar.specs.Fields.{offset, countsRead, ModelLists, modelRead, settingsRead}
+use Rattle.stream_reader.specs.Reading.{fresh, holding, isWhole, opened, payloadKept, Held, held, pushed, fed, met, toMeet, verdict, atEnd}
 use Rattle.stream_grammar.proofs.Bytes.{bytes-take, bytes-drop, number-bound}
 use Rattle.stream_laws.proofs.Encoding.{encoded, length-said, kind-said, payload-said, complete-is}
 use Rattle.stream_laws.proofs.Whole.{read-all}
@@ -138,8 +138,8 @@ meets [] rest offset room s f c = met-cut offset rest room f (within rest c) (op
 meets (r ∷ rs) rest offset room (more s ss) f c =
     ap (λ xs. met xs (held (fresh offset) room)) (append-assoc (encode (r .kind) (r .payload)) (stream rs) rest)
     ∙ met-then r s offset room (stream rs ++ rest)
-    ∙ ap (λ l. held (holding offset (encode (r .kind) (r .payload))) (keptOf (r .payload) room) ∷ l)
-    (meets rs rest ((offset + (6 + length (r .payload))) % 2 ^ 64) (keptOf (r .payload) room) ss f c)
+    ∙ ap (λ l. held (holding offset (encode (r .kind) (r .payload))) (payloadKept (r .payload) room) ∷ l)
+    (meets rs rest ((offset + (6 + length (r .payload))) % 2 ^ 64) (payloadKept (r .payload) room) ss f c)
 
 -- the offset behind records
 abbrev pub offsetAfter : List Rec → ℕ → ℕ
@@ -155,7 +155,7 @@ ends-at g same [] rest offset room s f c = rw (read-all offset rest room f (with
 ends-at g same (r ∷ rs) rest offset room (more s ss) f c =
     ap (λ xs. endOf g (fed xs (held (fresh offset) room) .reader)) (append-assoc (encoded r) (stream rs) rest)
     ∙ end-then r s offset room g same (stream rs ++ rest)
-    ∙ ends-at g same rs rest ((offset + (6 + length (r .payload))) % 2 ^ 64) (keptOf (r .payload) room) ss f c
+    ∙ ends-at g same rs rest ((offset + (6 + length (r .payload))) % 2 ^ 64) (payloadKept (r .payload) room) ss f c
 
 -- "40 cut record": at the end of the input, exactly where bytes are left over
 pub ends : (rs : List Rec) (rest : List ℕ) (offset : ℕ) (room : List ℕ) → AllSayable rs → AreBytes rest → isComplete rest ≡ false
@@ -164,14 +164,14 @@ ends = ends-at (λ offset a. a) (λ a b. refl)
 
 -- a record that is met is judged as the grammar judges it, where 49 bytes can be kept
 pub judges : (hasModel hasSettings : Bool) (r : Rec) (offset : ℕ) (room : List ℕ) → Sayable r → 49 ≤ length room
-    → verdict hasModel hasSettings (holding offset (encode (r .kind) (r .payload))) (keptOf (r .payload) room) ≡ judge hasModel hasSettings (r .kind) (r .payload)
+    → verdict hasModel hasSettings (holding offset (encode (r .kind) (r .payload))) (payloadKept (r .payload) room) ≡ judge hasModel hasSettings (r .kind) (r .payload)
 judges hasModel hasSettings r offset room s h =
     let xs = encode (r .kind) (r .payload) in
     let p : drop 6 xs ≡ r .payload = follows r s offset room in
     let k : kindSaid xs ≡ r .kind = ap kindSaid (sym (append-nil xs)) ∙ kind-said (r .kind) (r .payload) [] (s .kind) in
-    let j : verdict hasModel hasSettings (holding offset xs) (keptOf (drop 6 xs) room) ≡ judge hasModel hasSettings (kindSaid xs) (drop 6 xs) =
+    let j : verdict hasModel hasSettings (holding offset xs) (payloadKept (drop 6 xs) room) ≡ judge hasModel hasSettings (kindSaid xs) (drop 6 xs) =
     judged hasModel hasSettings offset xs room (to-its-end r s offset room) h in
-    ap (λ q. verdict hasModel hasSettings (holding offset xs) (keptOf q room)) (sym p) ∙ j ∙ ap (λ q. judge hasModel hasSettings (kindSaid xs) q) p ∙ ap (λ q. judge hasModel hasSettings q (r .payload)) k
+    ap (λ q. verdict hasModel hasSettings (holding offset xs) (payloadKept q room)) (sym p) ∙ j ∙ ap (λ q. judge hasModel hasSettings (kindSaid xs) q) p ∙ ap (λ q. judge hasModel hasSettings q (r .payload)) k
 
 -- ---- what 41 to 45 let through is within the room
 
@@ -218,13 +218,13 @@ verdict-once hasModel hasSettings r kept x y p q = p ∙ sym q
 pub end-once : (r : Reader) (x y : Answer) → x ≡ atEnd r → y ≡ atEnd r → x ≡ y
 end-once r x y p q = p ∙ sym q
 
-pub counts-once : (p : List ℕ) (x y : Counts) → x ≡ countsOf p → y ≡ countsOf p → x ≡ y
+pub counts-once : (p : List ℕ) (x y : Counts) → x ≡ countsRead p → y ≡ countsRead p → x ≡ y
 counts-once p x y e f = e ∙ sym f
 
 pub model-once : (p : List ℕ) (l x y : ModelLists) → x ≡ modelRead p l → y ≡ modelRead p l → x ≡ y
 model-once p l x y e f = e ∙ sym f
 
-pub settings-once : (p : List ℕ) (x y : Settings) → x ≡ settingsOf p → y ≡ settingsOf p → x ≡ y
+pub settings-once : (p : List ℕ) (x y : Settings) → x ≡ settingsRead p → y ≡ settingsRead p → x ≡ y
 settings-once p x y e f = e ∙ sym f
 
 pub seed-once : (p : List ℕ) (x y : ℕ) → x ≡ seed p → y ≡ seed p → x ≡ y

@@ -11,7 +11,7 @@ use borrow.Author.Tests.{ne-eqb}
 use Rattle.numbers.proofs.Loops.{foldl-take}
 use Rattle.numbers.proofs.Cases.{less-or-not}
 use Rattle.stream_grammar.specs.Stream.{AreBytes, number, numberAt, lengthSaid, kindSaid, checks, mechanisms, edges, degrees}
-use Rattle.stream_reader.specs.Reading.{fresh, holding, isWhole, opened, keptWith, keptOf, held, pushed, fed}
+use Rattle.stream_reader.specs.Reading.{fresh, holding, isWhole, opened, byteKept, payloadKept, held, pushed, fed}
 use Rattle.stream_grammar.proofs.Bytes.{bytes-take, number-bound}
 use Rattle.stream_laws.proofs.Holding.{holding-more, kept-more}
 use Rattle.stream_reader.proofs.Steps.{head-only, keep-none, keep-in}
@@ -22,13 +22,13 @@ unfolding lengthSaid kindSaid checks mechanisms edges degrees numberAt number
 holding-none offset = refl
 
 -- nothing kept yet
-kept-none : (room : List ℕ) → keptOf [] room ≡ room
-unfolding keptOf
+kept-none : (room : List ℕ) → payloadKept [] room ≡ room
+unfolding payloadKept
 kept-none room = rw (take-nil {A = ℕ} (length room))
 
 -- as much room as before
-pub length-kept : (p room : List ℕ) → length (keptOf p room) ≡ length room
-unfolding keptOf
+pub length-kept : (p room : List ℕ) → length (payloadKept p room) ≡ length room
+unfolding payloadKept
 length-kept p room =
     ⊎-elim
     (λ (h : length p < length room).
@@ -38,21 +38,21 @@ length-kept p room =
     (less-or-not (length p) (length room))
 
 -- what is kept, one byte of the record further
-kept-step : (xs room : List ℕ) (b : ℕ) → keptWith (length xs) b (keptOf (drop 6 xs) room) ≡ keptOf (drop 6 (xs ++ (b ∷ []))) room
+kept-step : (xs room : List ℕ) (b : ℕ) → byteKept (length xs) b (payloadKept (drop 6 xs) room) ≡ payloadKept (drop 6 (xs ++ (b ∷ []))) room
 kept-step xs room b =
     ⊎-elim
     (λ (h : length xs < 6).
-    rw (drop-of-length-le (xs ++ (b ∷ [])) {i = 6} (omega (arith, length-append xs (b ∷ []))), drop-of-length-le xs {i = 6} (omega arith)) (sym (keep-none (length xs) b (keptOf [] room) h)))
+    rw (drop-of-length-le (xs ++ (b ∷ [])) {i = 6} (omega (arith, length-append xs (b ∷ []))), drop-of-length-le xs {i = 6} (omega arith)) (sym (keep-none (length xs) b (payloadKept [] room) h)))
     (λ (h : 6 ≤ length xs).
-    sym (keep-in (length xs) b (keptOf (drop 6 xs) room) h)
-    ∙ ap (λ i. set (keptOf (drop 6 xs) room) i b) (sym (length-drop 6 xs))
+    sym (keep-in (length xs) b (payloadKept (drop 6 xs) room) h)
+    ∙ ap (λ i. set (payloadKept (drop 6 xs) room) i b) (sym (length-drop 6 xs))
     ∙ kept-more (drop 6 xs) room b
-    ∙ ap (λ p. keptOf p room) (sym (drop-append-le 6 xs (b ∷ []) h)))
+    ∙ ap (λ p. payloadKept p room) (sym (drop-append-le 6 xs (b ∷ []) h)))
     (less-or-not (length xs) 6)
 
 -- one byte of a record that is not whole yet
 push-within : (offset : ℕ) (xs room : List ℕ) (b : ℕ) → isWhole (holding offset xs) ≡ false → AreBytes xs → b < 256 → length xs < 2 ^ 63
-    → pushed (held (holding offset xs) (keptOf (drop 6 xs) room)) b ≡ held (holding offset (xs ++ (b ∷ []))) (keptOf (drop 6 (xs ++ (b ∷ []))) room)
+    → pushed (held (holding offset xs) (payloadKept (drop 6 xs) room)) b ≡ held (holding offset (xs ++ (b ∷ []))) (payloadKept (drop 6 (xs ++ (b ∷ []))) room)
 unfolding pushed opened
 push-within offset xs room b w f h s = rw (w, holding-more offset xs b f h s, kept-step xs room b)
 
@@ -76,7 +76,7 @@ module _ (offset : ℕ) (xs room : List ℕ) (f : AreBytes xs) (h : length xs �
 
   -- the first i bytes of a record
   pub read-first : (i : ℕ) → i ≤ length xs
-      → fed (take i xs) (held (fresh offset) room) ≡ held (holding offset (take i xs)) (keptOf (drop 6 (take i xs)) room)
+      → fed (take i xs) (held (fresh offset) room) ≡ held (holding offset (take i xs)) (payloadKept (drop 6 (take i xs)) room)
   unfolding fed
   read-first zero l = rw (holding-none offset, kept-none room)
   read-first (suc i) l =
@@ -85,8 +85,8 @@ module _ (offset : ℕ) (xs room : List ℕ) (f : AreBytes xs) (h : length xs �
       foldl-take pushed (held (fresh offset) room) xs i 0 l
       ∙ ap (λ s. pushed s b) (read-first i (omega arith))
       ∙ push-within offset (take i xs) room b (not-whole offset xs i h l) (bytes-take i xs f) (f i) (omega (arith, k, short))
-      ∙ ap (λ ys. held (holding offset ys) (keptOf (drop 6 ys) room)) (sym (take-suc xs i 0 l))
+      ∙ ap (λ ys. held (holding offset ys) (payloadKept (drop 6 ys) room)) (sym (take-suc xs i 0 l))
 
   -- all of them
-  pub read-all : fed xs (held (fresh offset) room) ≡ held (holding offset xs) (keptOf (drop 6 xs) room)
+  pub read-all : fed xs (held (fresh offset) room) ≡ held (holding offset xs) (payloadKept (drop 6 xs) room)
   read-all = rw (take-length xs) at (read-first (length xs) (omega arith))

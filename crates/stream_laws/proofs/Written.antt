@@ -8,7 +8,7 @@ use Rattle.numbers.proofs.Cases.{either}
 use Rattle.stream_reader.specs.declared.Reader.{Reader}
 use Rattle.stream_reader.specs.Reading.{Held, held, pushed, fed, met, isWhole}
 use Rattle.stream_session.specs.declared.Session.{Session}
-use Rattle.stream_session.specs.Shots.{told, Taken, taken, recordTaken, Left, left, reads, byteTaken, endText, textOf, written}
+use Rattle.stream_session.specs.Shots.{told, Taken, taken, recordTaken, Left, left, reads, byteTaken, endText, textOf, sessionText}
 use Rattle.stream_session.proofs.Cases.{chosen, other, byte-after, byte-whole, byte-more}
 use Rattle.stream_laws.proofs.Recorded.{record-stays}
 
@@ -26,20 +26,20 @@ met-reads [] final r s model line = refl
 met-reads (h ∷ hs) final r s model line = refl
 
 -- a run that has ended writes nothing more
-silent : (xs : List ℕ) (s : Session) (kept model line : List ℕ) → s .stopped ≡ true → written xs s kept model line ≡ []
-unfolding written endText reads
+silent : (xs : List ℕ) (s : Session) (kept model line : List ℕ) → s .stopped ≡ true → sessionText xs s kept model line ≡ []
+unfolding sessionText endText reads
 silent [] s kept model line h = chosen (s .stopped) _ _ h
 silent (x ∷ xs) s kept model line h =
     let e : (left (taken (told (reads s (s .reader)) line) model) kept ≡ byteTaken s x kept model line) = byte-after s x kept model line _ h refl in
-    ap (λ (l : Left). textOf (l .taken .now) ++ written xs (l .taken .now .session) (l .kept) (l .taken .model) (l .taken .now .line)) (sym e)
+    ap (λ (l : Left). textOf (l .taken .now) ++ sessionText xs (l .taken .now .session) (l .kept) (l .taken .model) (l .taken .now .line)) (sym e)
     ∙ silent xs (reads s (s .reader)) kept model line h
 
 -- what is written of the bytes behind a record, once it is told what is of those behind a session that goes on
 behind : (xs : List ℕ) (t : Taken) (h : Held) → t .now .session .reader ≡ h .reader
     → (t .now .session .stopped ≡ false
-    → written xs (t .now .session) (h .kept) (t .model) (t .now .line)
+    → sessionText xs (t .now .session) (h .kept) (t .model) (t .now .line)
     ≡ metText (met xs (held (t .now .session .reader) (h .kept))) (fed xs (held (t .now .session .reader) (h .kept)) .reader) (t .now .session) (t .model) (t .now .line))
-    → written xs (t .now .session) (h .kept) (t .model) (t .now .line) ≡ cond (t .now .session .stopped) [] (metText (met xs h) (fed xs h .reader) (t .now .session) (t .model) (t .now .line))
+    → sessionText xs (t .now .session) (h .kept) (t .model) (t .now .line) ≡ cond (t .now .session .stopped) [] (metText (met xs h) (fed xs h .reader) (t .now .session) (t .model) (t .now .line))
 behind xs t h e f =
     ⊎-elim
     (λ (w : t .now .session .stopped ≡ true). silent xs (t .now .session) (h .kept) (t .model) (t .now .line) w ∙ sym (chosen (t .now .session .stopped) _ _ w))
@@ -58,25 +58,25 @@ module _ (x : ℕ) (xs : List ℕ) (s : Session) (kept model line : List ℕ) (g
   record-of = recordTaken (reads s (now .reader)) (now .kept) model line
 
   abbrev ofLeft : Left → List ℕ
-  ofLeft l = textOf (l .taken .now) ++ written xs (l .taken .now .session) (l .kept) (l .taken .model) (l .taken .now .line)
+  ofLeft l = textOf (l .taken .now) ++ sessionText xs (l .taken .now .session) (l .kept) (l .taken .model) (l .taken .now .line)
 
   abbrev ofMet : List Held → List ℕ
   ofMet hs = metText hs (fed xs now .reader) s model line
 
   ends-record : isWhole (now .reader) ≡ true
-      → written xs (record-of .now .session) (now .kept) (record-of .model) (record-of .now .line)
+      → sessionText xs (record-of .now .session) (now .kept) (record-of .model) (record-of .now .line)
       ≡ cond (record-of .now .session .stopped) [] (metText (met xs now) (fed xs now .reader) (record-of .now .session) (record-of .model) (record-of .now .line))
-      → written (x ∷ xs) s kept model line ≡ metText (met (x ∷ xs) (held (s .reader) kept)) (fed (x ∷ xs) (held (s .reader) kept) .reader) s model line
-  unfolding written met fed metText
+      → sessionText (x ∷ xs) s kept model line ≡ metText (met (x ∷ xs) (held (s .reader) kept)) (fed (x ∷ xs) (held (s .reader) kept) .reader) s model line
+  unfolding sessionText met fed metText
   ends-record w e =
       ap ofLeft (sym (byte-whole s x kept model line (now .reader) (now .kept) (reads s (now .reader)) record-of goes refl refl w refl))
       ∙ ap (λ (ys : List ℕ). textOf (record-of .now) ++ ys) e
       ∙ ap ofMet (sym (chosen (isWhole (now .reader)) (now ∷ met xs now) (met xs now) w))
 
   goes-on : isWhole (now .reader) ≡ false
-      → written xs (reads s (now .reader)) (now .kept) model line ≡ metText (met xs now) (fed xs now .reader) (reads s (now .reader)) model line
-      → written (x ∷ xs) s kept model line ≡ metText (met (x ∷ xs) (held (s .reader) kept)) (fed (x ∷ xs) (held (s .reader) kept) .reader) s model line
-  unfolding written met fed reads
+      → sessionText xs (reads s (now .reader)) (now .kept) model line ≡ metText (met xs now) (fed xs now .reader) (reads s (now .reader)) model line
+      → sessionText (x ∷ xs) s kept model line ≡ metText (met (x ∷ xs) (held (s .reader) kept)) (fed (x ∷ xs) (held (s .reader) kept) .reader) s model line
+  unfolding sessionText met fed reads
   goes-on w e =
       ap ofLeft (sym (byte-more s x kept model line (now .reader) (now .kept) (reads s (now .reader)) goes refl refl w))
       ∙ e
@@ -85,8 +85,8 @@ module _ (x : ℕ) (xs : List ℕ) (s : Session) (kept model line : List ℕ) (g
 
 -- the lines of an input are those of the records that are met in it, and the end
 pub written-met : (xs : List ℕ) (s : Session) (kept model line : List ℕ) → s .stopped ≡ false
-    → written xs s kept model line ≡ metText (met xs (held (s .reader) kept)) (fed xs (held (s .reader) kept) .reader) s model line
-unfolding written met fed metText endText reads
+    → sessionText xs s kept model line ≡ metText (met xs (held (s .reader) kept)) (fed xs (held (s .reader) kept) .reader) s model line
+unfolding sessionText met fed metText endText reads
 written-met [] s kept model line h = refl
 written-met (x ∷ xs) s kept model line h =
     let n = now x xs s kept model line h in

@@ -9,7 +9,7 @@ use lib.ListN.{length, set}
 use lib.Seq.{set-out}
 use borrow.Author.Tests.{lt-ltb, le-ltb, le-leb, lt-leb, ne-eqb}
 use Rattle.numbers.proofs.Cases.{same-test}
-use Rattle.stream_reader.specs.Reading.{grown, summed, keptWith}
+use Rattle.stream_reader.specs.Reading.{grown, summed, byteKept}
 
 -- ---- the end of a record
 
@@ -52,14 +52,14 @@ module _ (sum mechanisms at b : ℕ) where
 -- ---- the payload as it is kept
 
 module _ (at b : ℕ) (kept : List ℕ) where
-  pub keep-none : at < 6 → kept ≡ keptWith at b kept
-  unfolding keptWith
+  pub keep-none : at < 6 → kept ≡ byteKept at b kept
+  unfolding byteKept
   keep-none h = rw (lt-leb 6 at h)
 
-  pub keep-out : 6 ≤ at → length kept ≤ at - 6 → kept ≡ keptWith at b kept
-  unfolding keptWith
+  pub keep-out : 6 ≤ at → length kept ≤ at - 6 → kept ≡ byteKept at b kept
+  unfolding byteKept
   keep-out h k = rw (le-leb 6 at h) (sym (set-out kept (at - 6) b k))
 
-  pub keep-in : 6 ≤ at → set kept (at - 6) b ≡ keptWith at b kept
-  unfolding keptWith
+  pub keep-in : 6 ≤ at → set kept (at - 6) b ≡ byteKept at b kept
+  unfolding byteKept
   keep-in h = rw (le-leb 6 at h)

@@ -61,12 +61,12 @@ unfoldable pub opened : Reader → Reader
 opened r = cond (isWhole r) (fresh ((r .offset + r .taken) % 2 ^ 64)) r
 
 -- what is kept, after the byte b at place `at` of the record: a byte of the head isn't kept, nor one that finds no room
-unfoldable pub keptWith : ℕ → ℕ → List ℕ → List ℕ
-keptWith at b kept = cond (leb 6 at) (set kept (at - 6) b) kept
+unfoldable pub byteKept : ℕ → ℕ → List ℕ → List ℕ
+byteKept at b kept = cond (leb 6 at) (set kept (at - 6) b) kept
 
 -- what is kept of a payload in a list that held `room`: its bytes as far as there is room
-unfoldable pub keptOf : List ℕ → List ℕ → List ℕ
-keptOf p room = take (length room) p ++ drop (length p) room
+unfoldable pub payloadKept : List ℕ → List ℕ → List ℕ
+payloadKept p room = take (length room) p ++ drop (length p) room
 
 -- a reader, and what is kept of the payload
 pub record Held : Type 0 where
@@ -78,7 +78,7 @@ held r kept = record { reader = r; kept = kept }
 
 -- one byte of the stream
 unfoldable pub pushed : Held → ℕ → Held
-pushed h b = let r = opened (h .reader) in held (added r b) (keptWith (r .taken) b (h .kept))
+pushed h b = let r = opened (h .reader) in held (added r b) (byteKept (r .taken) b (h .kept))
 
 -- the bytes of a piece of the stream, one after the other
 unfoldable pub fed : List ℕ → Held → Held
@@ -93,7 +93,7 @@ met (b ∷ bs) h = let now = pushed h b in cond (isWhole (now .reader)) (now ∷
 unfoldable pub toMeet : List Rec → ℕ → List ℕ → List Held
 toMeet [] offset room = []
 toMeet (r ∷ rs) offset room =
-    let kept = keptOf (r .payload) room in
+    let kept = payloadKept (r .payload) room in
     held (holding offset (encode (r .kind) (r .payload))) kept ∷ toMeet rs ((offset + (6 + length (r .payload))) % 2 ^ 64) kept
 
 -- 41 to 45 of a record that has been read to its end

@@ -5,7 +5,7 @@ mod step;
 ghost use mathlib.Core.Path.{_≡_};
 ghost use Rattle.stream_reader.specs.Reading.{fresh, isWhole, held, pushed, verdict as verdictOf, atEnd};
 ghost use Rattle.stream_grammar.specs.Stream.{seed, isOfShot};
-ghost use Rattle.stream_grammar.specs.Fields.{countsOf, modelLists, modelRead, settingsOf};
+ghost use Rattle.stream_grammar.specs.Fields.{countsRead, modelLists, modelRead, settingsRead};
 use refusals::Answer;
 use refusals::Refusal;
 use refusals_tests::at_most;
@@ -99,7 +99,7 @@ pub type Counts = stream_grammar::Counts;
 
 // The counts of a model's payload.
 pub fn read_counts(payload: &[u8]) -> Counts
-    ensures { λ x. ⌜ x ≡ countsOf (now (payload .entry)) ⌝ }
+    ensures { λ x. ⌜ x ≡ countsRead (now (payload .entry)) ⌝ }
 {
     Counts {
         checks: fields::number4(payload, 0),
@@ -136,7 +136,7 @@ pub fn read_model(
 
 // Relay's settings out of their payload, with a seeded source.
 pub fn read_settings(payload: &[u8]) -> Settings
-    ensures { λ x. ⌜ x ≡ settingsOf (now (payload .entry)) ⌝ }
+    ensures { λ x. ⌜ x ≡ settingsRead (now (payload .entry)) ⌝ }
 {
     Settings {
         schedule: fields::schedule_of(fields::schedule_byte(payload)),

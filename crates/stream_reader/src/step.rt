@@ -1,7 +1,7 @@
 // One byte more of a record.
 ghost use mathlib.Core.Path.{_≡_};
 ghost use Prim.Native.Nat.{_*_, _^_, _<_, _≤_};
-ghost use Rattle.stream_reader.specs.Reading.{grown as grownTo, summed as summedTo, added as addedTo, opened as openedOf, keptWith};
+ghost use Rattle.stream_reader.specs.Reading.{grown as grownTo, summed as summedTo, added as addedTo, opened as openedOf, byteKept};
 use crate::Reader;
 use crate::is_whole;
 
@@ -79,7 +79,7 @@ pub(crate) fn opened(r: Reader) -> Reader
 
 // Keeps a byte of the payload, where there is room for it.
 pub(crate) fn keep(at: usize, byte: u8, payload: &mut [u8])
-    ensures { λ _. ⌜ now (payload .exit) ≡ keptWith at byte (now (payload .entry)) ⌝ }
+    ensures { λ _. ⌜ now (payload .exit) ≡ byteKept at byte (now (payload .entry)) ⌝ }
 {
     if at < 6 {
         return;

@@ -7,7 +7,7 @@ use native.Mathlib.Numerals.{add-one}
 use native.Mathlib.Omega.{arith}
 use lib.ListN.{length, getD, take, drop, set, drop-of-length-le}
 use lib.Seq.{take-all, paste-suc}
-use Rattle.stream_reader.specs.Reading.{keptOf}
+use Rattle.stream_reader.specs.Reading.{payloadKept}
 
 module _ (p old : List ℕ) where
   -- up to i the list has the payload's bytes, and from there on its own
@@ -21,11 +21,11 @@ module _ (p old : List ℕ) where
       rw (e, add-one) turn
 
   -- where the list ends
-  pub list-full : (i : ℕ) → i ≤ length p → i ≡ length old → keptTo i ≡ keptOf p old
-  unfolding keptOf
+  pub list-full : (i : ℕ) → i ≤ length p → i ≡ length old → keptTo i ≡ payloadKept p old
+  unfolding payloadKept
   list-full i a e = rw (sym e, drop-of-length-le old {i = i} (omega arith), drop-of-length-le old {i = length p} (omega arith)) refl
 
   -- and where the payload does
-  pub payload-ends : (i : ℕ) → i ≤ length old → i ≡ length p → keptTo i ≡ keptOf p old
-  unfolding keptOf
+  pub payload-ends : (i : ℕ) → i ≤ length old → i ≡ length p → keptTo i ≡ payloadKept p old
+  unfolding payloadKept
   payload-ends i a e = rw (sym e, take-all i p (omega arith), take-all (length old) p (omega arith)) refl

@@ -16,8 +16,8 @@ use Rattle.relay_calls.specs.declared.Decoded.{Decoded}
 use Rattle.relay_calls.specs.declared.Decoded.the-variants as Decoded
 use Rattle.stream_reader.specs.declared.Reader.{Reader}
 use Rattle.stream_grammar.specs.Stream.{mechanisms, isOfShot}
-use Rattle.stream_reader.specs.Reading.{fresh, held, pushed, isWhole, verdict, atEnd, keptOf}
-use Rattle.stream_grammar.specs.Fields.{settingsOf}
+use Rattle.stream_reader.specs.Reading.{fresh, held, pushed, isWhole, verdict, atEnd, payloadKept}
+use Rattle.stream_grammar.specs.Fields.{settingsRead}
 use Rattle.stream_lines.specs.Lines.{shotLine, refusedLine, stoppedLine, endLine, unlessTooLong}
 use Rattle.stream_table.specs.Table.{modelFault, settingsAnswer, Decoding, shotDecoded}
 use Rattle.stream_session.specs.declared.Known.{Known}
@@ -33,8 +33,8 @@ abbrev pub session : Reader → Known → ℕ → Bool → ℕ → Session
 session reader k shots stopped said = record { reader = reader; known = k; shots = shots; stopped = stopped; said = said }
 
 -- before the first byte
-abbrev pub start : Session
-start = session (fresh 0) (known 0 false published false) 0 false 0
+abbrev pub startSession : Session
+startSession = session (fresh 0) (known 0 false published false) 0 false 0
 
 -- what is told of a record: the session after it, and the line
 pub record Told : Type 0 where
@@ -82,7 +82,7 @@ shotTaken s model p line = tells s (shotDecoded model (s .known .settings) p (ta
 
 -- settings, which the table answers so: they replace earlier ones, and the model stays
 abbrev pub settingsTaken : Session → Answer → List ℕ → List ℕ → Told
-settingsTaken s Done p line = told (goesOn s (known (s .known .«model_length») (s .known .«has_model») (settingsOf p) true)) line
+settingsTaken s Done p line = told (goesOn s (known (s .known .«model_length») (s .known .«has_model») (settingsRead p) true)) line
 settingsTaken s (Refused r) p line = stops s r line
 
 -- ---- a record
@@ -98,7 +98,7 @@ taken t model = record { now = t; model = model }
 -- a model, which the table answers so: it replaces an earlier one, and the settings stay
 abbrev pub modelTaken : Session → Answer → List ℕ → List ℕ → List ℕ → Taken
 modelTaken s Done p model line =
-    taken (told (goesOn s (known (length p) true (s .known .settings) (s .known .«has_settings»))) line) (keptOf p model)
+    taken (told (goesOn s (known (length p) true (s .known .settings) (s .known .«has_settings»))) line) (payloadKept p model)
 modelTaken s (Refused r) p model line = taken (stops s r line) model
 
 -- a record past 41 to 45, by its kind
@@ -109,14 +109,14 @@ kindTaken s p model line =
     (taken (shotTaken s (take (s .known .«model_length») model) p line) model))
 
 -- a record, which 41 to 45 answer so
-abbrev pub judged : Session → Answer → List ℕ → List ℕ → List ℕ → Taken
-judged s Done p model line = kindTaken s p model line
-judged s (Refused r) p model line = taken (stops s r line) model
+abbrev pub recordJudged : Session → Answer → List ℕ → List ℕ → List ℕ → Taken
+recordJudged s Done p model line = kindTaken s p model line
+recordJudged s (Refused r) p model line = taken (stops s r line) model
 
 -- a whole record: its payload is what was kept of it
 unfoldable pub recordTaken : Session → List ℕ → List ℕ → List ℕ → Taken
 recordTaken s kept model line =
-    judged s (verdict (s .known .«has_model») (s .known .«has_settings») (s .reader) kept) (take (s .reader .length) kept) model line
+    recordJudged s (verdict (s .known .«has_model») (s .known .«has_settings») (s .reader) kept) (take (s .reader .length) kept) model line
 
 -- ---- a byte
 
@@ -158,8 +158,8 @@ abbrev pub textOf : Told → List ℕ
 textOf t = take (t .session .said) (t .line)
 
 -- the lines of the bytes of an input, one after the other, and the last one
-unfoldable pub written : List ℕ → Session → List ℕ → List ℕ → List ℕ → List ℕ
-written [] s kept model line = endText s
-written (b ∷ bs) s kept model line =
+unfoldable pub sessionText : List ℕ → Session → List ℕ → List ℕ → List ℕ → List ℕ
+sessionText [] s kept model line = endText s
+sessionText (b ∷ bs) s kept model line =
     let l = byteTaken s b kept model line in
-    textOf (l .taken .now) ++ written bs (l .taken .now .session) (l .kept) (l .taken .model) (l .taken .now .line)
+    textOf (l .taken .now) ++ sessionText bs (l .taken .now .session) (l .kept) (l .taken .model) (l .taken .now .line)

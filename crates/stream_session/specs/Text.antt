@@ -7,12 +7,12 @@ use lib.ListN.{length}
 use Rattle.stream_grammar.specs.Stream.{Rec, encode, judge, leftOver}
 use Rattle.stream_reader.specs.Reading.{holding}
 use Rattle.stream_session.specs.declared.Session.{Session}
-use Rattle.stream_session.specs.Shots.{Taken, judged, reads, lastText, textOf}
+use Rattle.stream_session.specs.Shots.{Taken, recordJudged, reads, lastText, textOf}
 
 -- a record at an offset: as the grammar and the table answer, with what was known before it
 unfoldable pub recordSaid : Session → ℕ → Rec → List ℕ → List ℕ → Taken
 recordSaid s offset r model line =
-    judged
+    recordJudged
     (reads s (holding offset (encode (r .kind) (r .payload))))
     (judge (s .known .«has_model») (s .known .«has_settings») (r .kind) (r .payload))
     (r .payload)

@@ -7,7 +7,7 @@ mod telling;
 ghost use mathlib.Core.Path.{_≡_};
 ghost use lib.ListN.{length};
 ghost use Rattle.numbers.specs.Loops.{over};
-ghost use Rattle.stream_session.specs.Shots.{start, told, taken, left, byteTaken, endText};
+ghost use Rattle.stream_session.specs.Shots.{startSession, told, taken, left, byteTaken, endText};
 use refusals::Answer;
 use refusals::number_of;
 use relay_settings::Settings;
@@ -33,7 +33,7 @@ pub struct Session {
 impl Session {
     // Before the first byte.
     pub fn new() -> Self
-        ensures { λ s. ⌜ s ≡ start ⌝ }
+        ensures { λ s. ⌜ s ≡ startSession ⌝ }
     {
         Self {
             reader: Reader::new(0),

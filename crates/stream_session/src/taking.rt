@@ -1,7 +1,7 @@
 // A record that has been read to its end.
 ghost use mathlib.Core.Path.{_≡_};
 ghost use lib.ListN.{take};
-ghost use Rattle.stream_reader.specs.Reading.{keptOf};
+ghost use Rattle.stream_reader.specs.Reading.{payloadKept};
 ghost use Rattle.stream_session.specs.Shots.{told, taken, tells, shotTaken, settingsTaken, modelTaken, kindTaken, recordTaken};
 ghost use Rattle.stream_table.specs.Table.{modelFault, settingsAnswer, shotDecoded};
 use crate::Known;
@@ -31,7 +31,7 @@ fn take_settings(s: Session, payload: &[u8], line: &mut [u8; 512]) -> Session
 
 // Keeps a payload at the front of a list, as far as there is room.
 fn keep(payload: &[u8], list: &mut [u8])
-    ensures { λ _. ⌜ now (list .exit) ≡ keptOf (now (payload .entry)) (now (list .entry)) ⌝ }
+    ensures { λ _. ⌜ now (list .exit) ≡ payloadKept (now (payload .entry)) (now (list .entry)) ⌝ }
 {
     let mut i = 0;
     while i < list.len() {

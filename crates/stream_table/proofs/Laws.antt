@@ -11,14 +11,14 @@ use Rattle.refusals.specs.declared.Answer.{Answer}
 use Rattle.refusals.specs.declared.Answer.the-variants.{Refused}
 use Rattle.refusals.specs.Tests.{unless, orElse}
 use Rattle.graph_lists.specs.Graph.{Graph, graph}
-use Rattle.graph_lists.specs.Model.{outcome, buildSparse}
+use Rattle.graph_lists.specs.Model.{buildOutcome, buildSparse}
 use Rattle.relay_settings.specs.declared.Settings.{Settings}
 use Rattle.relay_calls.specs.declared.Decoded.{Decoded}
 use Rattle.relay_calls.specs.declared.Decoded.the-variants as Decoded
 use Rattle.relay_calls.specs.Calls as Calls
 use Rattle.stream_grammar.specs.declared.Counts.{Counts}
 use Rattle.stream_grammar.specs.Stream.{syndrome, seed}
-use Rattle.stream_grammar.specs.Fields.{countsOf, ModelLists, modelLists, modelRead}
+use Rattle.stream_grammar.specs.Fields.{countsRead, ModelLists, modelLists, modelRead}
 use Rattle.stream_grammar.proofs.Fills.{room-parts}
 use Rattle.stream_table.specs.Table.{modelRoom, graphRoom, shotRoom, within, builtFrom, modelFault, decodedFrom, Decoding, decoding, found, shotDecoded}
 
@@ -35,7 +35,7 @@ pub counts-fit : (c : Counts) (w : Bool) → w ≡ within c → w ≡ true → (
 unfolding within
 counts-fit c w f h = room-parts (c .checks) (c .mechanisms) (c .edges) 128 256 512 (sym f ∙ h)
 
-module _ (c : Counts) (p : List ℕ) (w : Bool) (e : c ≡ countsOf p) (f : w ≡ within c) where
+module _ (c : Counts) (p : List ℕ) (w : Bool) (e : c ≡ countsRead p) (f : w ≡ within c) where
   -- a model within it, and one beyond
   pub model-within : (a : Answer) → w ≡ true → a ≡ builtFrom (c .edges) p (modelRoom c) (graphRoom c) .answer → a ≡ modelFault p
   unfolding modelFault orElse unless
@@ -64,15 +64,15 @@ module _ (e : ℕ) (p : List ℕ) (l : ModelLists) (priors : List Float) (offset
   read = modelLists priors offsets detectors
 
   -- a model that was read, and built of what was read
-  pub built-read : (a : Answer) (h : Graph) → read ≡ modelRead p l → outcome a h ≡ buildSparse e priors offsets detectors g → outcome a h ≡ builtFrom e p l g
+  pub built-read : (a : Answer) (h : Graph) → read ≡ modelRead p l → buildOutcome a h ≡ buildSparse e priors offsets detectors g → buildOutcome a h ≡ builtFrom e p l g
   unfolding builtFrom
-  built-read a h r f = subst (λ (r : ModelLists). outcome a h ≡ buildSparse e (r .priors) (r .detectorOffsets) (r .detectors) g) r f
+  built-read a h r f = subst (λ (r : ModelLists). buildOutcome a h ≡ buildSparse e (r .priors) (r .detectorOffsets) (r .detectors) g) r f
 
   -- and a shot decoded over it
-  pub decoded-built : (settings : Settings) (syndrome : List ℕ) (seed : ℕ) (lists : Calls.Lists) (a : Answer) (h : Graph) (d : Decoded) (after : Calls.Lists)
+  pub decoded-built : (settings : Settings) (syndrome : List ℕ) (seed : ℕ) (lists : Calls.DecodeLists) (a : Answer) (h : Graph) (d : Decoded) (after : Calls.DecodeLists)
       → read ≡ modelRead p l
-      → outcome a h ≡ buildSparse e priors offsets detectors g
-      → Calls.outcome d after ≡ Calls.decode e (record { graph = h; prior = priors; settings = settings; gammas = []; order = []; syndrome = syndrome; seed = seed }) lists
+      → buildOutcome a h ≡ buildSparse e priors offsets detectors g
+      → Calls.decodeOutcome d after ≡ Calls.decode e (record { graph = h; prior = priors; settings = settings; gammas = []; order = []; syndrome = syndrome; seed = seed }) lists
       → decoding d (after .correction) ≡ found (decodedFrom e p settings syndrome seed l g lists)
   unfolding decodedFrom found
   decoded-built settings syndrome seed lists a h d after q f w =
@@ -80,9 +80,9 @@ module _ (e : ℕ) (p : List ℕ) (l : ModelLists) (priors : List Float) (offset
       let r : (priors ≡ modelRead p l .priors) = ap (λ (m : ModelLists). m .priors) q in
       ap found
       (subst
-      (λ (k : Graph). Calls.outcome d after ≡ Calls.decode e (record { graph = k; prior = modelRead p l .priors; settings = settings; gammas = []; order = []; syndrome = syndrome; seed = seed }) lists)
+      (λ (k : Graph). Calls.decodeOutcome d after ≡ Calls.decode e (record { graph = k; prior = modelRead p l .priors; settings = settings; gammas = []; order = []; syndrome = syndrome; seed = seed }) lists)
       b
       (subst
-      (λ (x : List Float). Calls.outcome d after ≡ Calls.decode e (record { graph = h; prior = x; settings = settings; gammas = []; order = []; syndrome = syndrome; seed = seed }) lists)
+      (λ (x : List Float). Calls.decodeOutcome d after ≡ Calls.decode e (record { graph = h; prior = x; settings = settings; gammas = []; order = []; syndrome = syndrome; seed = seed }) lists)
       r
       w))

@@ -10,7 +10,7 @@ use Rattle.refusals.specs.declared.Refusal.the-variants.{BeyondRoom}
 use Rattle.refusals.specs.declared.Answer.{Answer}
 use Rattle.refusals.specs.Tests.{unless, orElse}
 use Rattle.graph_lists.specs.Graph.{Graph, graph}
-use Rattle.graph_lists.specs.Model.{Outcome, buildSparse}
+use Rattle.graph_lists.specs.Model.{BuildOutcome, buildSparse}
 use Rattle.relay_settings.specs.declared.Settings.{Settings}
 use Rattle.relay_settings.specs.Settings.{settingsFault}
 use Rattle.relay_calls.specs.declared.Decoded.{Decoded}
@@ -18,31 +18,31 @@ use Rattle.relay_calls.specs.declared.Decoded.the-variants as Decoded
 use Rattle.relay_calls.specs.Calls as Calls
 use Rattle.stream_grammar.specs.declared.Counts.{Counts}
 use Rattle.stream_grammar.specs.Stream.{countsWithin, seed, syndrome}
-use Rattle.stream_grammar.specs.Fields.{countsOf, ModelLists, modelLists, modelRead, settingsOf}
+use Rattle.stream_grammar.specs.Fields.{countsRead, ModelLists, modelLists, modelRead, settingsRead}
 
 -- ---- the lists that the program lends: the first n of an array that is filled with one value
 
-abbrev pub floats : ℕ → ℕ → List Float
-floats room n = take n (replicate room zero⁺)
+abbrev pub lentFloats : ℕ → ℕ → List Float
+lentFloats room n = take n (replicate room zero⁺)
 
-abbrev pub counts : ℕ → ℕ → List ℕ
-counts room n = take n (replicate room 0)
+abbrev pub lentNumbers : ℕ → ℕ → List ℕ
+lentNumbers room n = take n (replicate room 0)
 
 -- those that a model with these counts is read into
 abbrev pub modelRoom : Counts → ModelLists
-modelRoom c = modelLists (floats 256 (c .mechanisms)) (counts 257 (c .mechanisms + 1)) (counts 512 (c .edges))
+modelRoom c = modelLists (lentFloats 256 (c .mechanisms)) (lentNumbers 257 (c .mechanisms + 1)) (lentNumbers 512 (c .edges))
 
 -- those that its graph is built in
 abbrev pub graphRoom : Counts → Graph
 graphRoom c =
-    let e = counts 512 (c .edges) in
-    graph (c .checks) (c .mechanisms) e e (counts 129 (c .checks + 1)) e e (counts 257 (c .mechanisms + 1))
+    let e = lentNumbers 512 (c .edges) in
+    graph (c .checks) (c .mechanisms) e e (lentNumbers 129 (c .checks + 1)) e e (lentNumbers 257 (c .mechanisms + 1))
 
 -- those that a shot is decoded in, beside the correction that the caller lends: 16 relayed legs and the first, 17 rows of 256
-abbrev pub shotRoom : Counts → List ℕ → Calls.Lists
+abbrev pub shotRoom : Counts → List ℕ → Calls.DecodeLists
 shotRoom c correction =
-    let m = floats 256 (c .mechanisms) in
-    let e = floats 512 (c .edges) in
+    let m = lentFloats 256 (c .mechanisms) in
+    let e = lentFloats 512 (c .edges) in
     record {
       legState = replicate 17 0;
       legIterations = replicate 17 0;
@@ -63,21 +63,21 @@ unfoldable pub within : Counts → Bool
 within c = countsWithin (c .checks) (c .mechanisms) (c .edges)
 
 -- `build_sparse` of a payload, by way of lists l into the lists of a graph g
-unfoldable pub builtFrom : ℕ → List ℕ → ModelLists → Graph → Outcome
+unfoldable pub builtFrom : ℕ → List ℕ → ModelLists → Graph → BuildOutcome
 builtFrom edges p l g = let r = modelRead p l in buildSparse edges (r .priors) (r .detectorOffsets) (r .detectors) g
 
 -- a model: 44 once more, then 1 to 6
 unfoldable pub modelFault : List ℕ → Answer
 modelFault p =
-    let c = countsOf p in
+    let c = countsRead p in
     orElse (unless (within c) BeyondRoom) (builtFrom (c .edges) p (modelRoom c) (graphRoom c) .answer)
 
 -- settings: 10 to 16; their source is seeded
 unfoldable pub settingsAnswer : List ℕ → Answer
-settingsAnswer p = settingsFault (settingsOf p) 0 []
+settingsAnswer p = settingsFault (settingsRead p) 0 []
 
 -- `decode` of a shot over a model's payload, by way of the lists lent
-unfoldable pub decodedFrom : ℕ → List ℕ → Settings → List ℕ → ℕ → ModelLists → Graph → Calls.Lists → Calls.Outcome
+unfoldable pub decodedFrom : ℕ → List ℕ → Settings → List ℕ → ℕ → ModelLists → Graph → Calls.DecodeLists → Calls.DecodeOutcome
 decodedFrom edges model settings syndrome seed l g lists =
     let graph = builtFrom edges model l g .lists in
     Calls.decode edges
@@ -93,13 +93,13 @@ abbrev pub decoding : Decoded → List ℕ → Decoding
 decoding d correction = record { answer = d; correction = correction }
 
 -- what a decode leaves of interest
-unfoldable pub found : Calls.Outcome → Decoding
+unfoldable pub found : Calls.DecodeOutcome → Decoding
 found o = decoding (o .answer) (o .left .correction)
 
 -- a shot: what the decode gives, 20, 21 and 30 among it; 44 where the model is beyond the room
 unfoldable pub shotDecoded : List ℕ → Settings → List ℕ → List ℕ → Decoding
 shotDecoded model settings p correction =
-    let c = countsOf model in
+    let c = countsRead model in
     cond (within c)
     (found (decodedFrom (c .edges) model settings (syndrome p) (seed p) (modelRoom c) (graphRoom c) (shotRoom c correction)))
     (decoding (Decoded.Refused BeyondRoom) correction)

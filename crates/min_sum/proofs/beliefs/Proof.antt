@@ -1,17 +1,17 @@
 -- `min_sum::beliefs` meets its contract. A refused call leaves the lists; else the tests told all that the run asks, and the run reads no more of the graph than the four lists. Assumes nothing.
 use borrow.Author.Needs.{needs}
-use Rattle.min_sum.specs.Beliefs.{Lists, lists, listsFit, beliefsFault}
+use Rattle.min_sum.specs.Beliefs.{BeliefsLists, beliefsLists, beliefsListsFit, beliefsFault}
 use Rattle.min_sum.proofs.Calls.{Told, told, beliefs-refused, beliefs-ran}
 use Rattle.min_sum.proofs.beliefs.Statement.{statement}
 use Rattle.min_sum.proofs.beliefs.Tie as tie
 
 -- the lent lists
-abbrev lent : tie.Start → Lists
-lent c = let a = c .args in lists (a .posterior .now) (a .ewa-posterior .now) (a .c-to-v .now) (a .v-to-c .now)
+abbrev lent : tie.Start → BeliefsLists
+lent c = let a = c .args in beliefsLists (a .posterior .now) (a .ewa-posterior .now) (a .c-to-v .now) (a .v-to-c .now)
 
 -- what the tests told
 passed : (c : tie.Else1) → let a = c .before .before .before .before .before .before .before .before .before .before .before .before .before .before .before .args in Told (a .size .edges) (a .size .checks) (a .size .mechanisms) (a .check-var .now) (a .check-offset .now) (a .var-message .now) (a .var-offset .now) (a .priors .now) (a .syndrome .now) (lent (c .before .before .before .before .before .before .before .before .before .before .before .before .before .before .before))
-unfolding beliefsFault listsFit
+unfolding beliefsFault beliefsListsFit
 passed c = told _ _ _ _ _ _ _ _ _ _ _ (c .before .before .before .before .before .before .before .before .before .before .before .before .before .before .before .args .iterations) (lent (c .before .before .before .before .before .before .before .before .before .before .before .before .before .before .before)) _ _ (c .before .before .fault .ensures) (c .before .is-done .ensures) (c .if1 .left)
 
 fault-requires : tie.Need-fault-requires
@@ -21,7 +21,7 @@ is-done-requires : tie.Need-is-done-requires
 is-done-requires c κs = search needs
 
 returns : tie.Need-returns
-unfolding beliefsFault listsFit
+unfolding beliefsFault beliefsListsFit
 returns c = beliefs-refused _ _ _ _ _ _ _ _ _ _ _ _ (lent (c .before .before .before .before .before .before .before .before .before .before .before .before .before .before .before)) _ _ _ _ (c .before .before .fault .ensures) (c .before .is-done .ensures) (c .if1 .taken)
 
 ran-requires : tie.Need-ran-requires
@@ -42,7 +42,7 @@ same-length-4 : tie.Need-same-length-4
 same-length-4 c = search needs
 
 returns-2 : tie.Need-returns-2
-unfolding beliefsFault listsFit
+unfolding beliefsFault beliefsListsFit
 returns-2 c =
     beliefs-ran _ _ _ _ _ _ _ _ _ _ _ _ (lent (c .before .before .before .before .before .before .before .before .before .before .before .before .before .before .before .before .before .before .before .before .before .before .before .before .before .before .before .before)) _ _ _ _ _ (c .before .before .before .before .before .before .before .before .before .before .before .before .before .before .before .fault .ensures) (c .before .before .before .before .before .before .before .before .before .before .before .before .before .before .is-done .ensures) (c .before .before .before .before .before .before .before .before .before .before .before .before .before .if1 .left) (c .before .before .before .before .before .before .before .before .ran .ensures)
 

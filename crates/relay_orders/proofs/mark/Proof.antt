@@ -4,13 +4,13 @@ use Prim.Native.Nat.{_≤_, _<_, _-_}
 use native.Mathlib.Omega.{arith}
 use lib.ListN.{length, take}
 use lib.Seq.{take-all}
-use Rattle.relay_orders.specs.Marks.{marked}
+use Rattle.relay_orders.specs.Marks.{markedAt}
 use Rattle.relay_orders.proofs.OrderTests.{marked-turn}
 use Rattle.relay_orders.proofs.mark.Statement.{statement}
 use Rattle.relay_orders.proofs.mark.Tie as tie
 
 abbrev Inv-loop : tie.InvT-loop
-Inv-loop c entries last₀ i₀ last i = (i ≤ length entries) × (last ≡ marked c last₀ (take i entries))
+Inv-loop c entries last₀ i₀ last i = (i ≤ length entries) × (last ≡ markedAt c last₀ (take i entries))
 
 abbrev μ-loop : tie.MeasureT-loop
 μ-loop c entries last₀ i₀ last i = length entries - i
@@ -20,7 +20,7 @@ named : (c : tie.After-at Inv-loop μ-loop) → c .at .result < 65536
 named c = omega (arith, c .at .ensures, c .before .before .before .before .pre .small (c .before .before .loop .i) (c .before .loop-test .taken))
 
 loop-holds : tie.Need-loop-holds Inv-loop μ-loop
-unfolding marked
+unfolding markedAt
 loop-holds c = (omega arith, refl)
 
 at-requires : tie.Need-at-requires Inv-loop μ-loop
@@ -44,7 +44,7 @@ loop-again c =
     (omega arith, marked-turn _ _ _ _ (l .i) _ (c .before .loop-test .taken) (c .at .ensures) (l .inv .1))
 
 returns : tie.Need-returns Inv-loop μ-loop
-returns c = c .before .loop .inv .1 ∙ ap (marked _ _) (take-all _ _ (c .loop-test .left))
+returns c = c .before .loop .inv .1 ∙ ap (markedAt _ _) (take-all _ _ (c .loop-test .left))
 
 pub mark-spec : {M : Type 1} → statement M
 mark-spec =

@@ -1,7 +1,7 @@
 -- `stream_reader::read_settings` meets its contract. Field by field.
 -- Assumes nothing.
 use Rattle.stream_grammar.specs.Stream.{alphaBits, gamma0Bits, preIterations, legIterations, lowBits, highBits, stop}
-use Rattle.stream_grammar.specs.Fields.{settingsOf}
+use Rattle.stream_grammar.specs.Fields.{settingsRead}
 use borrow.Author.Needs.{needs}
 use Rattle.stream_reader.proofs.read_settings.Statement.{statement}
 use Rattle.stream_reader.proofs.read_settings.Tie as tie
@@ -37,7 +37,7 @@ number4-requires-3 : tie.Need-number4-requires-3
 number4-requires-3 c κs = search needs
 
 returns : tie.Need-returns
-unfolding settingsOf alphaBits gamma0Bits preIterations legIterations lowBits highBits stop
+unfolding settingsRead alphaBits gamma0Bits preIterations legIterations lowBits highBits stop
 returns c = rw (c .number43 .ensures .0, c .before .float-at4 .ensures, c .before .before .float-at3 .ensures, c .before .before .before .number42 .ensures .0, c .before .before .before .before .legs .ensures, c .before .before .before .before .before .number4 .ensures .0, c .before .before .before .before .before .before .float-at2 .ensures, c .before .before .before .before .before .before .before .float-at .ensures, c .before .before .before .before .before .before .before .before .schedule-of .ensures, c .before .before .before .before .before .before .before .before .before .schedule-byte .ensures)
 
 pub read-settings-spec : {M : Type 1} → statement M

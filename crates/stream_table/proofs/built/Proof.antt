@@ -1,6 +1,6 @@
 -- `stream_table::built` meets its contract. What is read is built. Assumes nothing.
 use mathlib.Core.Path.{ap}
-use Rattle.graph_lists.specs.Model.{Outcome}
+use Rattle.graph_lists.specs.Model.{BuildOutcome}
 use Rattle.stream_table.proofs.Laws.{built-read}
 use borrow.Author.Needs.{needs}
 use Rattle.stream_table.proofs.built.Statement.{statement}
@@ -40,7 +40,7 @@ same-length-9 : tie.Need-same-length-9
 same-length-9 c = search needs
 
 returns : tie.Need-returns
-returns c = ap (λ (o : Outcome). o .answer) (built-read _ _ _ _ _ _ _ _ _ (c .before .before .before .before .before .before .before .before .before .before .before .before .before .before .before .before .before .before .before .before .before .before .before .before .before .before .before .before .read-model .ensures) (c .before .before .before .before .before .before .before .before .before .before .before .before .build-sparse .ensures))
+returns c = ap (λ (o : BuildOutcome). o .answer) (built-read _ _ _ _ _ _ _ _ _ (c .before .before .before .before .before .before .before .before .before .before .before .before .before .before .before .before .before .before .before .before .before .before .before .before .before .before .before .before .read-model .ensures) (c .before .before .before .before .before .before .before .before .before .before .before .before .build-sparse .ensures))
 
 pub built-spec : {M : Type 1} → statement M
 built-spec =

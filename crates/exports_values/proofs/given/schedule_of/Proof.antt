@@ -2,12 +2,12 @@
 use Prim.Native.Nat.{ℕ, zero, suc}
 use mathlib.Core.Path.{_≡_, refl}
 use Rattle.relay_settings.specs.declared.Schedule.the-variants.{CheckSerial}
-use Rattle.exports_values.specs.Codes.{scheduleOf}
+use Rattle.exports_values.specs.Codes.{scheduleGiven}
 use Rattle.exports_values.proofs.given.schedule_of.Statement.{statement}
 use Rattle.exports_values.proofs.given.schedule_of.Tie as tie
 
 -- a byte that is not 0
-other : (n : ℕ) → (n ≡ 0 → ⊥) → CheckSerial ≡ scheduleOf n
+other : (n : ℕ) → (n ≡ 0 → ⊥) → CheckSerial ≡ scheduleGiven n
 other zero h = absurd (h refl)
 other (suc n) h = refl
 

@@ -2,12 +2,12 @@
 use Prim.Native.Nat.{ℕ, zero, suc}
 use mathlib.Core.Path.{_≡_, refl}
 use Rattle.relay_settings.specs.declared.GammaSource.the-variants.{Explicit}
-use Rattle.exports_values.specs.Codes.{sourceOf}
+use Rattle.exports_values.specs.Codes.{sourceGiven}
 use Rattle.exports_values.proofs.given.source_of.Statement.{statement}
 use Rattle.exports_values.proofs.given.source_of.Tie as tie
 
 -- a byte that is not 0
-other : (n sets : ℕ) → (n ≡ 0 → ⊥) → Explicit sets ≡ sourceOf n sets
+other : (n sets : ℕ) → (n ≡ 0 → ⊥) → Explicit sets ≡ sourceGiven n sets
 other zero sets h = absurd (h refl)
 other (suc n) sets h = refl
 

@@ -6,13 +6,13 @@ use Rattle.min_sum.proofs.Rounds.{run-is}
 use Rattle.min_sum.proofs.run.min_sum_bp.Statement.{statement}
 use Rattle.min_sum.proofs.run.min_sum_bp.Tie as tie
 
-rounds-requires : tie.Need-rounds-requires
-rounds-requires c κs = search needs
+all-rounds-requires : tie.Need-all-rounds-requires
+all-rounds-requires c κs = search needs
 
 choose-requires : tie.Need-choose-requires
 choose-requires c κs =
     let p = c .before .before .before .before .before .before .before .before .before .before .before .before .before .before .before .before .before .before .before .before .before .before .before .pre in
-    let k = c .before .before .before .before .before .before .before .before .before .rounds .kept .1 .1 .1 .1 .1 .1 .1 .1 .1 in
+    let k = c .before .before .before .before .before .before .before .before .before .all-rounds .kept .1 .1 .1 .1 .1 .1 .1 .1 .1 in
     (walks-along _ _ _ _ _ (sym (k .0 ∙ p .1 .1 .0 .0)) (p .1 .0), (k .1 .1 .0 ∙ p .1 .1 .0 .2, p .1 .1 .1))
 
 same-length : tie.Need-same-length
@@ -28,13 +28,13 @@ same-length-4 : tie.Need-same-length-4
 same-length-4 c = search needs
 
 returns : tie.Need-returns
-returns c = run-is _ _ _ _ _ _ _ _ _ _ _ _ _ _ _ (c .before .before .before .before .before .before .before .before .before .before .before .before .rounds .ensures) (c .before .before .choose .ensures)
+returns c = run-is _ _ _ _ _ _ _ _ _ _ _ _ _ _ _ (c .before .before .before .before .before .before .before .before .before .before .before .before .all-rounds .ensures) (c .before .before .choose .ensures)
 
 pub min-sum-bp-spec : {M : Type 1} → statement M
 min-sum-bp-spec =
     tie.close
     (tie.spec
-    rounds-requires
+    all-rounds-requires
     choose-requires
     same-length
     same-length-2

@@ -23,14 +23,14 @@ loop-holds : tie.Need-loop-holds Inv-loop μ-loop
 unfolding sentTo
 loop-holds c = (omega arith, omega arith, refl)
 
-mul-sent : tie.Need-mul-sent Inv-loop μ-loop
-mul-sent c = omega arith
+mul-sent-at : tie.Need-mul-sent-at Inv-loop μ-loop
+mul-sent-at c = omega arith
 
-shared-slice-read-sent : tie.Need-shared-slice-read-sent Inv-loop μ-loop
-shared-slice-read-sent c = omega arith
+shared-slice-read-sent-at : tie.Need-shared-slice-read-sent-at Inv-loop μ-loop
+shared-slice-read-sent-at c = omega arith
 
-sent-requires : tie.Need-sent-requires Inv-loop μ-loop
-sent-requires c κs = search needs
+sent-at-requires : tie.Need-sent-at-requires Inv-loop μ-loop
+sent-at-requires c κs = search needs
 
 mul-c-to-v : tie.Need-mul-c-to-v Inv-loop μ-loop
 mul-c-to-v c = omega arith
@@ -49,7 +49,7 @@ unfolding sentTo
 loop-again c =
     let l = c .before .before .before .loop in
     let h : l .i < length (l .c-to-v) = omega arith in
-    (omega arith, simp length-set (omega arith), table-turn _ _ (l .i) _ h (l .inv .2) (c .sent .ensures ∙ one-minimum _ _ _ _ (l .i)))
+    (omega arith, simp length-set (omega arith), table-turn _ _ (l .i) _ h (l .inv .2) (c .sent-at .ensures ∙ one-minimum _ _ _ _ (l .i)))
 
 same-length : tie.Need-same-length Inv-loop μ-loop
 same-length c = omega arith
@@ -67,9 +67,9 @@ send-spec =
     Inv-loop
     μ-loop
     loop-holds
-    mul-sent
-    shared-slice-read-sent
-    sent-requires
+    mul-sent-at
+    shared-slice-read-sent-at
+    sent-at-requires
     mul-c-to-v
     slice-write-c-to-v
     add-i

@@ -10,14 +10,14 @@ scan-check-requires c κs = search needs
 send-requires : tie.Need-send-requires
 send-requires c κs = search needs
 
-mul-sent : tie.Need-mul-sent
-mul-sent c = search needs
+mul-sent-at : tie.Need-mul-sent-at
+mul-sent-at c = search needs
 
-shared-slice-read-sent : tie.Need-shared-slice-read-sent
-shared-slice-read-sent c = search needs
+shared-slice-read-sent-at : tie.Need-shared-slice-read-sent-at
+shared-slice-read-sent-at c = search needs
 
-sent-requires : tie.Need-sent-requires
-sent-requires c κs = search needs
+sent-at-requires : tie.Need-sent-at-requires
+sent-at-requires c κs = search needs
 
 mul-c-to-v : tie.Need-mul-c-to-v
 mul-c-to-v c = search needs
@@ -29,7 +29,7 @@ same-length : tie.Need-same-length
 same-length c = search needs
 
 returns : tie.Need-returns
-returns c = sends-next _ _ _ _ _ _ _ _ (c .before .before .before .before .before .before .before .scan-check .ensures) (c .before .before .before .before .before .send .ensures) _ (c .before .before .if1 .taken) (c .sent .ensures)
+returns c = sends-next _ _ _ _ _ _ _ _ (c .before .before .before .before .before .before .before .scan-check .ensures) (c .before .before .before .before .before .send .ensures) _ (c .before .before .if1 .taken) (c .sent-at .ensures)
 
 same-length-2 : tie.Need-same-length-2
 same-length-2 c = search needs
@@ -43,9 +43,9 @@ update-check-spec =
     (tie.spec
     scan-check-requires
     send-requires
-    mul-sent
-    shared-slice-read-sent
-    sent-requires
+    mul-sent-at
+    shared-slice-read-sent-at
+    sent-at-requires
     mul-c-to-v
     slice-write-c-to-v
     same-length

@@ -27,14 +27,14 @@ loop-holds c = (omega arith, c .before .before .before .before .before .pre .1, 
 raw-posterior-requires : tie.Need-raw-posterior-requires Inv-loop μ-loop
 raw-posterior-requires c κs = (c .loop-test .taken, c .before .before .before .before .before .before .before .pre .0)
 
-mul-mixed : tie.Need-mul-mixed Inv-loop μ-loop
-mul-mixed c = omega arith
+mul-running-average : tie.Need-mul-running-average Inv-loop μ-loop
+mul-running-average c = omega arith
 
-slice-read-mixed : tie.Need-slice-read-mixed Inv-loop μ-loop
-slice-read-mixed c = omega arith
+slice-read-running-average : tie.Need-slice-read-running-average Inv-loop μ-loop
+slice-read-running-average c = omega arith
 
-mixed-requires : tie.Need-mixed-requires Inv-loop μ-loop
-mixed-requires c κs = search needs
+running-average-requires : tie.Need-running-average-requires Inv-loop μ-loop
+running-average-requires c κs = search needs
 
 mul-ewa-posterior : tie.Need-mul-ewa-posterior Inv-loop μ-loop
 mul-ewa-posterior c = omega arith
@@ -53,7 +53,7 @@ loop-again c =
     let l = c .before .before .before .before .loop in (
       omega arith,
       simp length-set (omega arith),
-      average-turn _ _ _ _ _ (l .ewa-posterior) (l .v) _ _ (omega arith) (l .inv .2) (l .inv .3) (c .before .before .raw-posterior .ensures) (c .mixed .ensures),
+      average-turn _ _ _ _ _ (l .ewa-posterior) (l .v) _ _ (omega arith) (l .inv .2) (l .inv .3) (c .before .before .raw-posterior .ensures) (c .running-average .ensures),
       same-after _ (l .ewa-posterior) (l .v) _ (l .inv .3),
     )
 
@@ -71,9 +71,9 @@ average-spec =
     μ-loop
     loop-holds
     raw-posterior-requires
-    mul-mixed
-    slice-read-mixed
-    mixed-requires
+    mul-running-average
+    slice-read-running-average
+    running-average-requires
     mul-ewa-posterior
     slice-write-ewa-posterior
     add-v

@@ -28,14 +28,14 @@ loop-holds c = (omega arith, refl, c .before .before .before .before .before .be
 update-variable-requires : tie.Need-update-variable-requires Inv-loop μ-loop
 update-variable-requires c κs = (c .before .loop-test .taken, (c .before .before .before .before .before .before .before .before .before .pre .0, c .before .before .loop .inv .1 ∙ c .before .before .before .before .before .before .before .before .before .pre .1 .0))
 
-mul-mixed : tie.Need-mul-mixed Inv-loop μ-loop
-mul-mixed c = omega arith
+mul-running-average : tie.Need-mul-running-average Inv-loop μ-loop
+mul-running-average c = omega arith
 
-slice-read-mixed : tie.Need-slice-read-mixed Inv-loop μ-loop
-slice-read-mixed c = omega arith
+slice-read-running-average : tie.Need-slice-read-running-average Inv-loop μ-loop
+slice-read-running-average c = omega arith
 
-mixed-requires : tie.Need-mixed-requires Inv-loop μ-loop
-mixed-requires c κs = search needs
+running-average-requires : tie.Need-running-average-requires Inv-loop μ-loop
+running-average-requires c κs = search needs
 
 mul-ewa-posterior : tie.Need-mul-ewa-posterior Inv-loop μ-loop
 mul-ewa-posterior c = omega arith
@@ -57,7 +57,7 @@ loop-again c =
       u .kept .1 .1 .1 .1 .1 .0 ∙ l .inv .1,
       simp length-set (omega arith),
       variables-further _ _ _ _ _ (l .v) (l .inv .3) (u .ensures .1),
-      average-turn _ _ _ _ _ (l .ewa-posterior) (l .v) _ _ (omega arith) (l .inv .4) (l .inv .5) (u .ensures .0) (c .mixed .ensures),
+      average-turn _ _ _ _ _ (l .ewa-posterior) (l .v) _ _ (omega arith) (l .inv .4) (l .inv .5) (u .ensures .0) (c .running-average .ensures),
       same-after _ (l .ewa-posterior) (l .v) _ (l .inv .5),
     )
 
@@ -80,9 +80,9 @@ update-and-average-spec =
     μ-loop
     loop-holds
     update-variable-requires
-    mul-mixed
-    slice-read-mixed
-    mixed-requires
+    mul-running-average
+    slice-read-running-average
+    running-average-requires
     mul-ewa-posterior
     slice-write-ewa-posterior
     add-v

@@ -5,13 +5,13 @@ use native.Mathlib.Omega.{arith}
 use lib.ListN.{length, take, length-set}
 use lib.Seq.{take-all}
 use borrow.Author.Needs.{needs}
-use Rattle.min_sum_pass.specs.MinSum.{written}
+use Rattle.min_sum_pass.specs.MinSum.{dampedMessages}
 use Rattle.min_sum_pass.proofs.Variables.{written-turn}
 use Rattle.min_sum_pass.proofs.variable.write_messages.Statement.{statement}
 use Rattle.min_sum_pass.proofs.variable.write_messages.Tie as tie
 
 abbrev Inv-loop : tie.InvT-loop
-Inv-loop entries sum c-to-v v-to-c₀ i₀ v-to-c i = (i ≤ length entries) × (length v-to-c ≡ length v-to-c₀) × (v-to-c ≡ written sum c-to-v v-to-c₀ (take i entries))
+Inv-loop entries sum c-to-v v-to-c₀ i₀ v-to-c i = (i ≤ length entries) × (length v-to-c ≡ length v-to-c₀) × (v-to-c ≡ dampedMessages sum c-to-v v-to-c₀ (take i entries))
 
 abbrev μ-loop : tie.MeasureT-loop
 μ-loop entries sum c-to-v v-to-c₀ i₀ v-to-c i = length entries - i
@@ -21,7 +21,7 @@ named : (c : tie.After-at Inv-loop μ-loop) → c .at .result < length (c .befor
 named c = omega (arith, c .at .ensures, c .before .before .before .before .before .before .pre .0 .small (c .before .before .loop .i) (c .before .loop-test .taken))
 
 loop-holds : tie.Need-loop-holds Inv-loop μ-loop
-unfolding written
+unfolding dampedMessages
 loop-holds c = (omega arith, refl, refl)
 
 at-requires : tie.Need-at-requires Inv-loop μ-loop
@@ -63,7 +63,7 @@ same-length : tie.Need-same-length Inv-loop μ-loop
 same-length c = omega arith
 
 returns : tie.Need-returns Inv-loop μ-loop
-returns c = c .before .loop .inv .2 ∙ ap (written _ _ _) (take-all _ _ (c .loop-test .left))
+returns c = c .before .loop .inv .2 ∙ ap (dampedMessages _ _ _) (take-all _ _ (c .loop-test .left))
 
 pub write-messages-spec : {M : Type 1} → statement M
 write-messages-spec =

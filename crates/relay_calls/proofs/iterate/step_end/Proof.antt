@@ -10,13 +10,13 @@ use Rattle.refusals.specs.declared.Refusal.the-variants.{NonFinite}
 use Rattle.refusals.proofs.Tests.{unless-refuse, unless-go}
 use Rattle.graph_messages.specs.Needs.{ofVariables}
 use Rattle.relay_step.specs.Step.{state}
-use Rattle.relay_calls.specs.Calls.{mechanismFault, stepEnd}
+use Rattle.relay_calls.specs.Calls.{finiteFault, stepEnd}
 use Rattle.relay_calls.proofs.iterate.step_end.Statement.{statement}
 use Rattle.relay_calls.proofs.iterate.step_end.Tie as tie
 
 abbrev Inv-loop : tie.InvT-loop
 Inv-loop var-message var-offset c-to-v v-to-c posterior v₀ v =
-    (v ≤ length posterior) × (firstOf v (mechanismFault (ofVariables (length posterior) var-message var-offset) (state c-to-v v-to-c posterior)) ≡ Done)
+    (v ≤ length posterior) × (firstOf v (finiteFault (ofVariables (length posterior) var-message var-offset) (state c-to-v v-to-c posterior)) ≡ Done)
 
 abbrev μ-loop : tie.MeasureT-loop
 μ-loop var-message var-offset c-to-v v-to-c posterior v₀ v = length posterior - v
@@ -29,7 +29,7 @@ mechanism-finite-requires : tie.Need-mechanism-finite-requires Inv-loop μ-loop
 mechanism-finite-requires c κs = (c .loop-test .taken, c .before .before .before .before .before .before .before .pre)
 
 returns : tie.Need-returns Inv-loop μ-loop
-unfolding stepEnd mechanismFault
+unfolding stepEnd finiteFault
 returns c = unless-refuse _ NonFinite (c .before .before .before .loop .v) _ _ (c .before .before .loop-test .taken) (c .before .before .before .loop .inv .1) (c .before .mechanism-finite .ensures) (c .if1 .taken)
 
 add-v : tie.Need-add-v Inv-loop μ-loop
@@ -39,7 +39,7 @@ loop-less : tie.Need-loop-less Inv-loop μ-loop
 loop-less c = omega arith
 
 loop-again : tie.Need-loop-again Inv-loop μ-loop
-unfolding mechanismFault
+unfolding finiteFault
 loop-again c = (omega arith, unless-go _ NonFinite (c .before .before .before .loop .v) _ (c .before .before .before .loop .inv .1) (c .before .mechanism-finite .ensures) (c .if1 .left))
 
 returns-2 : tie.Need-returns-2 Inv-loop μ-loop

@@ -1,7 +1,7 @@
 -- `stream_session::taking::take_shot` meets its contract. The correction has the model's mechanisms. Assumes nothing.
 use mathlib.Core.Path.{sym}
 use lib.Seq.{length-take-le}
-use Rattle.stream_grammar.specs.Fields.{countsOf}
+use Rattle.stream_grammar.specs.Fields.{countsRead}
 use Rattle.stream_session.specs.Shots.{shotTaken}
 use borrow.Author.Needs.{needs}
 use Rattle.stream_session.proofs.taking.take_shot.Statement.{statement}
@@ -26,7 +26,7 @@ shot-told-requires : tie.Need-shot-told-requires
 shot-told-requires c κs = search needs
 
 returns : tie.Need-returns
-unfolding shotTaken countsOf
+unfolding shotTaken countsRead
 returns c = rw (c .before .shot-told .ensures, c .before .before .before .before .front .ensures .1, c .before .before .before .before .before .before .read-counts .ensures)
 
 pub take-shot-spec : {M : Type 1} → statement M

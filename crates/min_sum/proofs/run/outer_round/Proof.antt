@@ -1,4 +1,4 @@
--- `min_sum::run::round` meets its contract. The invariant: the iterations passed are those of the round, from the messages that the first two calls set. Assumes nothing.
+-- `min_sum::run::outer_round` meets its contract. The invariant: the iterations passed are those of the round, from the messages that the first two calls set. Assumes nothing.
 use mathlib.Core.Path.{_≡_, sym, ap, _∙_}
 use mathlib.Core.List.{[]}
 use Prim.Native.Nat.{_≤_, _-_}
@@ -8,16 +8,16 @@ use borrow.Author.Needs.{needs}
 use Rattle.numbers.specs.Floats.{zero⁺}
 use Rattle.graph_messages.specs.Needs.{walked}
 use Rattle.graph_messages.proofs.Parts.{entries-along}
-use Rattle.min_sum_pass.specs.MinSum.{messages, belief, roundTo}
+use Rattle.min_sum_pass.specs.MinSum.{messages, belief, outerRoundTo}
 use Rattle.min_sum.proofs.Rounds.{round-starts, round-turn, round-done}
-use Rattle.min_sum.proofs.run.round.Statement.{statement}
-use Rattle.min_sum.proofs.run.round.Tie as tie
+use Rattle.min_sum.proofs.run.outer_round.Statement.{statement}
+use Rattle.min_sum.proofs.run.outer_round.Tie as tie
 
 abbrev Inv-loop : tie.InvT-loop
 Inv-loop inner outer serial scale syndrome priors check-var check-offset var-message var-offset c-to-v₀ v-to-c₀ ewa-posterior₀ i₀ c-to-v v-to-c ewa-posterior i =
     (i ≤ inner) × (length c-to-v ≡ length check-var) × (length v-to-c ≡ length check-var) × (length ewa-posterior ≡ length priors)
     × (belief (messages c-to-v v-to-c) ewa-posterior
-    ≡ roundTo (walked (length syndrome) (length priors) check-var check-offset var-message var-offset) serial scale syndrome priors outer (belief (messages [] []) ewa-posterior₀) i)
+    ≡ outerRoundTo (walked (length syndrome) (length priors) check-var check-offset var-message var-offset) serial scale syndrome priors outer (belief (messages [] []) ewa-posterior₀) i)
 
 abbrev μ-loop : tie.MeasureT-loop
 μ-loop inner outer serial scale syndrome priors check-var check-offset var-message var-offset c-to-v₀ v-to-c₀ ewa-posterior₀ i₀ c-to-v v-to-c ewa-posterior i = inner - i
@@ -44,8 +44,8 @@ loop-holds c =
 weight-requires : tie.Need-weight-requires Inv-loop μ-loop
 weight-requires c κs = search needs
 
-turn-requires : tie.Need-turn-requires Inv-loop μ-loop
-turn-requires c κs =
+iterate-requires : tie.Need-iterate-requires Inv-loop μ-loop
+iterate-requires c κs =
     let s = c .before .before .before .before .before .before .before .before .before .before .before .before .before .before .before .before .before .before .before .before .before .before .before .before in
     let l = c .before .before .before .before .before .loop in
     (s .pre .0, (s .pre .1 .0, (l .inv .1, l .inv .2, l .inv .3)))
@@ -59,7 +59,7 @@ loop-less c = omega arith
 loop-again : tie.Need-loop-again Inv-loop μ-loop
 loop-again c =
     let l = c .before .before .before .before .before .before .before .before .before .before .before .before .loop in
-    let t = c .before .before .before .before .before .before .turn in
+    let t = c .before .before .before .before .before .before .iterate in
     let k = t .kept .1 .1 .1 .1 .1 .1 .1 .1 .1 in
     (omega arith, k .0 ∙ l .inv .1, k .1 .0 ∙ l .inv .2, k .1 .1 .0 ∙ l .inv .3, round-turn _ _ _ _ _ _ (l .i) _ _ _ _ (c .before .before .before .before .before .before .before .before .before .before .weight .ensures) (l .inv .4) (t .ensures))
 
@@ -75,8 +75,8 @@ same-length-3 c = let p = c .before .before .before .before .before .before .bef
 returns : tie.Need-returns Inv-loop μ-loop
 returns c = let l = c .before .loop in round-done _ _ _ _ _ _ _ (l .i) _ _ _ _ (omega arith) (l .inv .4)
 
-pub round-spec : {M : Type 1} → statement M
-round-spec =
+pub outer-round-spec : {M : Type 1} → statement M
+outer-round-spec =
     tie.close
     (tie.spec
     Inv-loop
@@ -85,7 +85,7 @@ round-spec =
     from-variables-requires
     loop-holds
     weight-requires
-    turn-requires
+    iterate-requires
     add-i
     loop-less
     loop-again

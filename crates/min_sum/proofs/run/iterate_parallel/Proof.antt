@@ -1,10 +1,10 @@
--- `min_sum::run::parallel_turn` meets its contract. What its two passes leave is the iteration of the whole graph. Assumes nothing.
+-- `min_sum::run::iterate_parallel` meets its contract. What its two passes leave is the iteration of the whole graph. Assumes nothing.
 use mathlib.Core.Path.{sym, _∙_}
 use borrow.Author.Needs.{needs}
 use Rattle.graph_messages.proofs.Parts.{walks-along}
 use Rattle.min_sum.proofs.Rounds.{parallel-turned}
-use Rattle.min_sum.proofs.run.parallel_turn.Statement.{statement}
-use Rattle.min_sum.proofs.run.parallel_turn.Tie as tie
+use Rattle.min_sum.proofs.run.iterate_parallel.Statement.{statement}
+use Rattle.min_sum.proofs.run.iterate_parallel.Tie as tie
 
 parallel-checks-requires : tie.Need-parallel-checks-requires
 parallel-checks-requires c κs = search needs
@@ -30,8 +30,8 @@ returns c =
     let u = c .before .before .before .before .update-and-average .ensures in
     parallel-turned _ _ _ _ _ _ _ _ _ _ _ _ _ _ _ _ (c .before .before .before .before .before .before .before .before .before .before .parallel-checks .ensures) (u .0) (u .1)
 
-pub parallel-turn-spec : {M : Type 1} → statement M
-parallel-turn-spec =
+pub iterate-parallel-spec : {M : Type 1} → statement M
+iterate-parallel-spec =
     tie.close
     (tie.spec
     parallel-checks-requires

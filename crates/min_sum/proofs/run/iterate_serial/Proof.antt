@@ -1,10 +1,10 @@
--- `min_sum::run::serial_turn` meets its contract. What its two passes leave is the iteration of the whole graph. Assumes nothing.
+-- `min_sum::run::iterate_serial` meets its contract. What its two passes leave is the iteration of the whole graph. Assumes nothing.
 use mathlib.Core.Path.{sym, _∙_}
 use borrow.Author.Needs.{needs}
 use Rattle.graph_messages.proofs.Parts.{walks-along}
 use Rattle.min_sum.proofs.Rounds.{serial-turned}
-use Rattle.min_sum.proofs.run.serial_turn.Statement.{statement}
-use Rattle.min_sum.proofs.run.serial_turn.Tie as tie
+use Rattle.min_sum.proofs.run.iterate_serial.Statement.{statement}
+use Rattle.min_sum.proofs.run.iterate_serial.Tie as tie
 
 serial-checks-requires : tie.Need-serial-checks-requires
 serial-checks-requires c κs = search needs
@@ -27,8 +27,8 @@ same-length-3 c = search needs
 returns : tie.Need-returns
 returns c = serial-turned _ _ _ _ _ _ _ _ _ _ _ _ _ _ _ _ (c .before .before .before .before .before .before .before .before .before .serial-checks .ensures) (c .before .before .average .ensures)
 
-pub serial-turn-spec : {M : Type 1} → statement M
-serial-turn-spec =
+pub iterate-serial-spec : {M : Type 1} → statement M
+iterate-serial-spec =
     tie.close
     (tie.spec
     serial-checks-requires
