@@ -25,7 +25,7 @@ abbrev pub bitOf : Bool → ℕ
 bitOf true = 1
 bitOf false = 0
 
--- 65,536 times the place, 0 where there is none. The remainder keeps the code within 64 bits for every number; no place of document 01 reaches 2^32, for
+-- 65,536 times the place, 0 where there is none. The remainder keeps the code within 64 bits for every number; no place of docs/REFERENCE.md reaches 2^32, for
 -- the largest is an index of at most 65,535 times 65,536 gammas.
 abbrev pub placeCode : Place → ℕ
 placeCode Nowhere = 0

@@ -1,4 +1,4 @@
--- Tests 3 to 6 of document 01 one by one: what each tells where it is passed, and each as the code has it. Assumes nothing.
+-- Tests 3 to 6 of docs/REFERENCE.md one by one: what each tells where it is passed, and each as the code has it. Assumes nothing.
 use mathlib.Core.Bool.{Bool, true, false, _||_, not, or-assoc, true≢false, false≢true}
 use mathlib.Core.List.{List, [], _∷_, _++_}
 use mathlib.Core.Path.{_≡_, refl, sym, ap, _∙_}

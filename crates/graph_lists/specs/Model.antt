@@ -1,4 +1,4 @@
--- Models and lent graph lists: refusals 1 to 7 of document 01 in their order, and what each public call of `graph` answers and leaves in its lists.
+-- Models and lent graph lists: refusals 1 to 7 of docs/REFERENCE.md in their order, and what each public call of `graph` answers and leaves in its lists.
 -- Definitions only. Assumes nothing.
 use Prim.Native.Nat.{ℕ, suc, _*_}
 use mathlib.Core.Bool.{Bool, not, _&&_, cond}
@@ -6,6 +6,7 @@ use mathlib.Core.List.{List, [], _∷_}
 use lib.Dec.{eqb, leb, ltb}
 use lib.Ieee.{Float, nan, neg, le}
 use lib.ListN.{length, getD, take}
+use Rattle.numbers.specs.Limits.{maxChecks, maxMechanisms, maxEdges}
 use Rattle.numbers.specs.Floats.{saturation}
 use Rattle.numbers.specs.Loops.{every, row}
 use Rattle.refusals.specs.declared.Refusal.the-variants.{SizeAboveLimit, ModelListLength, BadDetectorOffsets, BadPrior, DetectorOutOfRange, DetectorRepeated, NoSuchGraph}
@@ -18,11 +19,11 @@ use Rattle.graph_lists.specs.Graph.{Graph, graphOf, among, marked, ownIn
 
 -- checks and mechanisms at most 65,536 each
 abbrev pub countsGood : ℕ → ℕ → Bool
-countsGood checks mechanisms = leb checks 65536 && leb mechanisms 65536
+countsGood checks mechanisms = leb checks maxChecks && leb mechanisms maxMechanisms
 
 -- edges at most 1,048,576
 abbrev pub edgesGood : ℕ → Bool
-edgesGood edges = leb edges 1048576
+edgesGood edges = leb edges maxEdges
 
 -- all three
 abbrev pub sizesGood : ℕ → ℕ → ℕ → Bool

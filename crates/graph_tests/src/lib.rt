@@ -13,6 +13,9 @@ ghost use Rattle.graph_lists.specs.Model.{edgesGood, rising, offsetsGood, prior
 ghost use Rattle.graph_lists.specs.Sound.{Offsets};
 use graph_lists::Size;
 use graph_lists::indices::at;
+use numbers::limits::MAX_CHECKS;
+use numbers::limits::MAX_EDGES;
+use numbers::limits::MAX_MECHANISMS;
 use refusals::Answer;
 use refusals::Refusal;
 use refusals_tests::at_most;
@@ -27,14 +30,17 @@ use refusals_tests::same_number;
 fn counts_good(checks: usize, mechanisms: usize) -> bool
     ensures { λ r. ⌜ r ≡ countsGood checks mechanisms ⌝ }
 {
-    both(at_most(checks, 65536), at_most(mechanisms, 65536))
+    both(
+        at_most(checks, MAX_CHECKS),
+        at_most(mechanisms, MAX_MECHANISMS),
+    )
 }
 
 // Edges within theirs.
 fn edges_good(edges: usize) -> bool
     ensures { λ r. ⌜ r ≡ edgesGood edges ⌝ }
 {
-    at_most(edges, 1048576)
+    at_most(edges, MAX_EDGES)
 }
 
 // All three.

@@ -1,10 +1,11 @@
--- The public call `beliefs`: its tests in document 01's order, refusal 30, and what it leaves in every lent list. Definitions only. Assumes nothing.
+-- The public call `beliefs`: its tests in the reference's order, refusal 30, and what it leaves in every lent list. Definitions only. Assumes nothing.
 use Prim.Native.Nat.{ℕ}
 use mathlib.Core.Bool.{Bool, _&&_}
 use mathlib.Core.List.{List}
 use lib.Dec.{eqb, leb}
 use lib.Ieee.{Float}
 use lib.ListN.{length, replicate}
+use Rattle.numbers.specs.Limits.{maxCount}
 use Rattle.numbers.specs.Floats.{zero⁺}
 use Rattle.refusals.specs.declared.Refusal.the-variants.{BadIterations, SyndromeLength, LentListLength}
 use Rattle.refusals.specs.declared.Answer.{Answer}
@@ -45,7 +46,7 @@ beliefsListsFit edges g l =
 unfoldable pub beliefsFault : ℕ → List Float → Graph → List ℕ → ℕ → BeliefsLists → Answer
 beliefsFault edges priors g syndrome iterations l =
     orElse (graphFault edges priors g)
-    (orElse (unless (leb iterations 65535) BadIterations)
+    (orElse (unless (leb iterations maxCount) BadIterations)
     (orElse (unless (eqb (length syndrome) (g .checks)) SyndromeLength) (unless (beliefsListsFit edges g l) LentListLength)))
 
 -- past the tests: 30 with the first mechanism whose belief is not finite, the posterior, zeroed on 30, and zeroed work lists

@@ -1,11 +1,13 @@
-// The tests before a run, in document 01's order.
+// The tests before a run, in the reference's order.
 ghost use mathlib.Core.Path.{_≡_};
 ghost use mathlib.Core.Bool.{_&&_};
 ghost use lib.Dec.{eqb, leb};
+ghost use Rattle.numbers.specs.Limits.{maxCount};
 ghost use Rattle.refusals.specs.declared.Refusal.the-variants.{BadIterations, SyndromeLength, LentListLength};
 ghost use Rattle.refusals.specs.Tests.{unless, orElse};
 ghost use Rattle.graph_lists.specs.Graph.{graph};
 ghost use Rattle.graph_lists.specs.Model.{graphFault};
+use numbers::limits::MAX_COUNT;
 use refusals::Answer;
 use refusals::Refusal;
 use refusals_tests::at_most;
@@ -36,9 +38,9 @@ fn lists_fit(size: graph::Size, n: Lengths) -> bool
 
 // 12, 20 and 22.
 fn run_fault(size: graph::Size, iterations: usize, n: Lengths) -> Answer
-    ensures { λ r. ⌜ r ≡ orElse (unless (leb iterations 65535) BadIterations) (orElse (unless (eqb (n .syndrome) (size .checks)) SyndromeLength) (unless (eqb (n .posterior) (size .mechanisms) && (eqb (n .«ewa_posterior») (size .mechanisms) && (eqb (n .«c_to_v») (size .edges) && eqb (n .«v_to_c») (size .edges)))) LentListLength)) ⌝ }
+    ensures { λ r. ⌜ r ≡ orElse (unless (leb iterations maxCount) BadIterations) (orElse (unless (eqb (n .syndrome) (size .checks)) SyndromeLength) (unless (eqb (n .posterior) (size .mechanisms) && (eqb (n .«ewa_posterior») (size .mechanisms) && (eqb (n .«c_to_v») (size .edges) && eqb (n .«v_to_c») (size .edges)))) LentListLength)) ⌝ }
 {
-    if !at_most(iterations, 65535) {
+    if !at_most(iterations, MAX_COUNT) {
         return Answer::Refused(Refusal::BadIterations);
     }
     if !same_number(n.syndrome, size.checks) {
@@ -63,7 +65,7 @@ pub(crate) fn fault(
     iterations: usize,
     n: Lengths,
 ) -> Answer
-    ensures { λ r. ⌜ r ≡ orElse (graphFault (size .edges) (now (priors .entry)) (graph (size .checks) (size .mechanisms) (now («check_var» .entry)) (now («check_message» .entry)) (now («check_offset» .entry)) (now («var_check» .entry)) (now («var_message» .entry)) (now («var_offset» .entry)))) (orElse (unless (leb iterations 65535) BadIterations) (orElse (unless (eqb (n .syndrome) (size .checks)) SyndromeLength) (unless (eqb (n .posterior) (size .mechanisms) && (eqb (n .«ewa_posterior») (size .mechanisms) && (eqb (n .«c_to_v») (size .edges) && eqb (n .«v_to_c») (size .edges)))) LentListLength))) ⌝ }
+    ensures { λ r. ⌜ r ≡ orElse (graphFault (size .edges) (now (priors .entry)) (graph (size .checks) (size .mechanisms) (now («check_var» .entry)) (now («check_message» .entry)) (now («check_offset» .entry)) (now («var_check» .entry)) (now («var_message» .entry)) (now («var_offset» .entry)))) (orElse (unless (leb iterations maxCount) BadIterations) (orElse (unless (eqb (n .syndrome) (size .checks)) SyndromeLength) (unless (eqb (n .posterior) (size .mechanisms) && (eqb (n .«ewa_posterior») (size .mechanisms) && (eqb (n .«c_to_v») (size .edges) && eqb (n .«v_to_c») (size .edges)))) LentListLength))) ⌝ }
 {
     let a = graph::check_graph(
         size,

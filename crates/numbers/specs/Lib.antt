@@ -2,3 +2,4 @@
 pub mod Floats
 pub mod Loops
 pub mod Draw
+pub mod Limits

@@ -1,5 +1,7 @@
 -- The forms that the definitions of all crates are made of: a loop that counts, a list that is written out, a part of a list.
--- `for x in xs` is mathlib's `foldl`. Definitions only. Assumes nothing.
+-- `for x in xs` is mathlib's `foldl`, and `xs[i]` is `getD xs i d`, which is d past the end of xs. Past the tests of a call no such default is ever
+-- met, and what a definition makes of lists that do not fit counts for nothing: an outcome counts only where no test refuses.
+-- Definitions only. Assumes nothing.
 use Prim.Native.Nat.{ℕ, zero, suc, _-_}
 use mathlib.Core.Bool.{Bool, true, _&&_}
 use mathlib.Core.List.{List, [], _∷_, _++_}

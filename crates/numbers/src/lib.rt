@@ -1,5 +1,7 @@
 // What the decoder reckons with, for users and all crates above: a float's magnitude and its signs, bit for bit as the Rust's; the
 // product modulo 2^64 and the generator SplitMix64, with the gamma of a draw. No function asks anything of its caller.
+pub mod limits;
+
 ghost use mathlib.Core.Path.{_≡_};
 ghost use mathlib.Core.Bool.{false};
 ghost use lib.Ieee.{inf};

@@ -2,8 +2,9 @@
 ghost use mathlib.Core.Path.{_≡_};
 ghost use Rattle.refusals.specs.Refusal.{numberOf, placeOf};
 
-// Why a call refuses, in the order of document 01's table. A number is the place: a mechanism, a check, or for
-// GammaNotFinite an index of the flat list of gammas.
+// Why a call refuses, by rising number. A number in a case is the place: a mechanism, a check, for GammaNotFinite an index of the flat list of
+// gammas, and of a text its line or shot. No call gives yet: BadProbability, BadClip, SeedsLength to TooManyStores, and all from
+// DroppedWithOthers on.
 pub enum Refusal {
     SizeAboveLimit,
     ModelListLength,
@@ -12,6 +13,8 @@ pub enum Refusal {
     DetectorOutOfRange(usize),
     DetectorRepeated(usize),
     NoSuchGraph,
+    BadProbability(usize),
+    BadClip,
     BadAlpha,
     BadGamma0,
     BadIterations,
@@ -28,6 +31,10 @@ pub enum Refusal {
     OrderNotEachOnce,
     OrderExchanged(usize),
     StateNotFinite,
+    SeedsLength,
+    ShotTooLarge,
+    ObservableTooLarge(usize),
+    TooManyStores,
     NonFinite(usize),
     CutRecord,
     UnknownKind,
@@ -35,6 +42,18 @@ pub enum Refusal {
     ShotTooEarly,
     BeyondRoom,
     BadSchedule,
+    DroppedWithOthers,
+    LineNotInSubset(usize),
+    ConstructLeftOut(usize),
+    NumberOutsideLimits(usize),
+    ForeignCharacter(usize),
+    LineLength(usize),
+    CutShot(usize),
+    FillingBitSet(usize),
+    AlistMalformed,
+    AlistDegree,
+    AlistNumber,
+    AlistDisagrees,
 }
 
 // What a call that has nothing else to say answers.
@@ -43,7 +62,7 @@ pub enum Answer {
     Refused(Refusal),
 }
 
-// Document 01's number of a refusal.
+// The number of a refusal.
 pub fn number_of(r: Refusal) -> usize
     ensures { λ n. ⌜ n ≡ numberOf r ⌝ }
 {
@@ -55,6 +74,8 @@ pub fn number_of(r: Refusal) -> usize
         Refusal::DetectorOutOfRange(_) => 5,
         Refusal::DetectorRepeated(_) => 6,
         Refusal::NoSuchGraph => 7,
+        Refusal::BadProbability(_) => 8,
+        Refusal::BadClip => 9,
         Refusal::BadAlpha => 10,
         Refusal::BadGamma0 => 11,
         Refusal::BadIterations => 12,
@@ -71,6 +92,10 @@ pub fn number_of(r: Refusal) -> usize
         Refusal::OrderNotEachOnce => 23,
         Refusal::OrderExchanged(_) => 24,
         Refusal::StateNotFinite => 25,
+        Refusal::SeedsLength => 26,
+        Refusal::ShotTooLarge => 27,
+        Refusal::ObservableTooLarge(_) => 28,
+        Refusal::TooManyStores => 29,
         Refusal::NonFinite(_) => 30,
         Refusal::CutRecord => 40,
         Refusal::UnknownKind => 41,
@@ -78,6 +103,18 @@ pub fn number_of(r: Refusal) -> usize
         Refusal::ShotTooEarly => 43,
         Refusal::BeyondRoom => 44,
         Refusal::BadSchedule => 45,
+        Refusal::DroppedWithOthers => 46,
+        Refusal::LineNotInSubset(_) => 50,
+        Refusal::ConstructLeftOut(_) => 51,
+        Refusal::NumberOutsideLimits(_) => 52,
+        Refusal::ForeignCharacter(_) => 55,
+        Refusal::LineLength(_) => 56,
+        Refusal::CutShot(_) => 57,
+        Refusal::FillingBitSet(_) => 58,
+        Refusal::AlistMalformed => 60,
+        Refusal::AlistDegree => 61,
+        Refusal::AlistNumber => 62,
+        Refusal::AlistDisagrees => 63,
     }
 }
 
@@ -99,6 +136,8 @@ pub fn place_of(r: Refusal) -> Place
         Refusal::DetectorOutOfRange(m) => Place::At(m),
         Refusal::DetectorRepeated(m) => Place::At(m),
         Refusal::NoSuchGraph => Place::Nowhere,
+        Refusal::BadProbability(m) => Place::At(m),
+        Refusal::BadClip => Place::Nowhere,
         Refusal::BadAlpha => Place::Nowhere,
         Refusal::BadGamma0 => Place::Nowhere,
         Refusal::BadIterations => Place::Nowhere,
@@ -115,6 +154,10 @@ pub fn place_of(r: Refusal) -> Place
         Refusal::OrderNotEachOnce => Place::Nowhere,
         Refusal::OrderExchanged(c) => Place::At(c),
         Refusal::StateNotFinite => Place::Nowhere,
+        Refusal::SeedsLength => Place::Nowhere,
+        Refusal::ShotTooLarge => Place::Nowhere,
+        Refusal::ObservableTooLarge(m) => Place::At(m),
+        Refusal::TooManyStores => Place::Nowhere,
         Refusal::NonFinite(m) => Place::At(m),
         Refusal::CutRecord => Place::Nowhere,
         Refusal::UnknownKind => Place::Nowhere,
@@ -122,5 +165,17 @@ pub fn place_of(r: Refusal) -> Place
         Refusal::ShotTooEarly => Place::Nowhere,
         Refusal::BeyondRoom => Place::Nowhere,
         Refusal::BadSchedule => Place::Nowhere,
+        Refusal::DroppedWithOthers => Place::Nowhere,
+        Refusal::LineNotInSubset(l) => Place::At(l),
+        Refusal::ConstructLeftOut(l) => Place::At(l),
+        Refusal::NumberOutsideLimits(l) => Place::At(l),
+        Refusal::ForeignCharacter(s) => Place::At(s),
+        Refusal::LineLength(s) => Place::At(s),
+        Refusal::CutShot(s) => Place::At(s),
+        Refusal::FillingBitSet(s) => Place::At(s),
+        Refusal::AlistMalformed => Place::Nowhere,
+        Refusal::AlistDegree => Place::Nowhere,
+        Refusal::AlistNumber => Place::Nowhere,
+        Refusal::AlistDisagrees => Place::Nowhere,
     }
 }

@@ -1,4 +1,4 @@
--- The public calls of `relay`: `iteration`, `decode_in_order`, `decode` and `leg_record`. For each its tests in document 01's order, its answer, and what it
+-- The public calls of `relay`: `iteration`, `decode_in_order`, `decode` and `leg_record`. For each its tests in the reference's order, its answer, and what it
 -- leaves in every lent list. Definitions only. Assumes nothing.
 use Prim.Native.Nat.{ℕ, zero, suc, _*_}
 use mathlib.Core.Bool.{Bool, true, false, _&&_, cond}
@@ -223,7 +223,7 @@ withOrder x order =
 unfoldable pub decode : ℕ → Shot → DecodeLists → DecodeOutcome
 decode edges x l = decodeInOrder edges (withOrder x (upto (x .graph .checks))) l
 
--- document 01's words for an answer: the refusal, if there is one; converged or not; executed legs; total iterations; and the weight, if there is one
+-- the reference's words for an answer: the refusal, if there is one; converged or not; executed legs; total iterations; and the weight, if there is one
 pub record Summary : Type 0 where
   pub refusal : Answer
   pub converged : Bool
@@ -251,7 +251,7 @@ pub record LegValues : Type 0 where
 abbrev pub legValues : ℕ → ℕ → Float → LegValues
 legValues s i w = record { legState = s; legIterations = i; legWeight = w }
 
--- document 01's values of each record
+-- the reference's values of each record
 abbrev pub valuesOf : LegRecord → LegValues
 valuesOf (LegRecord.Converged weight iterations) = legValues 2 iterations weight
 valuesOf (LegRecord.RanOut iterations) = legValues 1 iterations zero⁺

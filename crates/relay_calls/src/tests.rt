@@ -1,9 +1,10 @@
-// The tests before a single iteration, in document 01's order, and those of a syndrome.
+// The tests before a single iteration, in the reference's order, and those of a syndrome.
 ghost use mathlib.Core.Path.{_≡_};
 ghost use mathlib.Core.List.{[]};
 ghost use Prim.Native.Nat.{_≤_};
 ghost use lib.Dec.{leb};
 ghost use lib.ListN.{length};
+ghost use Rattle.numbers.specs.Limits.{maxChecks};
 ghost use Rattle.refusals.specs.declared.Refusal.the-variants.{BadAlpha, LentListLength, StateNotFinite};
 ghost use Rattle.refusals.specs.Tests.{unless as unlessOf, orElse, firstOf};
 ghost use Rattle.graph_lists.specs.Graph.{graph};
@@ -116,7 +117,7 @@ fn step_fault(
     posterior: &[f64],
     bias: &[f64],
 ) -> Answer
-    requires { ⌜ size .checks ≤ 65536 ⌝ }
+    requires { ⌜ size .checks ≤ maxChecks ⌝ }
     ensures { λ r. ⌜ r ≡ orElse (unlessOf (alphaGood alpha) BadAlpha) (orElse (syndromeFault (size .checks) (now (syndrome .entry))) (orElse (unlessOf (stepFits (size .edges) (ofVariables (size .mechanisms) [] []) (now (gamma .entry)) (stepLists (state (now («c_to_v» .entry)) (now («v_to_c» .entry)) (now (posterior .entry))) (now (bias .entry)))) LentListLength) (orElse (namesFault (size .checks) (now (order .entry))) (unlessOf (stateFinite (now (gamma .entry)) (state (now («c_to_v» .entry)) (now («v_to_c» .entry)) (now (posterior .entry)))) StateNotFinite)))) ⌝ }
 {
     let fit = lists_fit(

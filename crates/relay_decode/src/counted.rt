@@ -2,12 +2,14 @@
 ghost use mathlib.Core.Path.{_≡_};
 ghost use Prim.Native.Nat.{suc, _*_, _≤_};
 ghost use lib.ListN.{length};
+ghost use Rattle.numbers.specs.Limits.{maxChecks};
 ghost use Rattle.numbers.specs.Loops.{upto};
 ghost use Rattle.relay_calls.specs.Decode.{decodeLegs};
 ghost use Rattle.relay_calls.specs.Calls.{decodeOutcome, afterLegs};
 ghost use Rattle.relay_record.specs.Kept.{shotOf, Reads};
 use crate::all_legs::decode_fronts;
 use graph_lists::indices::number;
+use numbers::limits::MAX_CHECKS;
 use relay_calls::Decoded;
 use relay_settings::Settings;
 
@@ -67,7 +69,7 @@ fn decode_few(
     )
 }
 
-// A decode in index order, of up to 65536 checks.
+// A decode in index order, of up to 65,536 checks.
 fn decode_many(
     t: Settings,
     gammas: &[f64],
@@ -89,7 +91,7 @@ fn decode_many(
     c_to_v: &mut [f64],
     v_to_c: &mut [f64],
 ) -> Decoded
-    requires { ⌜ length (now syndrome) ≤ 65536 ⌝ }
+    requires { ⌜ length (now syndrome) ≤ maxChecks ⌝ }
     requires { ⌜ Reads t (now gammas) (now syndrome) (now priors) (now «check_var») (now «check_offset») (now «var_message») (now «var_offset») (upto (length (now syndrome))) ⌝ }
     requires { ⌜ (suc (t .«num_legs») ≤ length (now «leg_state»)) × (suc (t .«num_legs») ≤ length (now «leg_iterations»)) × (suc (t .«num_legs») ≤ length (now «leg_weight»)) × (suc (t .«num_legs») * length (now priors) ≤ length (now rows)) ⌝ }
     requires { ⌜ (length (now correction) ≡ length (now priors)) × (length (now posterior) ≡ length (now priors)) × (length (now gamma) ≡ length (now priors)) × (length (now bias) ≡ length (now priors)) ⌝ }
@@ -97,7 +99,7 @@ fn decode_many(
     ensures { λ r. ⌜ decodeOutcome r (record { legState = now («leg_state» .exit); legIterations = now («leg_iterations» .exit); legWeight = now («leg_weight» .exit); rows = now (rows .exit); correction = now (correction .exit); posterior = now (posterior .exit); gamma = now (gamma .exit); bias = now (bias .exit); cToV = now («c_to_v» .exit); vToC = now («v_to_c» .exit) }) ≡ afterLegs (length (now («check_var» .entry))) (shotOf t (now (gammas .entry)) seed (now (syndrome .entry)) (now (priors .entry)) (now («check_var» .entry)) (now («check_offset» .entry)) (now («var_message» .entry)) (now («var_offset» .entry)) (upto (length (now (syndrome .entry))))) (decodeLegs (shotOf t (now (gammas .entry)) seed (now (syndrome .entry)) (now (priors .entry)) (now («check_var» .entry)) (now («check_offset» .entry)) (now («var_message» .entry)) (now («var_offset» .entry)) (upto (length (now (syndrome .entry)))))) (record { legState = now («leg_state» .entry); legIterations = now («leg_iterations» .entry); legWeight = now («leg_weight» .entry); rows = now (rows .entry); correction = now (correction .entry); posterior = now (posterior .entry); gamma = now (gamma .entry); bias = now (bias .entry); cToV = now («c_to_v» .entry); vToC = now («v_to_c» .entry) }) ⌝ }
 {
     let checks = syndrome.len();
-    let mut order = [0u32; 65536];
+    let mut order = [0u32; MAX_CHECKS];
     number(&mut order[0..checks]);
     decode_fronts(
         t,
@@ -145,7 +147,7 @@ pub fn decode_counted(
     c_to_v: &mut [f64],
     v_to_c: &mut [f64],
 ) -> Decoded
-    requires { ⌜ length (now syndrome) ≤ 65536 ⌝ }
+    requires { ⌜ length (now syndrome) ≤ maxChecks ⌝ }
     requires { ⌜ Reads t (now gammas) (now syndrome) (now priors) (now «check_var») (now «check_offset») (now «var_message») (now «var_offset») (upto (length (now syndrome))) ⌝ }
     requires { ⌜ (suc (t .«num_legs») ≤ length (now «leg_state»)) × (suc (t .«num_legs») ≤ length (now «leg_iterations»)) × (suc (t .«num_legs») ≤ length (now «leg_weight»)) × (suc (t .«num_legs») * length (now priors) ≤ length (now rows)) ⌝ }
     requires { ⌜ (length (now correction) ≡ length (now priors)) × (length (now posterior) ≡ length (now priors)) × (length (now gamma) ≡ length (now priors)) × (length (now bias) ≡ length (now priors)) ⌝ }

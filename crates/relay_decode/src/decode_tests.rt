@@ -1,10 +1,11 @@
-// The tests before a decode, in document 01's order.
+// The tests before a decode, in the reference's order.
 ghost use mathlib.Core.Path.{_≡_};
 ghost use mathlib.Core.Bool.{_&&_};
 ghost use mathlib.Core.List.{[]};
 ghost use Prim.Native.Nat.{suc, _*_, _≤_};
 ghost use lib.Dec.{eqb, leb};
 ghost use lib.ListN.{length};
+ghost use Rattle.numbers.specs.Limits.{maxChecks, maxMechanisms, maxCount};
 ghost use Rattle.refusals.specs.Tests.{orElse};
 ghost use Rattle.graph_lists.specs.Graph.{graph};
 ghost use Rattle.graph_lists.specs.Sound.{Offsets, Keys};
@@ -37,7 +38,7 @@ fn legs_fit(
     leg_weight: &[f64],
     rows: &[u8],
 ) -> bool
-    requires { ⌜ («num_legs» ≤ 65535) × (mechanisms ≤ 65536) ⌝ }
+    requires { ⌜ («num_legs» ≤ maxCount) × (mechanisms ≤ maxMechanisms) ⌝ }
     ensures { λ r. ⌜ r ≡ (leb (suc «num_legs») (length (now («leg_state» .entry))) && (leb (suc «num_legs») (length (now («leg_iterations» .entry))) && (leb (suc «num_legs») (length (now («leg_weight» .entry))) && leb (suc «num_legs» * mechanisms) (length (now (rows .entry)))))) ⌝ }
 {
     let legs = num_legs + 1;
@@ -154,9 +155,9 @@ fn order_fault(
     check_offset: &[u32],
     order: &[u32],
 ) -> Answer
-    requires { ⌜ checks ≤ 65536 ⌝ }
+    requires { ⌜ checks ≤ maxChecks ⌝ }
     requires { ⌜ Offsets checks (length (now «check_var»)) (now «check_offset») ⌝ }
-    requires { ⌜ Keys 65536 (now «check_var») ⌝ }
+    requires { ⌜ Keys maxMechanisms (now «check_var») ⌝ }
     ensures { λ r. ⌜ r ≡ orElse (namesFault checks (now (order .entry))) (exchangeFault schedule (ofChecks checks (now («check_var» .entry)) (now («check_offset» .entry))) (now (order .entry))) ⌝ }
 {
     if is_index_order(checks, order) {

@@ -1,4 +1,4 @@
--- The gammas of a leg: `prepare_relay_gamma` of relay.rs, with document 01's seeded draw for the Rust's generator. Definitions only. Assumes nothing.
+-- The gammas of a leg: `prepare_relay_gamma` of relay.rs, with the reference's seeded draw for the Rust's generator. Definitions only. Assumes nothing.
 use Prim.Native.Nat.{ℕ, zero, suc, _+_, _-_, _*_, _%_}
 use mathlib.Core.List.{List, [], _∷_, _++_}
 use lib.Bits.{bitXor}

@@ -2,6 +2,7 @@
 ghost use mathlib.Core.Path.{_≡_};
 ghost use Prim.Native.Nat.{ℕ, _+_, _-_, _*_, _%_, _<_, _≤_};
 ghost use lib.ListN.{length};
+ghost use Rattle.numbers.specs.Limits.{maxCount};
 ghost use Rattle.numbers.specs.Loops.{part};
 ghost use Rattle.relay_settings.specs.declared.GammaSource.the-variants.{Explicit};
 ghost use Rattle.relay_gammas.specs.Gammas.{drawn, relayGamma, gammaOf};
@@ -53,7 +54,7 @@ fn relay_gamma(
     leg: usize,
     gamma: &mut [f64],
 )
-    requires { ⌜ (0 < leg) × (leg ≤ 65535) ⌝ }
+    requires { ⌜ (0 < leg) × (leg ≤ maxCount) ⌝ }
     requires { ⌜ ((sets : ℕ) → source ≡ Explicit sets → (0 < sets) × (length (now flat) ≡ sets * length (now gamma))) ⌝ }
     ensures { λ _. ⌜ now (gamma .exit) ≡ relayGamma source low high (now (flat .entry)) (length (now (gamma .entry))) seed leg ⌝ }
 {
@@ -65,7 +66,7 @@ fn relay_gamma(
 
 // The gammas of any leg: gamma0 in leg zero.
 pub fn prepare_gamma(t: Settings, flat: &[f64], seed: u64, leg: usize, gamma: &mut [f64])
-    requires { ⌜ leg ≤ 65535 ⌝ }
+    requires { ⌜ leg ≤ maxCount ⌝ }
     requires { ⌜ (0 < leg → (sets : ℕ) → t .«gamma_source» ≡ Explicit sets → (0 < sets) × (length (now flat) ≡ sets * length (now gamma))) ⌝ }
     ensures { λ _. ⌜ now (gamma .exit) ≡ gammaOf t (now (flat .entry)) (length (now (gamma .entry))) seed leg ⌝ }
 {

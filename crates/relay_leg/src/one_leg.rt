@@ -3,6 +3,7 @@ ghost use mathlib.Core.Path.{_≡_};
 ghost use mathlib.Core.List.{[]};
 ghost use Prim.Native.Nat.{_+_, _*_, _<_, _≤_, suc};
 ghost use lib.ListN.{length};
+ghost use Rattle.numbers.specs.Limits.{maxCount};
 ghost use Rattle.graph_lists.specs.Sound.{Keys};
 ghost use Rattle.graph_messages.specs.Needs.{walked};
 ghost use Rattle.relay_step.specs.Step.{state};
@@ -64,7 +65,7 @@ fn execute_leg(
     requires { ⌜ (length (now «c_to_v») ≡ length (now «check_var»)) × (length (now «v_to_c») ≡ length (now «check_var»)) ⌝ }
     ensures ran { λ r. ⌜ legOf (r .converged) (r .iterations) (state (now («c_to_v» .exit)) (now («v_to_c» .exit)) (now (posterior .exit))) ≡ executedLeg (shotOf t (now (gammas .entry)) seed (now (syndrome .entry)) (now (priors .entry)) (now («check_var» .entry)) (now («check_offset» .entry)) (now («var_message» .entry)) (now («var_offset» .entry)) (now (order .entry))) leg (now (posterior .entry)) ⌝ }
     ensures bits { λ _. ⌜ now (bits .exit) ≡ hardDecision (now (posterior .exit)) ⌝ }
-    ensures few { λ r. ⌜ r .iterations ≤ 65535 ⌝ }
+    ensures few { λ r. ⌜ r .iterations ≤ maxCount ⌝ }
 {
     let schedule = t.schedule;
     let alpha = t.alpha;

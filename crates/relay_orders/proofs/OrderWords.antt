@@ -1,4 +1,4 @@
--- The tests 23 and 24 say what document 01's words say by place, and the index order passes both. Assumes nothing.
+-- The tests 23 and 24 say what the reference's words say by place, and the index order passes both. Assumes nothing.
 use Prim.Native.Nat.{ℕ, zero, suc, _<_, _≤_}
 use mathlib.Core.Path.{_≡_, refl, sym, _∙_, ap, subst}
 use mathlib.Core.Bool.{Bool, true, false, _&&_, _||_, true≢false}
@@ -99,7 +99,7 @@ module _ (g : Graph) (order : List ℕ) where
   searched zero = clear (λ j h. absurd (omega arith))
   searched (suc n) = search-on n (Late n) refl (searched n)
 
-  -- 24's place is what document 01 says
+  -- 24's place is what the reference says
   pub exchanged-is : (c : ℕ) → (exchanged entries [] order ≡ Refused (OrderExchanged c)) ↔ FirstLate g order c
   exchanged-is c = (λ e. go e (searched (length order)), first-late c)
     where

@@ -1,4 +1,4 @@
--- Which orders of checks are taken: refusals 23 and 24 of document 01, in its words. Definitions only. Assumes nothing.
+-- Which orders of checks are taken: refusals 23 and 24 of docs/REFERENCE.md, in its words. Definitions only. Assumes nothing.
 use Prim.Native.Nat.{ℕ, suc, _<_, _≤_}
 use mathlib.Core.Path.{_≡_}
 use mathlib.Core.Bool.{Bool, true, false, _&&_, _||_, cond}
@@ -59,7 +59,7 @@ unfoldable pub exchangeFault : Schedule → Graph → List ℕ → Answer
 exchangeFault Flooding g order = Done
 exchangeFault CheckSerial g order = exchanged (checkEntries g) [] order
 
--- ---- the same in document 01's words, by place: `relay`'s `Theorems` ties the tests to them, by proofs/OrderWords.antt
+-- ---- the same in the reference's words, by place: `relay`'s `Theorems` ties the tests to them, by proofs/OrderWords.antt
 
 -- the order names each check once, and nothing else
 pub record NamesOnce (checks : ℕ) (order : List ℕ) : Type 0 where

@@ -4,25 +4,28 @@ ghost use mathlib.Core.Bool.{true};
 ghost use mathlib.Core.List.{[]};
 ghost use Prim.Native.Nat.{_≤_};
 ghost use lib.ListN.{length};
+ghost use Rattle.numbers.specs.Limits.{maxChecks, maxMechanisms};
 ghost use Rattle.numbers.specs.Loops.{row, upto};
 ghost use Rattle.graph_lists.specs.Sound.{Offsets, Keys};
 ghost use Rattle.graph_messages.specs.Needs.{ofChecks};
 ghost use Rattle.relay_orders.specs.Order.{namesOnce, exchanged, namesFault, exchangeFault};
 ghost use Rattle.relay_orders.specs.Marks.{markedAt, overtaken};
 use graph_lists::indices::at;
+use numbers::limits::MAX_CHECKS;
+use numbers::limits::MAX_MECHANISMS;
 use refusals::Answer;
 use refusals::Refusal;
 use relay_settings::Schedule;
 
 // Whether the order names each check once.
 fn names_each_once(checks: usize, order: &[u32]) -> bool
-    requires { ⌜ checks ≤ 65536 ⌝ }
+    requires { ⌜ checks ≤ maxChecks ⌝ }
     ensures { λ r. ⌜ r ≡ namesOnce checks (now (order .entry)) ⌝ }
 {
     if order.len() != checks {
         return false;
     }
-    let mut seen = [0u8; 65536];
+    let mut seen = [0u8; MAX_CHECKS];
     let mut i = 0;
     while i < checks {
         let c = at(order, i);
@@ -40,7 +43,7 @@ fn names_each_once(checks: usize, order: &[u32]) -> bool
 
 // Test 23.
 pub fn names_fault(checks: usize, order: &[u32]) -> Answer
-    requires { ⌜ checks ≤ 65536 ⌝ }
+    requires { ⌜ checks ≤ maxChecks ⌝ }
     ensures { λ r. ⌜ r ≡ namesFault checks (now (order .entry)) ⌝ }
 {
     if names_each_once(checks, order) {
@@ -51,8 +54,8 @@ pub fn names_fault(checks: usize, order: &[u32]) -> Answer
 
 // Whether a mechanism of these entries was last named by a check above c. `last` has that check for
 // each mechanism, and 0 where there is none: no check is below 0.
-fn is_overtaken(c: u16, entries: &[u32], last: &[u16; 65536]) -> bool
-    requires { ⌜ Keys 65536 (now entries) ⌝ }
+fn is_overtaken(c: u16, entries: &[u32], last: &[u16; MAX_MECHANISMS]) -> bool
+    requires { ⌜ Keys maxMechanisms (now entries) ⌝ }
     ensures { λ r. ⌜ r ≡ overtaken c (now (last .entry)) (now (entries .entry)) ⌝ }
 {
     let mut i = 0;
@@ -67,8 +70,8 @@ fn is_overtaken(c: u16, entries: &[u32], last: &[u16; 65536]) -> bool
 }
 
 // The check c has named the mechanisms of these entries last.
-fn mark(c: u16, entries: &[u32], last: &mut [u16; 65536])
-    requires { ⌜ Keys 65536 (now entries) ⌝ }
+fn mark(c: u16, entries: &[u32], last: &mut [u16; MAX_MECHANISMS])
+    requires { ⌜ Keys maxMechanisms (now entries) ⌝ }
     ensures { λ _. ⌜ now (last .exit) ≡ markedAt c (now (last .entry)) (now (entries .entry)) ⌝ }
 {
     let mut i = 0;
@@ -81,13 +84,13 @@ fn mark(c: u16, entries: &[u32], last: &mut [u16; 65536])
 
 // The first check in the order that shares a mechanism with a higher one named before it.
 fn exchanged_check(checks: usize, check_var: &[u32], check_offset: &[u32], order: &[u32]) -> Answer
-    requires { ⌜ checks ≤ 65536 ⌝ }
+    requires { ⌜ checks ≤ maxChecks ⌝ }
     requires { ⌜ Offsets checks (length (now «check_var»)) (now «check_offset») ⌝ }
-    requires { ⌜ Keys 65536 (now «check_var») ⌝ }
+    requires { ⌜ Keys maxMechanisms (now «check_var») ⌝ }
     requires { ⌜ namesOnce checks (now order) ≡ true ⌝ }
     ensures { λ r. ⌜ r ≡ exchanged (λ c. row (now («check_offset» .entry)) c (now («check_var» .entry))) [] (now (order .entry)) ⌝ }
 {
-    let mut last = [0u16; 65536];
+    let mut last = [0u16; MAX_MECHANISMS];
     let mut i = 0;
     while i < order.len() {
         let c = at(order, i);
@@ -128,9 +131,9 @@ pub fn exchange_fault(
     check_offset: &[u32],
     order: &[u32],
 ) -> Answer
-    requires { ⌜ checks ≤ 65536 ⌝ }
+    requires { ⌜ checks ≤ maxChecks ⌝ }
     requires { ⌜ Offsets checks (length (now «check_var»)) (now «check_offset») ⌝ }
-    requires { ⌜ Keys 65536 (now «check_var») ⌝ }
+    requires { ⌜ Keys maxMechanisms (now «check_var») ⌝ }
     requires { ⌜ namesOnce checks (now order) ≡ true ⌝ }
     ensures { λ r. ⌜ r ≡ exchangeFault schedule (ofChecks checks (now («check_var» .entry)) (now («check_offset» .entry))) (now (order .entry)) ⌝ }
 {

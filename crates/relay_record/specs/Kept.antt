@@ -7,6 +7,7 @@ use mathlib.Core.List.{List}
 use mathlib.Core.Option.{Option, none, some}
 use lib.Ieee.{Float, lt}
 use lib.ListN.{length, getD, set, replicate}
+use Rattle.numbers.specs.Limits.{maxMechanisms, maxCount}
 use Rattle.numbers.specs.Floats.{zero⁺}
 use Rattle.numbers.specs.Loops.{spliced}
 use Rattle.refusals.specs.declared.Answer.{Answer}
@@ -43,12 +44,12 @@ pub record Reads (t : Settings) (flat : List Float) (syndrome : List ℕ) (prior
   pub check-walks : Walks (length syndrome) (length prior) cv co
   pub var-walks : Walks (length prior) (length cv) vm vo
   pub named : Keys (length syndrome) order
-  pub mechanisms-few : length prior ≤ 65536
-  pub legs-few : t .«num_legs» ≤ 65535
+  pub mechanisms-few : length prior ≤ maxMechanisms
+  pub legs-few : t .«num_legs» ≤ maxCount
   pub pre-some : 0 < t .«pre_iterations»
-  pub pre-few : t .«pre_iterations» ≤ 65535
+  pub pre-few : t .«pre_iterations» ≤ maxCount
   pub leg-some : 0 < t .«num_legs» → 0 < t .«leg_iterations»
-  pub leg-few : t .«leg_iterations» ≤ 65535
+  pub leg-few : t .«leg_iterations» ≤ maxCount
   pub sets-many : 0 < t .«num_legs» → (sets : ℕ) → t .«gamma_source» ≡ Explicit sets → (0 < sets) × (length flat ≡ sets * length prior)
 
 -- ---- between legs

@@ -1,10 +1,11 @@
--- Relay's settings: the published operating point, and refusals 10 to 19 of document 01 in their order. Definitions only. Assumes nothing.
+-- Relay's settings: the published operating point, and refusals 10 to 19 of docs/REFERENCE.md in their order. Definitions only. Assumes nothing.
 use Prim.Native.Nat.{ℕ, _*_}
 use mathlib.Core.Bool.{Bool, _&&_, _||_}
 use mathlib.Core.List.{List}
 use lib.Dec.{eqb, leb}
 use lib.Ieee.{Float, nan, binary64, ofBits, lt, le}
 use lib.ListN.{length, getD}
+use Rattle.numbers.specs.Limits.{maxCount}
 use Rattle.numbers.specs.Floats.{_-ᶠ_, zero⁺, one⁺, isFinite}
 use Rattle.refusals.specs.declared.Refusal.the-variants.{BadAlpha, BadGamma0, BadIterations, TooManyLegs, BadLegIterations, BadGammaInterval, BadStop, NoGammaSets, GammaSetsLength, GammaNotFinite}
 use Rattle.refusals.specs.declared.Answer.{Answer}
@@ -39,11 +40,11 @@ alphaGood alpha = isFinite alpha && lt zero⁺ alpha
 
 -- 12: from 1 to 65,535
 unfoldable pub preGood : ℕ → Bool
-preGood n = leb 1 n && leb n 65535
+preGood n = leb 1 n && leb n maxCount
 
 -- 14: at most 65,535, and 0 only where there are no legs
 unfoldable pub legIterationsGood : ℕ → ℕ → Bool
-legIterationsGood legs n = leb n 65535 && (leb 1 n || eqb legs 0)
+legIterationsGood legs n = leb n maxCount && (leb 1 n || eqb legs 0)
 
 -- 15: both ends and their span finite, and low not above high
 unfoldable pub intervalGood : Float → Float → Bool
@@ -51,7 +52,7 @@ intervalGood low high = isFinite low && (isFinite high && (isFinite (high -ᶠ l
 
 -- 18: at most 65,535 sets, and as many gammas as the sets have mechanisms
 unfoldable pub setsGood : ℕ → ℕ → ℕ → Bool
-setsGood sets mechanisms gammas = leb sets 65535 && eqb gammas (sets * mechanisms)
+setsGood sets mechanisms gammas = leb sets maxCount && eqb gammas (sets * mechanisms)
 
 -- 19 for one gamma of the flat list
 unfoldable pub gammaFault : List Float → ℕ → Answer
@@ -72,7 +73,7 @@ settingsFault t mechanisms gammas =
     orElse (unless (alphaGood (t .alpha)) BadAlpha)
     (orElse (unless (isFinite (t .gamma0)) BadGamma0)
     (orElse (unless (preGood (t .«pre_iterations»)) BadIterations)
-    (orElse (unless (leb (t .«num_legs») 65535) TooManyLegs)
+    (orElse (unless (leb (t .«num_legs») maxCount) TooManyLegs)
     (orElse (unless (legIterationsGood (t .«num_legs») (t .«leg_iterations»)) BadLegIterations)
     (orElse (unless (intervalGood (t .«gamma_low») (t .«gamma_high»)) BadGammaInterval)
     (orElse (unless (leb 1 (t .«stop_after_converged»)) BadStop) (sourceFault (t .«gamma_source») (t .«num_legs») mechanisms gammas)))))))

@@ -10,6 +10,7 @@ ghost use Rattle.numbers.specs.Floats.{zero⁺};
 ghost use Rattle.refusals.specs.Tests.{firstOf};
 ghost use Rattle.relay_settings.specs.Settings.{published, alphaGood, preGood, legIterationsGood, intervalGood, setsGood, gammaFault, sourceFault, settingsFault};
 use numbers::is_finite;
+use numbers::limits::MAX_COUNT;
 use refusals::Answer;
 use refusals::Refusal;
 use refusals_tests::at_most;
@@ -102,14 +103,14 @@ pub fn alpha_good(alpha: f64) -> bool
 fn pre_good(n: usize) -> bool
     ensures { λ r. ⌜ r ≡ preGood n ⌝ }
 {
-    both(at_most(1, n), at_most(n, 65535))
+    both(at_most(1, n), at_most(n, MAX_COUNT))
 }
 
 // 14.
 fn leg_iterations_good(legs: usize, n: usize) -> bool
     ensures { λ r. ⌜ r ≡ legIterationsGood legs n ⌝ }
 {
-    both(at_most(n, 65535), some_or_no_legs(n, legs))
+    both(at_most(n, MAX_COUNT), some_or_no_legs(n, legs))
 }
 
 // 15.
@@ -142,7 +143,10 @@ fn is_product(n: usize, a: usize, b: usize) -> bool
 fn sets_good(sets: usize, mechanisms: usize, gammas: usize) -> bool
     ensures { λ r. ⌜ r ≡ setsGood sets mechanisms gammas ⌝ }
 {
-    both(at_most(sets, 65535), is_product(gammas, sets, mechanisms))
+    both(
+        at_most(sets, MAX_COUNT),
+        is_product(gammas, sets, mechanisms),
+    )
 }
 
 // 19: the first gamma that is not finite.
@@ -186,7 +190,7 @@ pub fn check_settings(t: Settings, mechanisms: usize, gammas: &[f64]) -> Answer
     let counts = or_else(
         unless(pre_good(t.pre_iterations), Refusal::BadIterations),
         or_else(
-            unless(at_most(t.num_legs, 65535), Refusal::TooManyLegs),
+            unless(at_most(t.num_legs, MAX_COUNT), Refusal::TooManyLegs),
             or_else(
                 unless(
                     leg_iterations_good(t.num_legs, t.leg_iterations),

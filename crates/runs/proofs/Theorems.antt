@@ -1,4 +1,4 @@
--- R1 to R12 of document 01 hold of the definitions, by computation. Assumes nothing.
+-- R1 to R12 of docs/REFERENCE.md hold of the definitions, by computation. Assumes nothing.
 use mathlib.Core.Path.{refl}
 use lib.Ieee.{add, sub, mul, neg, lt, le, eq, ofInt}
 use Rattle.numbers.specs.Floats as Floats

@@ -1,4 +1,4 @@
--- The twelve small runs of document 01, R1 to R12, as one table of equations about the public calls' definitions: the models are built by `build_sparse`,
+-- The twelve small runs of docs/REFERENCE.md, R1 to R12, as one table of equations about the public calls' definitions: the models are built by `build_sparse`,
 -- every test is taken, and the lent lists come in filled with 9. Definitions only. Assumes nothing.
 use Prim.Native.Nat.{ℕ, suc, _*_}
 use mathlib.Core.Path.{_≡_}
@@ -173,7 +173,7 @@ believes edges p = Beliefs.beliefsOutcome Done (Beliefs.beliefsLists p (replicat
 abbrev pub at2 : Shown
 at2 = shown (summary Done true 1 2 (some four)) (1 ∷ 0 ∷ 0 ∷ []) (four⁻ ∷ four ∷ four ∷ [])
 
--- the runs that document 01 lists
+-- the runs that docs/REFERENCE.md lists
 pub record Table : Type 0 where
   -- offsets 0,2,4 and 0,1,3,4; variable 1 has messages 1 and 2
   pub r1 : (builtG ≡ Model.buildOutcome Done (graph 2 3 (0 ∷ 1 ∷ 1 ∷ 2 ∷ []) (0 ∷ 1 ∷ 2 ∷ 3 ∷ []) (0 ∷ 2 ∷ 4 ∷ []) (0 ∷ 0 ∷ 1 ∷ 1 ∷ []) (0 ∷ 1 ∷ 2 ∷ 3 ∷ []) (0 ∷ 1 ∷ 3 ∷ 4 ∷ [])))

@@ -1,10 +1,11 @@
 -- The values that payloads hold: a model's lists as the graph takes them, and Relay's settings. Definitions only. Assumes nothing.
-use Prim.Native.Nat.{ℕ, _%_, _^_}
+use Prim.Native.Nat.{ℕ, suc, _%_, _^_}
 use mathlib.Core.Bool.{Bool, _&&_, cond}
 use mathlib.Core.List.{List}
 use lib.Dec.{eqb, leb}
 use lib.Ieee.{Float, binary64, ofBits}
 use lib.ListN.{length}
+use Rattle.numbers.specs.Limits.{roomMechanisms, roomEdges}
 use Rattle.numbers.specs.Loops.{table}
 use Rattle.relay_settings.specs.declared.Settings.{Settings}
 use Rattle.relay_settings.specs.declared.Schedule.{Schedule}
@@ -39,7 +40,7 @@ modelLists a b c = record { priors = a; detectorOffsets = b; detectors = c }
 
 -- they are no longer than the room
 unfoldable pub withinRoom : ModelLists → Bool
-withinRoom l = leb (length (l .priors)) 256 && (leb (length (l .detectorOffsets)) 257 && leb (length (l .detectors)) 512)
+withinRoom l = leb (length (l .priors)) roomMechanisms && (leb (length (l .detectorOffsets)) (suc roomMechanisms) && leb (length (l .detectors)) roomEdges)
 
 -- as a payload fills them, each as long as it is; lists beyond the room are left as they were
 unfoldable pub modelRead : List ℕ → ModelLists → ModelLists

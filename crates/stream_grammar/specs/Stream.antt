@@ -1,10 +1,11 @@
--- The record stream of document 01 as a grammar of bytes: its numbers, a record, the fields of each payload, and refusals 40 to 45 in their order.
+-- The record stream of docs/REFERENCE.md as a grammar of bytes: its numbers, a record, the fields of each payload, and refusals 40 to 45 in their order.
 -- It says nothing of how a stream is read. A byte is a number below 256. Definitions only. Assumes nothing.
 use Prim.Native.Nat.{ℕ, zero, suc, _+_, _*_, _/_, _%_, _<_}
 use mathlib.Core.Bool.{Bool, not, _&&_, _||_, cond}
 use mathlib.Core.List.{List, [], _∷_, _++_}
 use lib.Dec.{eqb, leb}
 use lib.ListN.{length, getD, take, drop}
+use Rattle.numbers.specs.Limits.{roomChecks, roomMechanisms, roomEdges, roomLegs, roomShot}
 use Rattle.refusals.specs.declared.Refusal.the-variants.{CutRecord, UnknownKind, PayloadLength, ShotTooEarly, BeyondRoom, BadSchedule}
 use Rattle.refusals.specs.declared.Answer.{Answer}
 use Rattle.refusals.specs.Tests.{unless, orElse}
@@ -157,12 +158,12 @@ timeGood kind hasModel hasSettings = not (eqb kind 3) || (hasModel && hasSetting
 
 -- the room for a model: 128 checks, 256 mechanisms, 512 edges
 abbrev pub countsWithin : ℕ → ℕ → ℕ → Bool
-countsWithin checks mechanisms edges = leb checks 128 && (leb mechanisms 256 && leb edges 512)
+countsWithin checks mechanisms edges = leb checks roomChecks && (leb mechanisms roomMechanisms && leb edges roomEdges)
 
 -- 44: within the room for a model, of 16 relayed legs, of 136 bytes for a shot
 unfoldable pub roomGood : ℕ → ℕ → ℕ → ℕ → ℕ → ℕ → Bool
 roomGood kind size checks mechanisms edges legs =
-    cond (eqb kind 1) (countsWithin checks mechanisms edges) (cond (eqb kind 2) (leb legs 16) (leb size 136))
+    cond (eqb kind 1) (countsWithin checks mechanisms edges) (cond (eqb kind 2) (leb legs roomLegs) (leb size roomShot))
 
 -- 45: the schedule byte of settings
 unfoldable pub scheduleGood : ℕ → ℕ → Bool

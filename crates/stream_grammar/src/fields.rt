@@ -1,8 +1,9 @@
 // The fields of a payload.
 ghost use mathlib.Core.Path.{_≡_};
-ghost use Prim.Native.Nat.{_+_, _*_, _<_, _≤_};
+ghost use Prim.Native.Nat.{suc, _+_, _*_, _<_, _≤_};
 ghost use lib.Ieee.{nan, binary64, ofBits};
 ghost use lib.ListN.{getD, length};
+ghost use Rattle.numbers.specs.Limits.{roomMechanisms, roomEdges};
 ghost use Rattle.numbers.specs.Loops.{table};
 ghost use Rattle.stream_grammar.specs.Stream.{numberAt, legs as legsOf, scheduleByte, degree as degreeOf, detector as detectorOf};
 ghost use Rattle.stream_grammar.specs.Fields.{prior, offset, scheduleRead};
@@ -101,7 +102,7 @@ pub fn schedule_of(byte: usize) -> Schedule
 
 // The priors.
 pub fn priors_in(payload: &[u8], priors: &mut [f64])
-    requires { ⌜ length (now priors) ≤ 256 ⌝ }
+    requires { ⌜ length (now priors) ≤ roomMechanisms ⌝ }
     ensures { λ _. ⌜ now (priors .exit) ≡ table (length (now (priors .entry))) (prior (now (payload .entry))) ⌝ }
 {
     let mut m = 0;
@@ -113,7 +114,7 @@ pub fn priors_in(payload: &[u8], priors: &mut [f64])
 
 // How many detectors the mechanism m has.
 fn degree(payload: &[u8], m: usize) -> u32
-    requires { ⌜ m ≤ 257 ⌝ }
+    requires { ⌜ m ≤ suc roomMechanisms ⌝ }
     ensures { λ x. ⌜ x ≡ degreeOf (now (payload .entry)) m ⌝ }
 {
     number4(payload, 20 + 12 * m) as u32
@@ -121,7 +122,7 @@ fn degree(payload: &[u8], m: usize) -> u32
 
 // Where the detectors of each mechanism begin, and at the end where they end.
 pub fn offsets_in(payload: &[u8], offsets: &mut [u32])
-    requires { ⌜ length (now offsets) ≤ 257 ⌝ }
+    requires { ⌜ length (now offsets) ≤ suc roomMechanisms ⌝ }
     ensures { λ _. ⌜ now (offsets .exit) ≡ table (length (now (offsets .entry))) (offset (now (payload .entry))) ⌝ }
 {
     let mut sum: u32 = 0;
@@ -135,7 +136,7 @@ pub fn offsets_in(payload: &[u8], offsets: &mut [u32])
 
 // The i-th of all the detectors, behind n mechanisms.
 fn detector(payload: &[u8], n: usize, i: usize) -> u32
-    requires { ⌜ (n ≤ 256) × (i ≤ 512) ⌝ }
+    requires { ⌜ (n ≤ roomMechanisms) × (i ≤ roomEdges) ⌝ }
     ensures { λ x. ⌜ x ≡ detectorOf n (now (payload .entry)) i ⌝ }
 {
     number4(payload, 12 + 12 * n + 4 * i) as u32
@@ -143,7 +144,7 @@ fn detector(payload: &[u8], n: usize, i: usize) -> u32
 
 // All the detectors.
 pub fn detectors_in(payload: &[u8], n: usize, detectors: &mut [u32])
-    requires { ⌜ (n ≤ 256) × (length (now detectors) ≤ 512) ⌝ }
+    requires { ⌜ (n ≤ roomMechanisms) × (length (now detectors) ≤ roomEdges) ⌝ }
     ensures { λ _. ⌜ now (detectors .exit) ≡ table (length (now (detectors .entry))) (detectorOf n (now (payload .entry))) ⌝ }
 {
     let mut i = 0;

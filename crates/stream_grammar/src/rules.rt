@@ -2,6 +2,11 @@
 ghost use mathlib.Core.Path.{_≡_};
 ghost use mathlib.Core.Bool.{_||_, not};
 ghost use Rattle.stream_grammar.specs.Stream.{kindGood, countsFit, lengthGood, timeGood, countsWithin, roomGood, scheduleGood};
+use numbers::limits::ROOM_CHECKS;
+use numbers::limits::ROOM_EDGES;
+use numbers::limits::ROOM_LEGS;
+use numbers::limits::ROOM_MECHANISMS;
+use numbers::limits::ROOM_SHOT;
 use refusals_tests::at_most;
 use refusals_tests::both;
 use refusals_tests::same_number;
@@ -69,8 +74,11 @@ pub fn counts_within(checks: usize, mechanisms: usize, edges: usize) -> bool
     ensures { λ x. ⌜ x ≡ countsWithin checks mechanisms edges ⌝ }
 {
     both(
-        at_most(checks, 128),
-        both(at_most(mechanisms, 256), at_most(edges, 512)),
+        at_most(checks, ROOM_CHECKS),
+        both(
+            at_most(mechanisms, ROOM_MECHANISMS),
+            at_most(edges, ROOM_EDGES),
+        ),
     )
 }
 
@@ -89,9 +97,9 @@ pub fn room_good(
         return counts_within(checks, mechanisms, edges);
     }
     if kind == 2 {
-        return legs <= 16;
+        return legs <= ROOM_LEGS;
     }
-    size <= 136
+    size <= ROOM_SHOT
 }
 
 // 45: the schedule byte of settings.

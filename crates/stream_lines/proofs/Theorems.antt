@@ -1,4 +1,4 @@
--- What a reader of this crate may rely on: a decimal says its number, has no leading zero, and document 01's example is as it stands there. Assumes nothing.
+-- What a reader of this crate may rely on: a decimal says its number, has no leading zero, and the reference's example is as it stands there. Assumes nothing.
 use mathlib.Core.Path.{_≡_, refl, sym, _∙_}
 use mathlib.Core.Bool.{true}
 use mathlib.Core.List.{List, [], _∷_, foldl, foldl-append}

@@ -4,6 +4,7 @@ use mathlib.Core.Bool.{Bool, cond}
 use mathlib.Core.List.{List, [], _∷_, _++_, map}
 use lib.Dec.{eqb, leb, ltb}
 use lib.ListN.{length}
+use Rattle.numbers.specs.Limits.{roomMechanisms}
 
 -- the decimal digits of a number that has at most k
 unfoldable pub digits : ℕ → ℕ → List ℕ
@@ -70,4 +71,4 @@ endLine shots = (endWord ++ decimal shots) ++ newline
 
 -- the line, or nothing where there are more bits than the room has mechanisms, 256
 unfoldable pub unlessTooLong : List ℕ → List ℕ → List ℕ
-unlessTooLong bits line = cond (leb (length bits) 256) line []
+unlessTooLong bits line = cond (leb (length bits) roomMechanisms) line []

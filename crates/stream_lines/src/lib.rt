@@ -6,6 +6,8 @@ ghost use lib.ListN.{length};
 ghost use Rattle.numbers.specs.Loops.{over};
 ghost use Rattle.stream_lines.specs.Writing.{Put};
 ghost use Rattle.stream_lines.specs.Lines.{digits, decimal, flag as flagOf, bitDigit, bitsAfter, shotLine, refusedLine, stoppedLine, endLine, unlessTooLong};
+use numbers::limits::ROOM_LINE;
+use numbers::limits::ROOM_MECHANISMS;
 
 // Writes a byte.
 fn put(byte: u8, out: &mut [u8], at: usize) -> usize
@@ -112,11 +114,11 @@ pub fn shot_line(
     total: usize,
     legs: usize,
     bits: &[u8],
-    out: &mut [u8; 512],
+    out: &mut [u8; ROOM_LINE],
 ) -> usize
     ensures { λ r. ⌜ (r ≡ length (unlessTooLong (now (bits .entry)) (shotLine number converged total legs (now (bits .entry))))) × (now (out .exit) ≡ over (unlessTooLong (now (bits .entry)) (shotLine number converged total legs (now (bits .entry)))) (now (out .entry))) ⌝ }
 {
-    if 256 < bits.len() {
+    if ROOM_MECHANISMS < bits.len() {
         return 0;
     }
     let a = put_word(b"shot ", out, 0);
@@ -132,7 +134,7 @@ pub fn shot_line(
 }
 
 // A shot that was refused.
-pub fn refused_line(number: usize, code: usize, out: &mut [u8; 512]) -> usize
+pub fn refused_line(number: usize, code: usize, out: &mut [u8; ROOM_LINE]) -> usize
     ensures { λ r. ⌜ (r ≡ length (refusedLine number code)) × (now (out .exit) ≡ over (refusedLine number code) (now (out .entry))) ⌝ }
 {
     let a = put_word(b"shot ", out, 0);
@@ -143,7 +145,7 @@ pub fn refused_line(number: usize, code: usize, out: &mut [u8; 512]) -> usize
 }
 
 // A refusal that ends the run.
-pub fn stopped_line(code: usize, offset: usize, out: &mut [u8; 512]) -> usize
+pub fn stopped_line(code: usize, offset: usize, out: &mut [u8; ROOM_LINE]) -> usize
     ensures { λ r. ⌜ (r ≡ length (stoppedLine code offset)) × (now (out .exit) ≡ over (stoppedLine code offset) (now (out .entry))) ⌝ }
 {
     let a = put_word(b"stopped ", out, 0);
@@ -154,7 +156,7 @@ pub fn stopped_line(code: usize, offset: usize, out: &mut [u8; 512]) -> usize
 }
 
 // The end of a run without one.
-pub fn end_line(shots: usize, out: &mut [u8; 512]) -> usize
+pub fn end_line(shots: usize, out: &mut [u8; ROOM_LINE]) -> usize
     ensures { λ r. ⌜ (r ≡ length (endLine shots)) × (now (out .exit) ≡ over (endLine shots) (now (out .entry))) ⌝ }
 {
     let a = put_word(b"end ", out, 0);

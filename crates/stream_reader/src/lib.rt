@@ -6,6 +6,9 @@ ghost use mathlib.Core.Path.{_≡_};
 ghost use Rattle.stream_reader.specs.Reading.{fresh, isWhole, held, pushed, verdict as verdictOf, atEnd};
 ghost use Rattle.stream_grammar.specs.Stream.{seed, isOfShot};
 ghost use Rattle.stream_grammar.specs.Fields.{countsRead, modelLists, modelRead, settingsRead};
+use numbers::limits::ROOM_EDGES;
+use numbers::limits::ROOM_MECHANISM_OFFSETS;
+use numbers::limits::ROOM_MECHANISMS;
 use refusals::Answer;
 use refusals::Refusal;
 use refusals_tests::at_most;
@@ -120,10 +123,10 @@ pub fn read_model(
 {
     let mechanisms = priors.len();
     let fit = both(
-        at_most(mechanisms, 256),
+        at_most(mechanisms, ROOM_MECHANISMS),
         both(
-            at_most(detector_offsets.len(), 257),
-            at_most(detectors.len(), 512),
+            at_most(detector_offsets.len(), ROOM_MECHANISM_OFFSETS),
+            at_most(detectors.len(), ROOM_EDGES),
         ),
     );
     if !fit {

@@ -5,6 +5,7 @@ use mathlib.Core.Bool.{Bool, true, false, cond}
 use mathlib.Core.List.{List, [], _∷_, _++_}
 use lib.Dec.{eqb}
 use lib.ListN.{length, take, replicate}
+use Rattle.numbers.specs.Limits.{roomMechanisms}
 use Rattle.numbers.specs.Loops.{over}
 use Rattle.refusals.specs.declared.Refusal.{Refusal}
 use Rattle.refusals.specs.declared.Answer.{Answer}
@@ -76,9 +77,9 @@ answers s (Decoded.Refused r) bits line = refuses s r line
 unfoldable pub tells : Session → Decoding → List ℕ → Told
 tells s d line = answers s (d .answer) (d .correction) line
 
--- a shot over a model, with a correction of its mechanisms out of 256
+-- a shot over a model, with a correction of its mechanisms out of the room
 unfoldable pub shotTaken : Session → List ℕ → List ℕ → List ℕ → Told
-shotTaken s model p line = tells s (shotDecoded model (s .known .settings) p (take (mechanisms model) (replicate 256 0))) line
+shotTaken s model p line = tells s (shotDecoded model (s .known .settings) p (take (mechanisms model) (replicate roomMechanisms 0))) line
 
 -- settings, which the table answers so: they replace earlier ones, and the model stays
 abbrev pub settingsTaken : Session → Answer → List ℕ → List ℕ → Told

@@ -8,6 +8,7 @@ ghost use mathlib.Core.Path.{_≡_};
 ghost use lib.ListN.{length};
 ghost use Rattle.numbers.specs.Loops.{over};
 ghost use Rattle.stream_session.specs.Shots.{startSession, told, taken, left, byteTaken, endText};
+use numbers::limits::ROOM_LINE;
 use refusals::Answer;
 use refusals::number_of;
 use relay_settings::Settings;
@@ -57,7 +58,7 @@ pub fn take(
     byte: u8,
     payload: &mut [u8],
     model: &mut [u8],
-    line: &mut [u8; 512],
+    line: &mut [u8; ROOM_LINE],
 ) -> Session
     ensures { λ x. ⌜ left (taken (told x (now (line .exit))) (now (model .exit))) (now (payload .exit)) ≡ byteTaken s byte (now (payload .entry)) (now (model .entry)) (now (line .entry)) ⌝ }
 {
@@ -74,7 +75,7 @@ pub fn take(
 }
 
 // The end of the input: how long the last line is.
-pub fn finish(s: Session, line: &mut [u8; 512]) -> usize
+pub fn finish(s: Session, line: &mut [u8; ROOM_LINE]) -> usize
     ensures { λ n. ⌜ (n ≡ length (endText s)) × (now (line .exit) ≡ over (endText s) (now (line .entry))) ⌝ }
 {
     if s.stopped {

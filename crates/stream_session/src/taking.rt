@@ -7,10 +7,12 @@ ghost use Rattle.stream_table.specs.Table.{modelFault, settingsAnswer, shotDeco
 use crate::Known;
 use crate::Session;
 use crate::telling;
+use numbers::limits::ROOM_LINE;
+use numbers::limits::ROOM_MECHANISMS;
 use refusals::Answer;
 
 // Settings: they replace earlier ones, and the model stays.
-fn take_settings(s: Session, payload: &[u8], line: &mut [u8; 512]) -> Session
+fn take_settings(s: Session, payload: &[u8], line: &mut [u8; ROOM_LINE]) -> Session
     ensures { λ x. ⌜ told x (now (line .exit)) ≡ settingsTaken s (settingsAnswer (now (payload .entry))) (now (payload .entry)) (now (line .entry)) ⌝ }
 {
     let a = stream_table::settings_answer(payload);
@@ -44,7 +46,7 @@ fn keep(payload: &[u8], list: &mut [u8])
 }
 
 // A model: it replaces an earlier one, and the settings stay.
-fn take_model(s: Session, payload: &[u8], model: &mut [u8], line: &mut [u8; 512]) -> Session
+fn take_model(s: Session, payload: &[u8], model: &mut [u8], line: &mut [u8; ROOM_LINE]) -> Session
     ensures { λ x. ⌜ taken (told x (now (line .exit))) (now (model .exit)) ≡ modelTaken s (modelFault (now (payload .entry))) (now (payload .entry)) (now (model .entry)) (now (line .entry)) ⌝ }
 {
     let a = stream_table::model_fault(payload);
@@ -73,7 +75,7 @@ fn shot_told(
     model: &[u8],
     payload: &[u8],
     correction: &mut [u8],
-    line: &mut [u8; 512],
+    line: &mut [u8; ROOM_LINE],
 ) -> Session
     ensures { λ x. ⌜ told x (now (line .exit)) ≡ tells s (shotDecoded (now (model .entry)) (s .known .settings) (now (payload .entry)) (now (correction .entry))) (now (line .entry)) ⌝ }
 {
@@ -84,17 +86,17 @@ fn shot_told(
 }
 
 // A shot over a model.
-fn take_shot(s: Session, model: &[u8], payload: &[u8], line: &mut [u8; 512]) -> Session
+fn take_shot(s: Session, model: &[u8], payload: &[u8], line: &mut [u8; ROOM_LINE]) -> Session
     ensures { λ x. ⌜ told x (now (line .exit)) ≡ shotTaken s (now (model .entry)) (now (payload .entry)) (now (line .entry)) ⌝ }
 {
     let c = stream_reader::read_counts(model);
-    let mut correction = [0u8; 256];
+    let mut correction = [0u8; ROOM_MECHANISMS];
     let n = stream_table::front(&correction, c.mechanisms);
     shot_told(s, model, payload, &mut correction[..n], line)
 }
 
 // A record past 41 to 45, by its kind.
-fn take_kind(s: Session, payload: &[u8], model: &mut [u8], line: &mut [u8; 512]) -> Session
+fn take_kind(s: Session, payload: &[u8], model: &mut [u8], line: &mut [u8; ROOM_LINE]) -> Session
     ensures { λ x. ⌜ taken (told x (now (line .exit))) (now (model .exit)) ≡ kindTaken s (now (payload .entry)) (now (model .entry)) (now (line .entry)) ⌝ }
 {
     if s.reader.kind == 1 {
@@ -108,7 +110,7 @@ fn take_kind(s: Session, payload: &[u8], model: &mut [u8], line: &mut [u8; 512])
 }
 
 // Past 41 to 45 the payload is what was kept of it.
-fn take_accepted(s: Session, kept: &[u8], model: &mut [u8], line: &mut [u8; 512]) -> Session
+fn take_accepted(s: Session, kept: &[u8], model: &mut [u8], line: &mut [u8; ROOM_LINE]) -> Session
     ensures { λ x. ⌜ taken (told x (now (line .exit))) (now (model .exit)) ≡ kindTaken s (take (s .reader .length) (now (kept .entry))) (now (model .entry)) (now (line .entry)) ⌝ }
 {
     let n = stream_table::front(kept, s.reader.length);
@@ -120,7 +122,7 @@ pub(crate) fn take_record(
     s: Session,
     kept: &[u8],
     model: &mut [u8],
-    line: &mut [u8; 512],
+    line: &mut [u8; ROOM_LINE],
 ) -> Session
     ensures { λ x. ⌜ taken (told x (now (line .exit))) (now (model .exit)) ≡ recordTaken s (now (kept .entry)) (now (model .entry)) (now (line .entry)) ⌝ }
 {

@@ -4,6 +4,7 @@ ghost use Prim.Native.Nat.{_+_, _%_, _^_};
 ghost use Rattle.stream_session.specs.Shots.{session, told, goesOn, reads as readsOn, stops, refuses, finds as findsOf, answers};
 use crate::Known;
 use crate::Session;
+use numbers::limits::ROOM_LINE;
 use refusals::Refusal;
 use refusals::number_of;
 use relay_calls::Decoded;
@@ -38,7 +39,7 @@ pub(crate) fn reads(s: Session, r: Reader) -> Session
 }
 
 // A refusal that ends the run.
-pub(crate) fn stop(s: Session, r: Refusal, line: &mut [u8; 512]) -> Session
+pub(crate) fn stop(s: Session, r: Refusal, line: &mut [u8; ROOM_LINE]) -> Session
     ensures { λ x. ⌜ told x (now (line .exit)) ≡ stops s r (now (line .entry)) ⌝ }
 {
     let n = stream_lines::stopped_line(number_of(r), s.reader.offset, line);
@@ -69,7 +70,7 @@ fn counted(s: Session, n: usize) -> Session
 }
 
 // A shot's refusal: 20, 21 and 30 are said of the shot, any other ends the run.
-pub(crate) fn refused(s: Session, r: Refusal, line: &mut [u8; 512]) -> Session
+pub(crate) fn refused(s: Session, r: Refusal, line: &mut [u8; ROOM_LINE]) -> Session
     ensures { λ x. ⌜ told x (now (line .exit)) ≡ refuses s r (now (line .entry)) ⌝ }
 {
     let code = number_of(r);
@@ -87,7 +88,7 @@ fn finds(
     total: usize,
     legs: usize,
     bits: &[u8],
-    line: &mut [u8; 512],
+    line: &mut [u8; ROOM_LINE],
 ) -> Session
     ensures { λ x. ⌜ told x (now (line .exit)) ≡ findsOf s converged total legs (now (bits .entry)) (now (line .entry)) ⌝ }
 {
@@ -96,7 +97,7 @@ fn finds(
 }
 
 // What a decode answered, with its correction.
-pub(crate) fn answered(s: Session, d: Decoded, bits: &[u8], line: &mut [u8; 512]) -> Session
+pub(crate) fn answered(s: Session, d: Decoded, bits: &[u8], line: &mut [u8; ROOM_LINE]) -> Session
     ensures { λ x. ⌜ told x (now (line .exit)) ≡ answers s d (now (bits .entry)) (now (line .entry)) ⌝ }
 {
     match d {

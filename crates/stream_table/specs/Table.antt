@@ -1,10 +1,11 @@
 -- The table behind 45: a model by 1 to 6, settings by 10 to 16, a shot by 20, 21 and 30, each out of the payload of its record. A model's bytes, the settings and
 -- a shot's bytes are all that a decode depends on. Definitions only. Assumes nothing.
-use Prim.Native.Nat.{ℕ, _+_}
+use Prim.Native.Nat.{ℕ, suc, _+_, _*_}
 use mathlib.Core.Bool.{Bool, cond}
 use mathlib.Core.List.{List, []}
 use lib.Ieee.{Float}
 use lib.ListN.{take, replicate}
+use Rattle.numbers.specs.Limits.{roomChecks, roomMechanisms, roomEdges, roomLegs}
 use Rattle.numbers.specs.Floats.{zero⁺}
 use Rattle.refusals.specs.declared.Refusal.the-variants.{BeyondRoom}
 use Rattle.refusals.specs.declared.Answer.{Answer}
@@ -30,24 +31,24 @@ lentNumbers room n = take n (replicate room 0)
 
 -- those that a model with these counts is read into
 abbrev pub modelRoom : Counts → ModelLists
-modelRoom c = modelLists (lentFloats 256 (c .mechanisms)) (lentNumbers 257 (c .mechanisms + 1)) (lentNumbers 512 (c .edges))
+modelRoom c = modelLists (lentFloats roomMechanisms (c .mechanisms)) (lentNumbers (suc roomMechanisms) (c .mechanisms + 1)) (lentNumbers roomEdges (c .edges))
 
 -- those that its graph is built in
 abbrev pub graphRoom : Counts → Graph
 graphRoom c =
-    let e = lentNumbers 512 (c .edges) in
-    graph (c .checks) (c .mechanisms) e e (lentNumbers 129 (c .checks + 1)) e e (lentNumbers 257 (c .mechanisms + 1))
+    let e = lentNumbers roomEdges (c .edges) in
+    graph (c .checks) (c .mechanisms) e e (lentNumbers (suc roomChecks) (c .checks + 1)) e e (lentNumbers (suc roomMechanisms) (c .mechanisms + 1))
 
--- those that a shot is decoded in, beside the correction that the caller lends: 16 relayed legs and the first, 17 rows of 256
+-- those that a shot is decoded in, beside the correction that the caller lends: a row for each relayed leg and for the first
 abbrev pub shotRoom : Counts → List ℕ → Calls.DecodeLists
 shotRoom c correction =
-    let m = lentFloats 256 (c .mechanisms) in
-    let e = lentFloats 512 (c .edges) in
+    let m = lentFloats roomMechanisms (c .mechanisms) in
+    let e = lentFloats roomEdges (c .edges) in
     record {
-      legState = replicate 17 0;
-      legIterations = replicate 17 0;
-      legWeight = replicate 17 zero⁺;
-      rows = replicate 4352 0;
+      legState = replicate (suc roomLegs) 0;
+      legIterations = replicate (suc roomLegs) 0;
+      legWeight = replicate (suc roomLegs) zero⁺;
+      rows = replicate (suc roomLegs * roomMechanisms) 0;
       correction = correction;
       posterior = m;
       gamma = m;

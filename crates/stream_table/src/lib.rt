@@ -4,10 +4,17 @@
 ghost use mathlib.Core.Path.{_≡_};
 ghost use Prim.Native.Nat.{_≤_};
 ghost use lib.ListN.{length, take, drop};
+ghost use Rattle.numbers.specs.Limits.{roomChecks, roomMechanisms, roomEdges};
 ghost use Rattle.graph_lists.specs.Graph.{graph};
 ghost use Rattle.stream_grammar.specs.Fields.{modelLists};
 ghost use Rattle.stream_table.specs.Table.{builtFrom, modelFault, settingsAnswer, decodedFrom, decoding, found, shotDecoded, modelRoom, graphRoom, shotRoom, within as withinOf};
 use graph::Size;
+use numbers::limits::ROOM_ALL_LEGS;
+use numbers::limits::ROOM_CHECK_OFFSETS;
+use numbers::limits::ROOM_EDGES;
+use numbers::limits::ROOM_MECHANISM_OFFSETS;
+use numbers::limits::ROOM_MECHANISMS;
+use numbers::limits::ROOM_ROWS;
 use refusals::Answer;
 use refusals::Refusal;
 use relay_calls::Decoded;
@@ -64,7 +71,7 @@ fn built(
 
 // A model within the room, read and built in arrays of its own.
 fn built_within(c: Counts, payload: &[u8]) -> Answer
-    requires { ⌜ (c .checks ≤ 128) × (c .mechanisms ≤ 256) × (c .edges ≤ 512) ⌝ }
+    requires { ⌜ (c .checks ≤ roomChecks) × (c .mechanisms ≤ roomMechanisms) × (c .edges ≤ roomEdges) ⌝ }
     ensures { λ a. ⌜ a ≡ builtFrom (c .edges) (now (payload .entry)) (modelRoom c) (graphRoom c) .answer ⌝ }
 {
     let checks = c.checks;
@@ -75,15 +82,15 @@ fn built_within(c: Counts, payload: &[u8]) -> Answer
         mechanisms: mechanisms,
         edges: edges,
     };
-    let mut priors = [0.0; 256];
-    let mut detector_offsets = [0u32; 257];
-    let mut detectors = [0u32; 512];
-    let mut check_var = [0u32; 512];
-    let mut check_message = [0u32; 512];
-    let mut check_offset = [0u32; 129];
-    let mut var_check = [0u32; 512];
-    let mut var_message = [0u32; 512];
-    let mut var_offset = [0u32; 257];
+    let mut priors = [0.0; ROOM_MECHANISMS];
+    let mut detector_offsets = [0u32; ROOM_MECHANISM_OFFSETS];
+    let mut detectors = [0u32; ROOM_EDGES];
+    let mut check_var = [0u32; ROOM_EDGES];
+    let mut check_message = [0u32; ROOM_EDGES];
+    let mut check_offset = [0u32; ROOM_CHECK_OFFSETS];
+    let mut var_check = [0u32; ROOM_EDGES];
+    let mut var_message = [0u32; ROOM_EDGES];
+    let mut var_offset = [0u32; ROOM_MECHANISM_OFFSETS];
     built(
         size,
         payload,
@@ -196,7 +203,7 @@ fn decoded_within(
     seed: u64,
     correction: &mut [u8],
 ) -> Decoded
-    requires { ⌜ (c .checks ≤ 128) × (c .mechanisms ≤ 256) × (c .edges ≤ 512) ⌝ }
+    requires { ⌜ (c .checks ≤ roomChecks) × (c .mechanisms ≤ roomMechanisms) × (c .edges ≤ roomEdges) ⌝ }
     ensures { λ d. ⌜ decoding d (now (correction .exit)) ≡ found (decodedFrom (c .edges) (now (model .entry)) settings (now (syndrome .entry)) seed (modelRoom c) (graphRoom c) (shotRoom c (now (correction .entry)))) ⌝ }
 {
     let checks = c.checks;
@@ -207,24 +214,24 @@ fn decoded_within(
         mechanisms: mechanisms,
         edges: edges,
     };
-    let mut priors = [0.0; 256];
-    let mut detector_offsets = [0u32; 257];
-    let mut detectors = [0u32; 512];
-    let mut check_var = [0u32; 512];
-    let mut check_message = [0u32; 512];
-    let mut check_offset = [0u32; 129];
-    let mut var_check = [0u32; 512];
-    let mut var_message = [0u32; 512];
-    let mut var_offset = [0u32; 257];
-    let mut leg_state = [0u8; 17];
-    let mut leg_iterations = [0u32; 17];
-    let mut leg_weight = [0.0; 17];
-    let mut rows = [0u8; 4352];
-    let mut posterior = [0.0; 256];
-    let mut gamma = [0.0; 256];
-    let mut bias = [0.0; 256];
-    let mut c_to_v = [0.0; 512];
-    let mut v_to_c = [0.0; 512];
+    let mut priors = [0.0; ROOM_MECHANISMS];
+    let mut detector_offsets = [0u32; ROOM_MECHANISM_OFFSETS];
+    let mut detectors = [0u32; ROOM_EDGES];
+    let mut check_var = [0u32; ROOM_EDGES];
+    let mut check_message = [0u32; ROOM_EDGES];
+    let mut check_offset = [0u32; ROOM_CHECK_OFFSETS];
+    let mut var_check = [0u32; ROOM_EDGES];
+    let mut var_message = [0u32; ROOM_EDGES];
+    let mut var_offset = [0u32; ROOM_MECHANISM_OFFSETS];
+    let mut leg_state = [0u8; ROOM_ALL_LEGS];
+    let mut leg_iterations = [0u32; ROOM_ALL_LEGS];
+    let mut leg_weight = [0.0; ROOM_ALL_LEGS];
+    let mut rows = [0u8; ROOM_ROWS];
+    let mut posterior = [0.0; ROOM_MECHANISMS];
+    let mut gamma = [0.0; ROOM_MECHANISMS];
+    let mut bias = [0.0; ROOM_MECHANISMS];
+    let mut c_to_v = [0.0; ROOM_EDGES];
+    let mut v_to_c = [0.0; ROOM_EDGES];
     decoded(
         size,
         settings,

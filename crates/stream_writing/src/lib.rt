@@ -5,6 +5,7 @@ ghost use Rattle.numbers.specs.Loops.{over};
 ghost use Rattle.stream_session.specs.Shots.{told, taken, left, byteTaken, endText};
 ghost use Rattle.stream_writing.specs.Pieces.{pieceTaken};
 use libc::STDOUT_FILENO;
+use numbers::limits::ROOM_LINE;
 use stream_session::Session;
 
 // Writes a list's first n bytes.
@@ -20,7 +21,7 @@ fn heard(
     byte: u8,
     payload: &mut [u8],
     model: &mut [u8],
-    line: &mut [u8; 512],
+    line: &mut [u8; ROOM_LINE],
 ) -> Session
     ensures { λ x. ⌜ left (taken (told x (now (line .exit))) (now (model .exit))) (now (payload .exit)) ≡ byteTaken s byte (now (payload .entry)) (now (model .entry)) (now (line .entry)) ⌝ }
 {
@@ -35,7 +36,7 @@ pub fn piece(
     bytes: &[u8],
     payload: &mut [u8],
     model: &mut [u8],
-    line: &mut [u8; 512],
+    line: &mut [u8; ROOM_LINE],
 ) -> Session
     ensures { λ x. ⌜ left (taken (told x (now (line .exit))) (now (model .exit))) (now (payload .exit)) ≡ pieceTaken (now (bytes .entry)) (left (taken (told before (now (line .entry))) (now (model .entry))) (now (payload .entry))) ⌝ }
 {
@@ -49,7 +50,7 @@ pub fn piece(
 }
 
 // The end of the input.
-pub fn end(s: Session, line: &mut [u8; 512])
+pub fn end(s: Session, line: &mut [u8; ROOM_LINE])
     ensures { λ _. ⌜ now (line .exit) ≡ over (endText s) (now (line .entry)) ⌝ }
 {
     let n = stream_session::finish(s, line);

@@ -95,6 +95,60 @@ enum-told-29 c = search needs
 enum-told-30 : tie.Need-enum-told-30
 enum-told-30 c = search needs
 
+enum-told-31 : tie.Need-enum-told-31
+enum-told-31 c = search needs
+
+enum-told-32 : tie.Need-enum-told-32
+enum-told-32 c = search needs
+
+enum-told-33 : tie.Need-enum-told-33
+enum-told-33 c = search needs
+
+enum-told-34 : tie.Need-enum-told-34
+enum-told-34 c = search needs
+
+enum-told-35 : tie.Need-enum-told-35
+enum-told-35 c = search needs
+
+enum-told-36 : tie.Need-enum-told-36
+enum-told-36 c = search needs
+
+enum-told-37 : tie.Need-enum-told-37
+enum-told-37 c = search needs
+
+enum-told-38 : tie.Need-enum-told-38
+enum-told-38 c = search needs
+
+enum-told-39 : tie.Need-enum-told-39
+enum-told-39 c = search needs
+
+enum-told-40 : tie.Need-enum-told-40
+enum-told-40 c = search needs
+
+enum-told-41 : tie.Need-enum-told-41
+enum-told-41 c = search needs
+
+enum-told-42 : tie.Need-enum-told-42
+enum-told-42 c = search needs
+
+enum-told-43 : tie.Need-enum-told-43
+enum-told-43 c = search needs
+
+enum-told-44 : tie.Need-enum-told-44
+enum-told-44 c = search needs
+
+enum-told-45 : tie.Need-enum-told-45
+enum-told-45 c = search needs
+
+enum-told-46 : tie.Need-enum-told-46
+enum-told-46 c = search needs
+
+enum-told-47 : tie.Need-enum-told-47
+enum-told-47 c = search needs
+
+enum-told-48 : tie.Need-enum-told-48
+enum-told-48 c = search needs
+
 returns : tie.Need-returns
 returns c = sym (ap numberOf (c .enum-told .given .1))
 
@@ -185,6 +239,60 @@ returns-29 c = sym (ap numberOf (c .enum-told29 .given .1))
 returns-30 : tie.Need-returns-30
 returns-30 c = sym (ap numberOf (c .enum-told30 .given .1))
 
+returns-31 : tie.Need-returns-31
+returns-31 c = sym (ap numberOf (c .enum-told31 .given .1))
+
+returns-32 : tie.Need-returns-32
+returns-32 c = sym (ap numberOf (c .enum-told32 .given .1))
+
+returns-33 : tie.Need-returns-33
+returns-33 c = sym (ap numberOf (c .enum-told33 .given .1))
+
+returns-34 : tie.Need-returns-34
+returns-34 c = sym (ap numberOf (c .enum-told34 .given .1))
+
+returns-35 : tie.Need-returns-35
+returns-35 c = sym (ap numberOf (c .enum-told35 .given .1))
+
+returns-36 : tie.Need-returns-36
+returns-36 c = sym (ap numberOf (c .enum-told36 .given .1))
+
+returns-37 : tie.Need-returns-37
+returns-37 c = sym (ap numberOf (c .enum-told37 .given .1))
+
+returns-38 : tie.Need-returns-38
+returns-38 c = sym (ap numberOf (c .enum-told38 .given .1))
+
+returns-39 : tie.Need-returns-39
+returns-39 c = sym (ap numberOf (c .enum-told39 .given .1))
+
+returns-40 : tie.Need-returns-40
+returns-40 c = sym (ap numberOf (c .enum-told40 .given .1))
+
+returns-41 : tie.Need-returns-41
+returns-41 c = sym (ap numberOf (c .enum-told41 .given .1))
+
+returns-42 : tie.Need-returns-42
+returns-42 c = sym (ap numberOf (c .enum-told42 .given .1))
+
+returns-43 : tie.Need-returns-43
+returns-43 c = sym (ap numberOf (c .enum-told43 .given .1))
+
+returns-44 : tie.Need-returns-44
+returns-44 c = sym (ap numberOf (c .enum-told44 .given .1))
+
+returns-45 : tie.Need-returns-45
+returns-45 c = sym (ap numberOf (c .enum-told45 .given .1))
+
+returns-46 : tie.Need-returns-46
+returns-46 c = sym (ap numberOf (c .enum-told46 .given .1))
+
+returns-47 : tie.Need-returns-47
+returns-47 c = sym (ap numberOf (c .enum-told47 .given .1))
+
+returns-48 : tie.Need-returns-48
+returns-48 c = sym (ap numberOf (c .enum-told48 .given .1))
+
 pub number-of-spec : {M : Type 1} → statement M
 number-of-spec =
     tie.close
@@ -219,6 +327,24 @@ number-of-spec =
     enum-told-28
     enum-told-29
     enum-told-30
+    enum-told-31
+    enum-told-32
+    enum-told-33
+    enum-told-34
+    enum-told-35
+    enum-told-36
+    enum-told-37
+    enum-told-38
+    enum-told-39
+    enum-told-40
+    enum-told-41
+    enum-told-42
+    enum-told-43
+    enum-told-44
+    enum-told-45
+    enum-told-46
+    enum-told-47
+    enum-told-48
     returns
     returns-2
     returns-3
@@ -248,4 +374,22 @@ number-of-spec =
     returns-27
     returns-28
     returns-29
-    returns-30)
+    returns-30
+    returns-31
+    returns-32
+    returns-33
+    returns-34
+    returns-35
+    returns-36
+    returns-37
+    returns-38
+    returns-39
+    returns-40
+    returns-41
+    returns-42
+    returns-43
+    returns-44
+    returns-45
+    returns-46
+    returns-47
+    returns-48)

@@ -26,6 +26,9 @@ enum-known-r-3 c = search needs
 enum-told-4 : tie.Need-enum-told-4
 enum-told-4 c = search needs
 
+enum-known-r-4 : tie.Need-enum-known-r-4
+enum-known-r-4 c = search needs
+
 enum-told-5 : tie.Need-enum-told-5
 enum-told-5 c = search needs
 
@@ -53,9 +56,6 @@ enum-told-12 c = search needs
 enum-told-13 : tie.Need-enum-told-13
 enum-told-13 c = search needs
 
-enum-known-r-4 : tie.Need-enum-known-r-4
-enum-known-r-4 c = search needs
-
 enum-told-14 : tie.Need-enum-told-14
 enum-told-14 c = search needs
 
@@ -65,11 +65,11 @@ enum-known-r-5 c = search needs
 enum-told-15 : tie.Need-enum-told-15
 enum-told-15 c = search needs
 
-enum-told-16 : tie.Need-enum-told-16
-enum-told-16 c = search needs
-
 enum-known-r-6 : tie.Need-enum-known-r-6
 enum-known-r-6 c = search needs
+
+enum-told-16 : tie.Need-enum-told-16
+enum-told-16 c = search needs
 
 enum-told-17 : tie.Need-enum-told-17
 enum-told-17 c = search needs
@@ -86,14 +86,68 @@ enum-told-19 c = search needs
 enum-told-20 : tie.Need-enum-told-20
 enum-told-20 c = search needs
 
+enum-known-r-8 : tie.Need-enum-known-r-8
+enum-known-r-8 c = search needs
+
 enum-told-21 : tie.Need-enum-told-21
 enum-told-21 c = search needs
+
+enum-known-r-9 : tie.Need-enum-known-r-9
+enum-known-r-9 c = search needs
 
 enum-told-22 : tie.Need-enum-told-22
 enum-told-22 c = search needs
 
 enum-told-23 : tie.Need-enum-told-23
 enum-told-23 c = search needs
+
+enum-told-24 : tie.Need-enum-told-24
+enum-told-24 c = search needs
+
+enum-told-25 : tie.Need-enum-told-25
+enum-told-25 c = search needs
+
+enum-told-26 : tie.Need-enum-told-26
+enum-told-26 c = search needs
+
+enum-told-27 : tie.Need-enum-told-27
+enum-told-27 c = search needs
+
+enum-told-28 : tie.Need-enum-told-28
+enum-told-28 c = search needs
+
+enum-known-r-10 : tie.Need-enum-known-r-10
+enum-known-r-10 c = search needs
+
+enum-known-r-11 : tie.Need-enum-known-r-11
+enum-known-r-11 c = search needs
+
+enum-known-r-12 : tie.Need-enum-known-r-12
+enum-known-r-12 c = search needs
+
+enum-known-r-13 : tie.Need-enum-known-r-13
+enum-known-r-13 c = search needs
+
+enum-known-r-14 : tie.Need-enum-known-r-14
+enum-known-r-14 c = search needs
+
+enum-known-r-15 : tie.Need-enum-known-r-15
+enum-known-r-15 c = search needs
+
+enum-known-r-16 : tie.Need-enum-known-r-16
+enum-known-r-16 c = search needs
+
+enum-told-29 : tie.Need-enum-told-29
+enum-told-29 c = search needs
+
+enum-told-30 : tie.Need-enum-told-30
+enum-told-30 c = search needs
+
+enum-told-31 : tie.Need-enum-told-31
+enum-told-31 c = search needs
+
+enum-told-32 : tie.Need-enum-told-32
+enum-told-32 c = search needs
 
 returns : tie.Need-returns
 returns c = sym (ap placeOf (c .enum-told .given .1))
@@ -117,34 +171,34 @@ returns-7 : tie.Need-returns-7
 returns-7 c = sym (ap placeOf (c .enum-told4 .given .1))
 
 returns-8 : tie.Need-returns-8
-returns-8 c = sym (ap placeOf (c .enum-told5 .given .1))
+returns-8 c = sym (ap placeOf (c .before .r4 .given .1))
 
 returns-9 : tie.Need-returns-9
-returns-9 c = sym (ap placeOf (c .enum-told6 .given .1))
+returns-9 c = sym (ap placeOf (c .enum-told5 .given .1))
 
 returns-10 : tie.Need-returns-10
-returns-10 c = sym (ap placeOf (c .enum-told7 .given .1))
+returns-10 c = sym (ap placeOf (c .enum-told6 .given .1))
 
 returns-11 : tie.Need-returns-11
-returns-11 c = sym (ap placeOf (c .enum-told8 .given .1))
+returns-11 c = sym (ap placeOf (c .enum-told7 .given .1))
 
 returns-12 : tie.Need-returns-12
-returns-12 c = sym (ap placeOf (c .enum-told9 .given .1))
+returns-12 c = sym (ap placeOf (c .enum-told8 .given .1))
 
 returns-13 : tie.Need-returns-13
-returns-13 c = sym (ap placeOf (c .enum-told10 .given .1))
+returns-13 c = sym (ap placeOf (c .enum-told9 .given .1))
 
 returns-14 : tie.Need-returns-14
-returns-14 c = sym (ap placeOf (c .enum-told11 .given .1))
+returns-14 c = sym (ap placeOf (c .enum-told10 .given .1))
 
 returns-15 : tie.Need-returns-15
-returns-15 c = sym (ap placeOf (c .enum-told12 .given .1))
+returns-15 c = sym (ap placeOf (c .enum-told11 .given .1))
 
 returns-16 : tie.Need-returns-16
-returns-16 c = sym (ap placeOf (c .enum-told13 .given .1))
+returns-16 c = sym (ap placeOf (c .enum-told12 .given .1))
 
 returns-17 : tie.Need-returns-17
-returns-17 c = sym (ap placeOf (c .before .r4 .given .1))
+returns-17 c = sym (ap placeOf (c .enum-told13 .given .1))
 
 returns-18 : tie.Need-returns-18
 returns-18 c = sym (ap placeOf (c .enum-told14 .given .1))
@@ -156,10 +210,10 @@ returns-20 : tie.Need-returns-20
 returns-20 c = sym (ap placeOf (c .enum-told15 .given .1))
 
 returns-21 : tie.Need-returns-21
-returns-21 c = sym (ap placeOf (c .enum-told16 .given .1))
+returns-21 c = sym (ap placeOf (c .before .r6 .given .1))
 
 returns-22 : tie.Need-returns-22
-returns-22 c = sym (ap placeOf (c .before .r6 .given .1))
+returns-22 c = sym (ap placeOf (c .enum-told16 .given .1))
 
 returns-23 : tie.Need-returns-23
 returns-23 c = sym (ap placeOf (c .enum-told17 .given .1))
@@ -177,13 +231,67 @@ returns-27 : tie.Need-returns-27
 returns-27 c = sym (ap placeOf (c .enum-told20 .given .1))
 
 returns-28 : tie.Need-returns-28
-returns-28 c = sym (ap placeOf (c .enum-told21 .given .1))
+returns-28 c = sym (ap placeOf (c .before .r8 .given .1))
 
 returns-29 : tie.Need-returns-29
-returns-29 c = sym (ap placeOf (c .enum-told22 .given .1))
+returns-29 c = sym (ap placeOf (c .enum-told21 .given .1))
 
 returns-30 : tie.Need-returns-30
-returns-30 c = sym (ap placeOf (c .enum-told23 .given .1))
+returns-30 c = sym (ap placeOf (c .before .r9 .given .1))
+
+returns-31 : tie.Need-returns-31
+returns-31 c = sym (ap placeOf (c .enum-told22 .given .1))
+
+returns-32 : tie.Need-returns-32
+returns-32 c = sym (ap placeOf (c .enum-told23 .given .1))
+
+returns-33 : tie.Need-returns-33
+returns-33 c = sym (ap placeOf (c .enum-told24 .given .1))
+
+returns-34 : tie.Need-returns-34
+returns-34 c = sym (ap placeOf (c .enum-told25 .given .1))
+
+returns-35 : tie.Need-returns-35
+returns-35 c = sym (ap placeOf (c .enum-told26 .given .1))
+
+returns-36 : tie.Need-returns-36
+returns-36 c = sym (ap placeOf (c .enum-told27 .given .1))
+
+returns-37 : tie.Need-returns-37
+returns-37 c = sym (ap placeOf (c .enum-told28 .given .1))
+
+returns-38 : tie.Need-returns-38
+returns-38 c = sym (ap placeOf (c .before .r10 .given .1))
+
+returns-39 : tie.Need-returns-39
+returns-39 c = sym (ap placeOf (c .before .r11 .given .1))
+
+returns-40 : tie.Need-returns-40
+returns-40 c = sym (ap placeOf (c .before .r12 .given .1))
+
+returns-41 : tie.Need-returns-41
+returns-41 c = sym (ap placeOf (c .before .r13 .given .1))
+
+returns-42 : tie.Need-returns-42
+returns-42 c = sym (ap placeOf (c .before .r14 .given .1))
+
+returns-43 : tie.Need-returns-43
+returns-43 c = sym (ap placeOf (c .before .r15 .given .1))
+
+returns-44 : tie.Need-returns-44
+returns-44 c = sym (ap placeOf (c .before .r16 .given .1))
+
+returns-45 : tie.Need-returns-45
+returns-45 c = sym (ap placeOf (c .enum-told29 .given .1))
+
+returns-46 : tie.Need-returns-46
+returns-46 c = sym (ap placeOf (c .enum-told30 .given .1))
+
+returns-47 : tie.Need-returns-47
+returns-47 c = sym (ap placeOf (c .enum-told31 .given .1))
+
+returns-48 : tie.Need-returns-48
+returns-48 c = sym (ap placeOf (c .enum-told32 .given .1))
 
 pub place-of-spec : {M : Type 1} → statement M
 place-of-spec =
@@ -196,6 +304,7 @@ place-of-spec =
     enum-known-r-2
     enum-known-r-3
     enum-told-4
+    enum-known-r-4
     enum-told-5
     enum-told-6
     enum-told-7
@@ -205,20 +314,37 @@ place-of-spec =
     enum-told-11
     enum-told-12
     enum-told-13
-    enum-known-r-4
     enum-told-14
     enum-known-r-5
     enum-told-15
-    enum-told-16
     enum-known-r-6
+    enum-told-16
     enum-told-17
     enum-known-r-7
     enum-told-18
     enum-told-19
     enum-told-20
+    enum-known-r-8
     enum-told-21
+    enum-known-r-9
     enum-told-22
     enum-told-23
+    enum-told-24
+    enum-told-25
+    enum-told-26
+    enum-told-27
+    enum-told-28
+    enum-known-r-10
+    enum-known-r-11
+    enum-known-r-12
+    enum-known-r-13
+    enum-known-r-14
+    enum-known-r-15
+    enum-known-r-16
+    enum-told-29
+    enum-told-30
+    enum-told-31
+    enum-told-32
     returns
     returns-2
     returns-3
@@ -248,4 +374,22 @@ place-of-spec =
     returns-27
     returns-28
     returns-29
-    returns-30)
+    returns-30
+    returns-31
+    returns-32
+    returns-33
+    returns-34
+    returns-35
+    returns-36
+    returns-37
+    returns-38
+    returns-39
+    returns-40
+    returns-41
+    returns-42
+    returns-43
+    returns-44
+    returns-45
+    returns-46
+    returns-47
+    returns-48)
