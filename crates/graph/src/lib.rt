@@ -33,7 +33,13 @@ pub fn build_sparse(
     var_message: &mut [u32],
     var_offset: &mut [u32],
 ) -> Answer
-    ensures { λ r. ⌜ buildOutcome r (graph (size .checks) (size .mechanisms) (now («check_var» .exit)) (now («check_message» .exit)) (now («check_offset» .exit)) (now («var_check» .exit)) (now («var_message» .exit)) (now («var_offset» .exit))) ≡ buildSparse (size .edges) (now (priors .entry)) (now («detector_offsets» .entry)) (now (detectors .entry)) (graph (size .checks) (size .mechanisms) (now («check_var» .entry)) (now («check_message» .entry)) (now («check_offset» .entry)) (now («var_check» .entry)) (now («var_message» .entry)) (now («var_offset» .entry))) ⌝ }
+    ensures { λ r. ⌜
+        let g = graph (size .checks) (size .mechanisms) (now («check_var» .entry)) (now («check_message» .entry))
+        (now («check_offset» .entry)) (now («var_check» .entry)) (now («var_message» .entry)) (now («var_offset» .entry)) in
+        let built = graph (size .checks) (size .mechanisms) (now («check_var» .exit)) (now («check_message» .exit))
+        (now («check_offset» .exit)) (now («var_check» .exit)) (now («var_message» .exit)) (now («var_offset» .exit)) in
+        buildOutcome r built
+        ≡ buildSparse (size .edges) (now (priors .entry)) (now («detector_offsets» .entry)) (now (detectors .entry)) g ⌝ }
 {
     let fit = lists_fit(
         size,
@@ -91,7 +97,12 @@ pub fn build_dense(
     var_message: &mut [u32],
     var_offset: &mut [u32],
 ) -> Answer
-    ensures { λ r. ⌜ buildOutcome r (graph checks mechanisms (now («check_var» .exit)) (now («check_message» .exit)) (now («check_offset» .exit)) (now («var_check» .exit)) (now («var_message» .exit)) (now («var_offset» .exit))) ≡ buildDense (now (priors .entry)) (now (matrix .entry)) (graph checks mechanisms (now («check_var» .entry)) (now («check_message» .entry)) (now («check_offset» .entry)) (now («var_check» .entry)) (now («var_message» .entry)) (now («var_offset» .entry))) ⌝ }
+    ensures { λ r. ⌜
+        let g = graph checks mechanisms (now («check_var» .entry)) (now («check_message» .entry)) (now («check_offset» .entry))
+        (now («var_check» .entry)) (now («var_message» .entry)) (now («var_offset» .entry)) in
+        let built = graph checks mechanisms (now («check_var» .exit)) (now («check_message» .exit)) (now («check_offset» .exit))
+        (now («var_check» .exit)) (now («var_message» .exit)) (now («var_offset» .exit)) in
+        buildOutcome r built ≡ buildDense (now (priors .entry)) (now (matrix .entry)) g ⌝ }
 {
     let size = Size {
         checks: checks,
@@ -136,7 +147,10 @@ pub fn check_graph(
     var_message: &[u32],
     var_offset: &[u32],
 ) -> Answer
-    ensures { λ r. ⌜ r ≡ graphFault (size .edges) (now (priors .entry)) (graph (size .checks) (size .mechanisms) (now («check_var» .entry)) (now («check_message» .entry)) (now («check_offset» .entry)) (now («var_check» .entry)) (now («var_message» .entry)) (now («var_offset» .entry))) ⌝ }
+    ensures { λ r. ⌜
+        let g = graph (size .checks) (size .mechanisms) (now («check_var» .entry)) (now («check_message» .entry))
+        (now («check_offset» .entry)) (now («var_check» .entry)) (now («var_message» .entry)) (now («var_offset» .entry)) in
+        r ≡ graphFault (size .edges) (now (priors .entry)) g ⌝ }
 {
     if !sizes_good(size) {
         return Answer::Refused(Refusal::SizeAboveLimit);

@@ -1,5 +1,5 @@
-// The six lists of a sparse model that has passed its tests: the check lists by one bucket pass over the detectors, and the variable lists by another
-// over the check lists.
+// The six lists of a sparse model that has passed its tests: the check lists by one bucket pass over the detectors, and the variable lists
+// by another over the check lists.
 ghost use mathlib.Core.Path.{_≡_};
 ghost use Prim.Native.Nat.{suc, _<_};
 ghost use lib.ListN.{length};
@@ -24,8 +24,13 @@ pub(crate) fn from_checks(
     requires { ⌜ Keys mechanisms (now «check_var») ⌝ }
     requires { ⌜ (checks < 4294967296) × (length (now «check_var») < 4294967296) ⌝ }
     requires { ⌜ length (now «check_message») ≡ length (now «check_var») ⌝ }
-    requires { ⌜ (length (now «var_check») ≡ length (now «check_var»)) × (length (now «var_message») ≡ length (now «check_var»)) × (length (now «var_offset») ≡ suc mechanisms) ⌝ }
-    ensures { λ _. ⌜ Finished checks mechanisms (now («check_var» .entry)) (now («check_message» .exit)) (now («check_offset» .entry)) (now («var_check» .exit)) (now («var_message» .exit)) (now («var_offset» .exit)) ⌝ }
+    requires { ⌜
+        (length (now «var_check») ≡ length (now «check_var»))
+        × (length (now «var_message») ≡ length (now «check_var»))
+        × (length (now «var_offset») ≡ suc mechanisms) ⌝ }
+    ensures { λ _. ⌜
+        Finished checks mechanisms (now («check_var» .entry)) (now («check_message» .exit)) (now («check_offset» .entry))
+        (now («var_check» .exit)) (now («var_message» .exit)) (now («var_offset» .exit)) ⌝ }
 {
     number(check_message);
     bucket(
@@ -54,9 +59,18 @@ pub fn from_detectors(
 )
     requires { ⌜ Valid checks mechanisms (now off) (now dets) ⌝ }
     requires { ⌜ (checks < 4294967296) × (mechanisms < 4294967296) × (length (now dets) < 4294967296) ⌝ }
-    requires { ⌜ (length (now «check_var») ≡ length (now dets)) × (length (now «check_message») ≡ length (now dets)) × (length (now «check_offset») ≡ suc checks) ⌝ }
-    requires { ⌜ (length (now «var_check») ≡ length (now dets)) × (length (now «var_message») ≡ length (now dets)) × (length (now «var_offset») ≡ suc mechanisms) ⌝ }
-    ensures { λ _. ⌜ graph checks mechanisms (now («check_var» .exit)) (now («check_message» .exit)) (now («check_offset» .exit)) (now («var_check» .exit)) (now («var_message» .exit)) (now («var_offset» .exit)) ≡ graphOf checks mechanisms (among (now (off .entry)) (now (dets .entry))) ⌝ }
+    requires { ⌜
+        (length (now «check_var») ≡ length (now dets))
+        × (length (now «check_message») ≡ length (now dets))
+        × (length (now «check_offset») ≡ suc checks) ⌝ }
+    requires { ⌜
+        (length (now «var_check») ≡ length (now dets))
+        × (length (now «var_message») ≡ length (now dets))
+        × (length (now «var_offset») ≡ suc mechanisms) ⌝ }
+    ensures { λ _. ⌜
+        graph checks mechanisms (now («check_var» .exit)) (now («check_message» .exit)) (now («check_offset» .exit))
+        (now («var_check» .exit)) (now («var_message» .exit)) (now («var_offset» .exit))
+        ≡ graphOf checks mechanisms (among (now (off .entry)) (now (dets .entry))) ⌝ }
 {
     bucket(
         checks,

@@ -25,7 +25,9 @@ fn mark(byte: u8, m: usize, place: usize, out: &mut [u32]) -> usize
 // The mechanisms that a row marks, written from `start` on. The next place.
 fn mark_row(bytes: &[u8], start: usize, out: &mut [u32]) -> usize
     requires { ⌜ (start + length (marks (now bytes)) ≤ length (now out)) × (length (now bytes) < 4294967296) ⌝ }
-    ensures { λ r. ⌜ (r ≡ start + length (marks (now (bytes .entry)))) × (take r (now (out .exit)) ≡ take start (now (out .entry)) ++ marks (now (bytes .entry))) ⌝ }
+    ensures { λ r. ⌜
+        (r ≡ start + length (marks (now (bytes .entry))))
+        × (take r (now (out .exit)) ≡ take start (now (out .entry)) ++ marks (now (bytes .entry))) ⌝ }
 {
     let mut place = start;
     let mut m = 0;
@@ -47,7 +49,9 @@ fn mark_rows(
     requires { ⌜ length (now matrix) ≡ checks * mechanisms ⌝ }
     requires { ⌜ (mechanisms < 4294967296) × (countEdges (now matrix) < 4294967296) ⌝ }
     requires { ⌜ (length (now «check_var») ≡ countEdges (now matrix)) × (length (now «check_offset») ≡ suc checks) ⌝ }
-    ensures { λ _. ⌜ (now («check_var» .exit) ≡ entries checks mechanisms (marked mechanisms (now (matrix .entry)))) × (now («check_offset» .exit) ≡ offsets checks (mechanismsOf mechanisms (marked mechanisms (now (matrix .entry))))) ⌝ }
+    ensures { λ _. ⌜
+        (now («check_var» .exit) ≡ entries checks mechanisms (marked mechanisms (now (matrix .entry))))
+        × (now («check_offset» .exit) ≡ offsets checks (mechanismsOf mechanisms (marked mechanisms (now (matrix .entry))))) ⌝ }
 {
     put(check_offset, 0, 0);
     let mut base = 0;
@@ -76,9 +80,18 @@ pub fn from_matrix(
 )
     requires { ⌜ length (now matrix) ≡ checks * mechanisms ⌝ }
     requires { ⌜ (checks < 4294967296) × (mechanisms < 4294967296) × (countEdges (now matrix) < 4294967296) ⌝ }
-    requires { ⌜ (length (now «check_var») ≡ countEdges (now matrix)) × (length (now «check_message») ≡ countEdges (now matrix)) × (length (now «check_offset») ≡ suc checks) ⌝ }
-    requires { ⌜ (length (now «var_check») ≡ countEdges (now matrix)) × (length (now «var_message») ≡ countEdges (now matrix)) × (length (now «var_offset») ≡ suc mechanisms) ⌝ }
-    ensures { λ _. ⌜ graph checks mechanisms (now («check_var» .exit)) (now («check_message» .exit)) (now («check_offset» .exit)) (now («var_check» .exit)) (now («var_message» .exit)) (now («var_offset» .exit)) ≡ graphOf checks mechanisms (marked mechanisms (now (matrix .entry))) ⌝ }
+    requires { ⌜
+        (length (now «check_var») ≡ countEdges (now matrix))
+        × (length (now «check_message») ≡ countEdges (now matrix))
+        × (length (now «check_offset») ≡ suc checks) ⌝ }
+    requires { ⌜
+        (length (now «var_check») ≡ countEdges (now matrix))
+        × (length (now «var_message») ≡ countEdges (now matrix))
+        × (length (now «var_offset») ≡ suc mechanisms) ⌝ }
+    ensures { λ _. ⌜
+        graph checks mechanisms (now («check_var» .exit)) (now («check_message» .exit)) (now («check_offset» .exit))
+        (now («var_check» .exit)) (now («var_message» .exit)) (now («var_offset» .exit))
+        ≡ graphOf checks mechanisms (marked mechanisms (now (matrix .entry))) ⌝ }
 {
     mark_rows(checks, mechanisms, matrix, check_var, check_offset);
     from_checks(

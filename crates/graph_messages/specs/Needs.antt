@@ -42,3 +42,13 @@ pub record Ordered (min1 min2 : Float) : Type 0 where
   pub magnitude : abs min1 ≡ min1
   pub not-above : lt min2 min1 ≡ false
   pub follows : (x : Float) → lt (abs x) min1 ≡ true → lt (abs x) min2 ≡ true
+
+-- ---- lists that are long enough
+
+-- a message to an edge in both
+abbrev pub PerEdge : ℕ → List Float → List Float → Type 0
+PerEdge edges cToV vToC = (length cToV ≡ edges) × (length vToC ≡ edges)
+
+-- what a run of min-sum works in: both messages, and the running posterior
+abbrev pub RunLists : ℕ → ℕ → List Float → List Float → List Float → Type 0
+RunLists edges mechanisms cToV vToC ewa = (length cToV ≡ edges) × (length vToC ≡ edges) × (length ewa ≡ mechanisms)

@@ -9,7 +9,8 @@ ghost use lib.ListN.{length, take};
 ghost use Rattle.numbers.specs.Loops.{every};
 ghost use Rattle.refusals.specs.Tests.{firstOf};
 ghost use Rattle.graph_lists.specs.Lists.{has};
-ghost use Rattle.graph_lists.specs.Model.{edgesGood, rising, offsetsGood, priorGood, priorFault, detectorFault, mechanismFault, countsGood, sizesGood, sparseFits, sparseFault, denseFault, graphLengths, mechanismTest};
+ghost use Rattle.graph_lists.specs.Model.{edgesGood, rising, offsetsGood, priorGood, priorFault, detectorFault, mechanismFault, countsGood};
+ghost use Rattle.graph_lists.specs.Model.{sizesGood, sparseFits, sparseFault, denseFault, graphLengths, mechanismTest};
 ghost use Rattle.graph_lists.specs.Sound.{Offsets};
 use graph_lists::Size;
 use graph_lists::indices::at;
@@ -70,7 +71,10 @@ pub fn lists_fit(
     var_message: usize,
     var_offset: usize,
 ) -> bool
-    ensures { λ r. ⌜ r ≡ graphLengths (s .checks) (s .mechanisms) (s .edges) «check_var» «check_message» «check_offset» «var_check» «var_message» «var_offset» ⌝ }
+    ensures { λ r. ⌜
+        r
+        ≡ graphLengths (s .checks) (s .mechanisms) (s .edges) «check_var» «check_message» «check_offset» «var_check» «var_message»
+        «var_offset» ⌝ }
 {
     let v = both(
         same_number(var_check, s.edges),
@@ -225,7 +229,8 @@ pub fn priors_fault(priors: &[f64]) -> Answer
 
 // 1 to 6. `fit`: the lent graph lists have their lengths.
 pub fn sparse_fault(s: Size, priors: &[f64], off: &[u32], dets: &[u32], fit: bool) -> Answer
-    ensures { λ r. ⌜ r ≡ sparseFault (s .checks) (s .mechanisms) (s .edges) (now (priors .entry)) (now (off .entry)) (now (dets .entry)) fit ⌝ }
+    ensures { λ r. ⌜
+        r ≡ sparseFault (s .checks) (s .mechanisms) (s .edges) (now (priors .entry)) (now (off .entry)) (now (dets .entry)) fit ⌝ }
 {
     if !sizes_good(s) {
         return Answer::Refused(Refusal::SizeAboveLimit);
@@ -241,8 +246,8 @@ pub fn sparse_fault(s: Size, priors: &[f64], off: &[u32], dets: &[u32], fit: boo
 
 // ---- the tests of a dense model
 
-// Counts, the lengths of matrix and priors, edges, the lent graph lists, priors. `bytes`: the matrix's length; the size's edges: how many of
-// its bytes are not zero; `fit`: the lent graph lists have their lengths.
+// Counts, the lengths of matrix and priors, edges, the lent graph lists, priors. `bytes`: the matrix's length; the size's edges: how many
+// of its bytes are not zero; `fit`: the lent graph lists have their lengths.
 pub fn dense_fault(s: Size, priors: &[f64], bytes: usize, fit: bool) -> Answer
     ensures { λ r. ⌜ r ≡ denseFault (s .checks) (s .mechanisms) (s .edges) (now (priors .entry)) bytes fit ⌝ }
 {

@@ -67,7 +67,10 @@ fn meets_good(
     requires { ⌜ Offsets checks (length (now «check_var»)) (now «check_offset») ⌝ }
     requires { ⌜ length (now ms) ≡ length (now cs) ⌝ }
     requires { ⌜ Rising checks (now cs) ⌝ }
-    ensures { λ r. ⌜ r ≡ every (length (now (cs .entry))) (entryGood (now («check_offset» .entry)) (now («check_var» .entry)) v (now (cs .entry)) (now (ms .entry))) ⌝ }
+    ensures { λ r. ⌜
+        r
+        ≡ every (length (now (cs .entry)))
+        (entryGood (now («check_offset» .entry)) (now («check_var» .entry)) v (now (cs .entry)) (now (ms .entry))) ⌝ }
 {
     let mut i = 0;
     while i < cs.len() {
@@ -92,7 +95,8 @@ fn entries_good(
 ) -> bool
     requires { ⌜ Offsets checks (length (now «check_var»)) (now «check_offset») ⌝ }
     requires { ⌜ length (now ms) ≡ length (now cs) ⌝ }
-    ensures { λ r. ⌜ r ≡ entriesGood checks (now («check_offset» .entry)) (now («check_var» .entry)) v (now (cs .entry)) (now (ms .entry)) ⌝ }
+    ensures { λ r. ⌜
+        r ≡ entriesGood checks (now («check_offset» .entry)) (now («check_var» .entry)) v (now (cs .entry)) (now (ms .entry)) ⌝ }
 {
     if !rises_below(checks, cs) {
         return false;
@@ -145,7 +149,10 @@ fn vars_good(
     requires { ⌜ Offsets checks (length (now «check_var»)) (now «check_offset») ⌝ }
     requires { ⌜ Offsets mechanisms (length (now «var_check»)) (now «var_offset») ⌝ }
     requires { ⌜ length (now «var_message») ≡ length (now «var_check») ⌝ }
-    ensures { λ r. ⌜ r ≡ every mechanisms (varGood (graph checks mechanisms (now («check_var» .entry)) (now («check_message» .entry)) (now («check_offset» .entry)) (now («var_check» .entry)) (now («var_message» .entry)) (now («var_offset» .entry)))) ⌝ }
+    ensures { λ r. ⌜
+        let g = graph checks mechanisms (now («check_var» .entry)) (now («check_message» .entry)) (now («check_offset» .entry))
+        (now («var_check» .entry)) (now («var_message» .entry)) (now («var_offset» .entry)) in
+        r ≡ every mechanisms (varGood g) ⌝ }
 {
     let mut v = 0;
     while v < mechanisms {
@@ -178,8 +185,14 @@ pub fn is_graph(
     var_message: &[u32],
     var_offset: &[u32],
 ) -> bool
-    requires { ⌜ Long edges (graph checks mechanisms (now «check_var») (now «check_message») (now «check_offset») (now «var_check») (now «var_message») (now «var_offset»)) ⌝ }
-    ensures { λ r. ⌜ r ≡ isGraph (graph checks mechanisms (now («check_var» .entry)) (now («check_message» .entry)) (now («check_offset» .entry)) (now («var_check» .entry)) (now («var_message» .entry)) (now («var_offset» .entry))) ⌝ }
+    requires { ⌜
+        let g = graph checks mechanisms (now «check_var») (now «check_message») (now «check_offset») (now «var_check») (now «var_message»)
+        (now «var_offset») in
+        Long edges g ⌝ }
+    ensures { λ r. ⌜
+        let g = graph checks mechanisms (now («check_var» .entry)) (now («check_message» .entry)) (now («check_offset» .entry))
+        (now («var_check» .entry)) (now («var_message» .entry)) (now («var_offset» .entry)) in
+        r ≡ isGraph g ⌝ }
 {
     if !offsets_good(checks, edges, check_offset) {
         return false;

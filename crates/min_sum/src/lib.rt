@@ -8,8 +8,8 @@ ghost use Rattle.min_sum.specs.Beliefs.{beliefsLists, beliefsOutcome, be
 use refusals::Answer;
 use refusals_tests::is_done;
 
-// The beliefs after so many iterations, serial or not. The posterior is the result; the running posterior and the messages are for work, and are zero after
-// any run. A call that its tests refuse writes nothing; refusal 30 zeroes the posterior.
+// The beliefs after so many iterations, serial or not. The posterior is the result; the running posterior and the messages are for work,
+// and are zero after any run. A call that its tests refuse writes nothing; refusal 30 zeroes the posterior.
 pub fn beliefs(
     size: graph::Size,
     priors: &[f64],
@@ -28,7 +28,12 @@ pub fn beliefs(
     c_to_v: &mut [f64],
     v_to_c: &mut [f64],
 ) -> Answer
-    ensures { λ r. ⌜ beliefsOutcome r (beliefsLists (now (posterior .exit)) (now («ewa_posterior» .exit)) (now («c_to_v» .exit)) (now («v_to_c» .exit))) ≡ beliefsOf (size .edges) (now (priors .entry)) (graph (size .checks) (size .mechanisms) (now («check_var» .entry)) (now («check_message» .entry)) (now («check_offset» .entry)) (now («var_check» .entry)) (now («var_message» .entry)) (now («var_offset» .entry))) (now (syndrome .entry)) iterations scale serial (beliefsLists (now (posterior .entry)) (now («ewa_posterior» .entry)) (now («c_to_v» .entry)) (now («v_to_c» .entry))) ⌝ }
+    ensures { λ r. ⌜
+        let g = graph (size .checks) (size .mechanisms) (now («check_var» .entry)) (now («check_message» .entry))
+        (now («check_offset» .entry)) (now («var_check» .entry)) (now («var_message» .entry)) (now («var_offset» .entry)) in
+        let before = beliefsLists (now (posterior .entry)) (now («ewa_posterior» .entry)) (now («c_to_v» .entry)) (now («v_to_c» .entry)) in
+        let after = beliefsLists (now (posterior .exit)) (now («ewa_posterior» .exit)) (now («c_to_v» .exit)) (now («v_to_c» .exit)) in
+        beliefsOutcome r after ≡ beliefsOf (size .edges) (now (priors .entry)) g (now (syndrome .entry)) iterations scale serial before ⌝ }
 {
     let n = tests::Lengths {
         syndrome: syndrome.len(),

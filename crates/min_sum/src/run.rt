@@ -3,8 +3,9 @@ ghost use mathlib.Core.Path.{_≡_};
 ghost use mathlib.Core.Bool.{true, false};
 ghost use mathlib.Core.List.{[]};
 ghost use lib.ListN.{length};
-ghost use Rattle.graph_messages.specs.Needs.{Walks, walked, ofVariables};
-ghost use Rattle.min_sum_pass.specs.MinSum.{messages, belief, weightOf, iterated, outerRound as outerRoundOf, allRounds as allRoundsOf, chosen as chosenOf, chosenTo, minSumBp};
+ghost use Rattle.graph_messages.specs.Needs.{Walks, walked, ofVariables, RunLists};
+ghost use Rattle.min_sum_pass.specs.MinSum.{messages, belief, weightOf, iterated, outerRound as outerRoundOf, allRounds as allRoundsOf};
+ghost use Rattle.min_sum_pass.specs.MinSum.{chosen as chosenOf, chosenTo, minSumBp};
 ghost use Rattle.min_sum.specs.Beliefs.{beliefsLists, beliefsOutcome, ran as ranOf};
 use refusals::Answer;
 use refusals_tests::both;
@@ -37,8 +38,13 @@ fn iterate_parallel(
 )
     requires { ⌜ Walks (length (now syndrome)) (length (now priors)) (now «check_var») (now «check_offset») ⌝ }
     requires { ⌜ Walks (length (now priors)) (length (now «check_var»)) (now «var_message») (now «var_offset») ⌝ }
-    requires { ⌜ (length (now «c_to_v») ≡ length (now «check_var»)) × (length (now «v_to_c») ≡ length (now «check_var»)) × (length (now «ewa_posterior») ≡ length (now priors)) ⌝ }
-    ensures { λ _. ⌜ belief (messages (now («c_to_v» .exit)) (now («v_to_c» .exit))) (now («ewa_posterior» .exit)) ≡ iterated (walked (length (now (syndrome .entry))) (length (now (priors .entry))) (now («check_var» .entry)) (now («check_offset» .entry)) (now («var_message» .entry)) (now («var_offset» .entry))) false scale (now (syndrome .entry)) (now (priors .entry)) weight (belief (messages (now («c_to_v» .entry)) (now («v_to_c» .entry))) (now («ewa_posterior» .entry))) ⌝ }
+    requires { ⌜ RunLists (length (now «check_var»)) (length (now priors)) (now «c_to_v») (now «v_to_c») (now «ewa_posterior») ⌝ }
+    ensures { λ _. ⌜
+        let g = walked (length (now (syndrome .entry))) (length (now (priors .entry))) (now («check_var» .entry))
+        (now («check_offset» .entry)) (now («var_message» .entry)) (now («var_offset» .entry)) in
+        let before = belief (messages (now («c_to_v» .entry)) (now («v_to_c» .entry))) (now («ewa_posterior» .entry)) in
+        let after = messages (now («c_to_v» .exit)) (now («v_to_c» .exit)) in
+        belief after (now («ewa_posterior» .exit)) ≡ iterated g false scale (now (syndrome .entry)) (now (priors .entry)) weight before ⌝ }
 {
     min_sum_pass::pass::parallel_checks(scale, syndrome, check_var, check_offset, v_to_c, c_to_v);
     min_sum_pass::pass::update_and_average(
@@ -68,8 +74,13 @@ fn iterate_serial(
 )
     requires { ⌜ Walks (length (now syndrome)) (length (now priors)) (now «check_var») (now «check_offset») ⌝ }
     requires { ⌜ Walks (length (now priors)) (length (now «check_var»)) (now «var_message») (now «var_offset») ⌝ }
-    requires { ⌜ (length (now «c_to_v») ≡ length (now «check_var»)) × (length (now «v_to_c») ≡ length (now «check_var»)) × (length (now «ewa_posterior») ≡ length (now priors)) ⌝ }
-    ensures { λ _. ⌜ belief (messages (now («c_to_v» .exit)) (now («v_to_c» .exit))) (now («ewa_posterior» .exit)) ≡ iterated (walked (length (now (syndrome .entry))) (length (now (priors .entry))) (now («check_var» .entry)) (now («check_offset» .entry)) (now («var_message» .entry)) (now («var_offset» .entry))) true scale (now (syndrome .entry)) (now (priors .entry)) weight (belief (messages (now («c_to_v» .entry)) (now («v_to_c» .entry))) (now («ewa_posterior» .entry))) ⌝ }
+    requires { ⌜ RunLists (length (now «check_var»)) (length (now priors)) (now «c_to_v») (now «v_to_c») (now «ewa_posterior») ⌝ }
+    ensures { λ _. ⌜
+        let g = walked (length (now (syndrome .entry))) (length (now (priors .entry))) (now («check_var» .entry))
+        (now («check_offset» .entry)) (now («var_message» .entry)) (now («var_offset» .entry)) in
+        let before = belief (messages (now («c_to_v» .entry)) (now («v_to_c» .entry))) (now («ewa_posterior» .entry)) in
+        let after = messages (now («c_to_v» .exit)) (now («v_to_c» .exit)) in
+        belief after (now («ewa_posterior» .exit)) ≡ iterated g true scale (now (syndrome .entry)) (now (priors .entry)) weight before ⌝ }
 {
     min_sum_pass::pass::serial_checks(
         scale,
@@ -109,8 +120,13 @@ fn iterate(
 )
     requires { ⌜ Walks (length (now syndrome)) (length (now priors)) (now «check_var») (now «check_offset») ⌝ }
     requires { ⌜ Walks (length (now priors)) (length (now «check_var»)) (now «var_message») (now «var_offset») ⌝ }
-    requires { ⌜ (length (now «c_to_v») ≡ length (now «check_var»)) × (length (now «v_to_c») ≡ length (now «check_var»)) × (length (now «ewa_posterior») ≡ length (now priors)) ⌝ }
-    ensures { λ _. ⌜ belief (messages (now («c_to_v» .exit)) (now («v_to_c» .exit))) (now («ewa_posterior» .exit)) ≡ iterated (walked (length (now (syndrome .entry))) (length (now (priors .entry))) (now («check_var» .entry)) (now («check_offset» .entry)) (now («var_message» .entry)) (now («var_offset» .entry))) serial scale (now (syndrome .entry)) (now (priors .entry)) weight (belief (messages (now («c_to_v» .entry)) (now («v_to_c» .entry))) (now («ewa_posterior» .entry))) ⌝ }
+    requires { ⌜ RunLists (length (now «check_var»)) (length (now priors)) (now «c_to_v») (now «v_to_c») (now «ewa_posterior») ⌝ }
+    ensures { λ _. ⌜
+        let g = walked (length (now (syndrome .entry))) (length (now (priors .entry))) (now («check_var» .entry))
+        (now («check_offset» .entry)) (now («var_message» .entry)) (now («var_offset» .entry)) in
+        let before = belief (messages (now («c_to_v» .entry)) (now («v_to_c» .entry))) (now («ewa_posterior» .entry)) in
+        let after = messages (now («c_to_v» .exit)) (now («v_to_c» .exit)) in
+        belief after (now («ewa_posterior» .exit)) ≡ iterated g serial scale (now (syndrome .entry)) (now (priors .entry)) weight before ⌝ }
 {
     if serial {
         iterate_serial(
@@ -161,8 +177,14 @@ fn outer_round(
 )
     requires { ⌜ Walks (length (now syndrome)) (length (now priors)) (now «check_var») (now «check_offset») ⌝ }
     requires { ⌜ Walks (length (now priors)) (length (now «check_var»)) (now «var_message») (now «var_offset») ⌝ }
-    requires { ⌜ (length (now «c_to_v») ≡ length (now «check_var»)) × (length (now «v_to_c») ≡ length (now «check_var»)) × (length (now «ewa_posterior») ≡ length (now priors)) ⌝ }
-    ensures { λ _. ⌜ belief (messages (now («c_to_v» .exit)) (now («v_to_c» .exit))) (now («ewa_posterior» .exit)) ≡ outerRoundOf (walked (length (now (syndrome .entry))) (length (now (priors .entry))) (now («check_var» .entry)) (now («check_offset» .entry)) (now («var_message» .entry)) (now («var_offset» .entry))) serial scale (now (syndrome .entry)) (now (priors .entry)) inner outer (belief (messages (now («c_to_v» .entry)) (now («v_to_c» .entry))) (now («ewa_posterior» .entry))) ⌝ }
+    requires { ⌜ RunLists (length (now «check_var»)) (length (now priors)) (now «c_to_v») (now «v_to_c») (now «ewa_posterior») ⌝ }
+    ensures { λ _. ⌜
+        let g = walked (length (now (syndrome .entry))) (length (now (priors .entry))) (now («check_var» .entry))
+        (now («check_offset» .entry)) (now («var_message» .entry)) (now («var_offset» .entry)) in
+        let before = belief (messages (now («c_to_v» .entry)) (now («v_to_c» .entry))) (now («ewa_posterior» .entry)) in
+        let after = messages (now («c_to_v» .exit)) (now («v_to_c» .exit)) in
+        belief after (now («ewa_posterior» .exit))
+        ≡ outerRoundOf g serial scale (now (syndrome .entry)) (now (priors .entry)) inner outer before ⌝ }
 {
     graph_messages::clear(c_to_v);
     graph_messages::from_variables(check_var, ewa_posterior, v_to_c);
@@ -203,8 +225,15 @@ fn two_outer_rounds(
 )
     requires { ⌜ Walks (length (now syndrome)) (length (now priors)) (now «check_var») (now «check_offset») ⌝ }
     requires { ⌜ Walks (length (now priors)) (length (now «check_var»)) (now «var_message») (now «var_offset») ⌝ }
-    requires { ⌜ (length (now «c_to_v») ≡ length (now «check_var»)) × (length (now «v_to_c») ≡ length (now «check_var»)) × (length (now «ewa_posterior») ≡ length (now priors)) ⌝ }
-    ensures { λ _. ⌜ belief (messages (now («c_to_v» .exit)) (now («v_to_c» .exit))) (now («ewa_posterior» .exit)) ≡ outerRoundOf (walked (length (now (syndrome .entry))) (length (now (priors .entry))) (now («check_var» .entry)) (now («check_offset» .entry)) (now («var_message» .entry)) (now («var_offset» .entry))) serial scale (now (syndrome .entry)) (now (priors .entry)) inner 1 (outerRoundOf (walked (length (now (syndrome .entry))) (length (now (priors .entry))) (now («check_var» .entry)) (now («check_offset» .entry)) (now («var_message» .entry)) (now («var_offset» .entry))) serial scale (now (syndrome .entry)) (now (priors .entry)) inner 0 (belief (messages (now («c_to_v» .entry)) (now («v_to_c» .entry))) (now («ewa_posterior» .entry)))) ⌝ }
+    requires { ⌜ RunLists (length (now «check_var»)) (length (now priors)) (now «c_to_v») (now «v_to_c») (now «ewa_posterior») ⌝ }
+    ensures { λ _. ⌜
+        let g = walked (length (now (syndrome .entry))) (length (now (priors .entry))) (now («check_var» .entry))
+        (now («check_offset» .entry)) (now («var_message» .entry)) (now («var_offset» .entry)) in
+        let before = belief (messages (now («c_to_v» .entry)) (now («v_to_c» .entry))) (now («ewa_posterior» .entry)) in
+        let after = messages (now («c_to_v» .exit)) (now («v_to_c» .exit)) in
+        belief after (now («ewa_posterior» .exit))
+        ≡ outerRoundOf g serial scale (now (syndrome .entry)) (now (priors .entry)) inner 1
+        (outerRoundOf g serial scale (now (syndrome .entry)) (now (priors .entry)) inner 0 before) ⌝ }
 {
     outer_round(
         inner,
@@ -255,8 +284,12 @@ fn all_rounds(
 )
     requires { ⌜ Walks (length (now syndrome)) (length (now priors)) (now «check_var») (now «check_offset») ⌝ }
     requires { ⌜ Walks (length (now priors)) (length (now «check_var»)) (now «var_message») (now «var_offset») ⌝ }
-    requires { ⌜ (length (now «c_to_v») ≡ length (now «check_var»)) × (length (now «v_to_c») ≡ length (now «check_var»)) × (length (now «ewa_posterior») ≡ length (now priors)) ⌝ }
-    ensures { λ _. ⌜ belief (messages (now («c_to_v» .exit)) (now («v_to_c» .exit))) (now («ewa_posterior» .exit)) ≡ allRoundsOf (walked (length (now (syndrome .entry))) (length (now (priors .entry))) (now («check_var» .entry)) (now («check_offset» .entry)) (now («var_message» .entry)) (now («var_offset» .entry))) serial scale (now (syndrome .entry)) (now (priors .entry)) n ⌝ }
+    requires { ⌜ RunLists (length (now «check_var»)) (length (now priors)) (now «c_to_v») (now «v_to_c») (now «ewa_posterior») ⌝ }
+    ensures { λ _. ⌜
+        let g = walked (length (now (syndrome .entry))) (length (now (priors .entry))) (now («check_var» .entry))
+        (now («check_offset» .entry)) (now («var_message» .entry)) (now («var_offset» .entry)) in
+        let after = messages (now («c_to_v» .exit)) (now («v_to_c» .exit)) in
+        belief after (now («ewa_posterior» .exit)) ≡ allRoundsOf g serial scale (now (syndrome .entry)) (now (priors .entry)) n ⌝ }
 {
     graph_messages::copy(priors, ewa_posterior);
     if n < 6 {
@@ -317,7 +350,10 @@ fn choose(
 )
     requires { ⌜ Walks (length (now priors)) (length (now «c_to_v»)) (now «var_message») (now «var_offset») ⌝ }
     requires { ⌜ (length (now «ewa_posterior») ≡ length (now priors)) × (length (now posterior) ≡ length (now priors)) ⌝ }
-    ensures { λ _. ⌜ now (posterior .exit) ≡ chosenTo (ofVariables (length (now (priors .entry))) (now («var_message» .entry)) (now («var_offset» .entry))) (now (priors .entry)) (belief (messages (now («c_to_v» .entry)) []) (now («ewa_posterior» .entry))) (length (now (priors .entry))) ⌝ }
+    ensures { λ _. ⌜
+        let g = ofVariables (length (now (priors .entry))) (now («var_message» .entry)) (now («var_offset» .entry)) in
+        let before = belief (messages (now («c_to_v» .entry)) []) (now («ewa_posterior» .entry)) in
+        now (posterior .exit) ≡ chosenTo g (now (priors .entry)) before (length (now (priors .entry))) ⌝ }
 {
     let mut v = 0;
     while v < priors.len() {
@@ -345,9 +381,12 @@ pub(crate) fn min_sum_bp(
 )
     requires { ⌜ Walks (length (now syndrome)) (length (now priors)) (now «check_var») (now «check_offset») ⌝ }
     requires { ⌜ Walks (length (now priors)) (length (now «check_var»)) (now «var_message») (now «var_offset») ⌝ }
-    requires { ⌜ (length (now «c_to_v») ≡ length (now «check_var»)) × (length (now «v_to_c») ≡ length (now «check_var»)) × (length (now «ewa_posterior») ≡ length (now priors)) ⌝ }
+    requires { ⌜ RunLists (length (now «check_var»)) (length (now priors)) (now «c_to_v») (now «v_to_c») (now «ewa_posterior») ⌝ }
     requires { ⌜ length (now posterior) ≡ length (now priors) ⌝ }
-    ensures { λ _. ⌜ now (posterior .exit) ≡ minSumBp (walked (length (now (syndrome .entry))) (length (now (priors .entry))) (now («check_var» .entry)) (now («check_offset» .entry)) (now («var_message» .entry)) (now («var_offset» .entry))) serial scale (now (syndrome .entry)) (now (priors .entry)) n ⌝ }
+    ensures { λ _. ⌜
+        let g = walked (length (now (syndrome .entry))) (length (now (priors .entry))) (now («check_var» .entry))
+        (now («check_offset» .entry)) (now («var_message» .entry)) (now («var_offset» .entry)) in
+        now (posterior .exit) ≡ minSumBp g serial scale (now (syndrome .entry)) (now (priors .entry)) n ⌝ }
 {
     all_rounds(
         n,
@@ -391,9 +430,14 @@ pub(crate) fn ran(
 ) -> Answer
     requires { ⌜ Walks (length (now syndrome)) (length (now priors)) (now «check_var») (now «check_offset») ⌝ }
     requires { ⌜ Walks (length (now priors)) (length (now «check_var»)) (now «var_message») (now «var_offset») ⌝ }
-    requires { ⌜ (length (now «c_to_v») ≡ length (now «check_var»)) × (length (now «v_to_c») ≡ length (now «check_var»)) × (length (now «ewa_posterior») ≡ length (now priors)) ⌝ }
+    requires { ⌜ RunLists (length (now «check_var»)) (length (now priors)) (now «c_to_v») (now «v_to_c») (now «ewa_posterior») ⌝ }
     requires { ⌜ length (now posterior) ≡ length (now priors) ⌝ }
-    ensures { λ r. ⌜ beliefsOutcome r (beliefsLists (now (posterior .exit)) (now («ewa_posterior» .exit)) (now («c_to_v» .exit)) (now («v_to_c» .exit))) ≡ ranOf (length (now («check_var» .entry))) (walked (length (now (syndrome .entry))) (length (now (priors .entry))) (now («check_var» .entry)) (now («check_offset» .entry)) (now («var_message» .entry)) (now («var_offset» .entry))) (minSumBp (walked (length (now (syndrome .entry))) (length (now (priors .entry))) (now («check_var» .entry)) (now («check_offset» .entry)) (now («var_message» .entry)) (now («var_offset» .entry))) serial scale (now (syndrome .entry)) (now (priors .entry)) n) ⌝ }
+    ensures { λ r. ⌜
+        let g = walked (length (now (syndrome .entry))) (length (now (priors .entry))) (now («check_var» .entry))
+        (now («check_offset» .entry)) (now («var_message» .entry)) (now («var_offset» .entry)) in
+        let after = beliefsLists (now (posterior .exit)) (now («ewa_posterior» .exit)) (now («c_to_v» .exit)) (now («v_to_c» .exit)) in
+        beliefsOutcome r after
+        ≡ ranOf (length (now («check_var» .entry))) g (minSumBp g serial scale (now (syndrome .entry)) (now (priors .entry)) n) ⌝ }
 {
     min_sum_bp(
         n,

@@ -26,7 +26,10 @@ pub(crate) struct Lengths {
 
 // 22: the lent lists fit.
 fn lists_fit(size: graph::Size, n: Lengths) -> bool
-    ensures { λ r. ⌜ r ≡ (eqb (n .posterior) (size .mechanisms) && (eqb (n .«ewa_posterior») (size .mechanisms) && (eqb (n .«c_to_v») (size .edges) && eqb (n .«v_to_c») (size .edges)))) ⌝ }
+    ensures { λ r. ⌜
+        r
+        ≡ (eqb (n .posterior) (size .mechanisms)
+        && (eqb (n .«ewa_posterior») (size .mechanisms) && (eqb (n .«c_to_v») (size .edges) && eqb (n .«v_to_c») (size .edges)))) ⌝ }
 {
     let messages = both(
         same_number(n.c_to_v, size.edges),
@@ -38,7 +41,12 @@ fn lists_fit(size: graph::Size, n: Lengths) -> bool
 
 // 12, 20 and 22.
 fn run_fault(size: graph::Size, iterations: usize, n: Lengths) -> Answer
-    ensures { λ r. ⌜ r ≡ orElse (unless (leb iterations maxCount) BadIterations) (orElse (unless (eqb (n .syndrome) (size .checks)) SyndromeLength) (unless (eqb (n .posterior) (size .mechanisms) && (eqb (n .«ewa_posterior») (size .mechanisms) && (eqb (n .«c_to_v») (size .edges) && eqb (n .«v_to_c») (size .edges)))) LentListLength)) ⌝ }
+    ensures { λ r. ⌜
+        r
+        ≡ orElse (unless (leb iterations maxCount) BadIterations) (orElse (unless (eqb (n .syndrome) (size .checks)) SyndromeLength) (unless
+        (eqb (n .posterior) (size .mechanisms)
+        && (eqb (n .«ewa_posterior») (size .mechanisms)
+        && (eqb (n .«c_to_v») (size .edges) && eqb (n .«v_to_c») (size .edges)))) LentListLength)) ⌝ }
 {
     if !at_most(iterations, MAX_COUNT) {
         return Answer::Refused(Refusal::BadIterations);
@@ -65,7 +73,14 @@ pub(crate) fn fault(
     iterations: usize,
     n: Lengths,
 ) -> Answer
-    ensures { λ r. ⌜ r ≡ orElse (graphFault (size .edges) (now (priors .entry)) (graph (size .checks) (size .mechanisms) (now («check_var» .entry)) (now («check_message» .entry)) (now («check_offset» .entry)) (now («var_check» .entry)) (now («var_message» .entry)) (now («var_offset» .entry)))) (orElse (unless (leb iterations maxCount) BadIterations) (orElse (unless (eqb (n .syndrome) (size .checks)) SyndromeLength) (unless (eqb (n .posterior) (size .mechanisms) && (eqb (n .«ewa_posterior») (size .mechanisms) && (eqb (n .«c_to_v») (size .edges) && eqb (n .«v_to_c») (size .edges)))) LentListLength))) ⌝ }
+    ensures { λ r. ⌜
+        let g = graph (size .checks) (size .mechanisms) (now («check_var» .entry)) (now («check_message» .entry))
+        (now («check_offset» .entry)) (now («var_check» .entry)) (now («var_message» .entry)) (now («var_offset» .entry)) in
+        r
+        ≡ orElse (graphFault (size .edges) (now (priors .entry)) g) (orElse (unless (leb iterations maxCount) BadIterations) (orElse
+        (unless (eqb (n .syndrome) (size .checks)) SyndromeLength) (unless (eqb (n .posterior) (size .mechanisms)
+        && (eqb (n .«ewa_posterior») (size .mechanisms)
+        && (eqb (n .«c_to_v») (size .edges) && eqb (n .«v_to_c») (size .edges)))) LentListLength))) ⌝ }
 {
     let a = graph::check_graph(
         size,

@@ -24,7 +24,9 @@ fn flipped(sign: f64, message: f64) -> f64
 // The message at a position.
 fn scanned(s: Scan, position: usize, message: f64) -> Scan
     requires { ⌜ Ordered (s .min1) (s .min2) ⌝ }
-    ensures scan { λ r. ⌜ scanOf (r .«total_sign») (r .min1) (r .min2) (r .least) ≡ scannedOf (scanOf (s .«total_sign») (s .min1) (s .min2) (s .least)) position message ⌝ }
+    ensures scan { λ r. ⌜
+        let before = scanOf (s .«total_sign») (s .min1) (s .min2) (s .least) in
+        scanOf (r .«total_sign») (r .min1) (r .min2) (r .least) ≡ scannedOf before position message ⌝ }
     ensures ordered { λ r. ⌜ Ordered (r .min1) (r .min2) ⌝ }
 {
     lowered(s, flipped(s.total_sign, message), position, message)
@@ -32,7 +34,8 @@ fn scanned(s: Scan, position: usize, message: f64) -> Scan
 
 // The first pass.
 fn scan_check(odd: bool, messages: &[f64]) -> Scan
-    ensures { λ r. ⌜ scanOf (r .«total_sign») (r .min1) (r .min2) (r .least) ≡ scanTo odd (now (messages .entry)) (length (now (messages .entry))) ⌝ }
+    ensures { λ r. ⌜
+        scanOf (r .«total_sign») (r .min1) (r .min2) (r .least) ≡ scanTo odd (now (messages .entry)) (length (now (messages .entry))) ⌝ }
 {
     let mut s = start_scan(odd, 0xFFFFFFFFFFFFFFFF);
     let mut i = 0;
@@ -63,7 +66,9 @@ fn sent_at(scale: f64, total_sign: f64, minimum: f64, message: f64) -> f64
 // One minimum sent at all positions.
 fn send(scale: f64, total_sign: f64, minimum: f64, v_to_c: &[f64], c_to_v: &mut [f64])
     requires { ⌜ length (now «c_to_v») ≡ length (now «v_to_c») ⌝ }
-    ensures { λ _. ⌜ now («c_to_v» .exit) ≡ sentTo scale (scanOf «total_sign» minimum minimum 0) (now («v_to_c» .entry)) (length (now («v_to_c» .entry))) ⌝ }
+    ensures { λ _. ⌜
+        now («c_to_v» .exit)
+        ≡ sentTo scale (scanOf «total_sign» minimum minimum 0) (now («v_to_c» .entry)) (length (now («v_to_c» .entry))) ⌝ }
 {
     let mut i = 0;
     while i < v_to_c.len() {
@@ -72,7 +77,8 @@ fn send(scale: f64, total_sign: f64, minimum: f64, v_to_c: &[f64], c_to_v: &mut 
     }
 }
 
-// All that a check of two entries or more sends, from all that came in: the least at all positions, and the next at the position of the least.
+// All that a check of two entries or more sends, from all that came in: the least at all positions, and the next at the position of the
+// least.
 fn update_check(scale: f64, odd: bool, v_to_c: &[f64], c_to_v: &mut [f64])
     requires { ⌜ length (now «c_to_v») ≡ length (now «v_to_c») ⌝ }
     ensures { λ _. ⌜ now («c_to_v» .exit) ≡ checkMessages scale odd (now («v_to_c» .entry)) ⌝ }
@@ -95,7 +101,9 @@ pub(crate) fn update_part(
     c_to_v: &mut [f64],
 )
     requires { ⌜ (start ≤ end) × (end ≤ length (now «v_to_c»)) × (length (now «c_to_v») ≡ length (now «v_to_c»)) ⌝ }
-    ensures { λ _. ⌜ now («c_to_v» .exit) ≡ spliced (now («c_to_v» .entry)) start end (checkMessages scale odd (part start end (now («v_to_c» .entry)))) ⌝ }
+    ensures { λ _. ⌜
+        now («c_to_v» .exit)
+        ≡ spliced (now («c_to_v» .entry)) start end (checkMessages scale odd (part start end (now («v_to_c» .entry)))) ⌝ }
 {
     update_check(scale, odd, &v_to_c[start..end], &mut c_to_v[start..end]);
 }

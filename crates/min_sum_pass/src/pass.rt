@@ -5,8 +5,9 @@ ghost use Prim.Native.Nat.{_<_};
 ghost use lib.Dec.{ltb};
 ghost use lib.ListN.{length};
 ghost use Rattle.graph_lists.specs.Sound.{Offsets};
-ghost use Rattle.graph_messages.specs.Needs.{Walks, walked, ofChecks, ofVariables};
-ghost use Rattle.min_sum_pass.specs.MinSum.{messages, parallelCheck, serialCheck, checksTo, serialTo, variablesTo, runningAverage as mixedOf, averaged};
+ghost use Rattle.graph_messages.specs.Needs.{Walks, walked, ofChecks, ofVariables, PerEdge};
+ghost use Rattle.min_sum_pass.specs.MinSum.{messages, parallelCheck, serialCheck, checksTo, serialTo, variablesTo};
+ghost use Rattle.min_sum_pass.specs.MinSum.{runningAverage as mixedOf, averaged};
 
 // A check with so few entries is skipped.
 fn too_few(entries: &[u32]) -> bool
@@ -27,8 +28,11 @@ fn parallel_check(
 )
     requires { ⌜ c < length (now syndrome) ⌝ }
     requires { ⌜ Offsets (length (now syndrome)) (length (now «check_var»)) (now «check_offset») ⌝ }
-    requires { ⌜ (length (now «v_to_c») ≡ length (now «check_var»)) × (length (now «c_to_v») ≡ length (now «check_var»)) ⌝ }
-    ensures { λ _. ⌜ messages (now («c_to_v» .exit)) (now («v_to_c» .entry)) ≡ parallelCheck (ofChecks (length (now (syndrome .entry))) (now («check_var» .entry)) (now («check_offset» .entry))) scale (now (syndrome .entry)) (messages (now («c_to_v» .entry)) (now («v_to_c» .entry))) c ⌝ }
+    requires { ⌜ PerEdge (length (now «check_var»)) (now «v_to_c») (now «c_to_v») ⌝ }
+    ensures { λ _. ⌜
+        let g = ofChecks (length (now (syndrome .entry))) (now («check_var» .entry)) (now («check_offset» .entry)) in
+        let before = messages (now («c_to_v» .entry)) (now («v_to_c» .entry)) in
+        messages (now («c_to_v» .exit)) (now («v_to_c» .entry)) ≡ parallelCheck g scale (now (syndrome .entry)) before c ⌝ }
 {
     let start = graph_lists::indices::at(check_offset, c);
     let end = graph_lists::indices::at(check_offset, c + 1);
@@ -48,8 +52,12 @@ pub fn parallel_checks(
     c_to_v: &mut [f64],
 )
     requires { ⌜ Offsets (length (now syndrome)) (length (now «check_var»)) (now «check_offset») ⌝ }
-    requires { ⌜ (length (now «v_to_c») ≡ length (now «check_var»)) × (length (now «c_to_v») ≡ length (now «check_var»)) ⌝ }
-    ensures { λ _. ⌜ messages (now («c_to_v» .exit)) (now («v_to_c» .entry)) ≡ checksTo (ofChecks (length (now (syndrome .entry))) (now («check_var» .entry)) (now («check_offset» .entry))) scale (now (syndrome .entry)) (messages (now («c_to_v» .entry)) (now («v_to_c» .entry))) (length (now (syndrome .entry))) ⌝ }
+    requires { ⌜ PerEdge (length (now «check_var»)) (now «v_to_c») (now «c_to_v») ⌝ }
+    ensures { λ _. ⌜
+        let g = ofChecks (length (now (syndrome .entry))) (now («check_var» .entry)) (now («check_offset» .entry)) in
+        let before = messages (now («c_to_v» .entry)) (now («v_to_c» .entry)) in
+        messages (now («c_to_v» .exit)) (now («v_to_c» .entry))
+        ≡ checksTo g scale (now (syndrome .entry)) before (length (now (syndrome .entry))) ⌝ }
 {
     let mut c = 0;
     while c < syndrome.len() {
@@ -77,8 +85,15 @@ pub fn update_and_average(
 )
     requires { ⌜ Walks (length (now priors)) (length (now «c_to_v»)) (now «var_message») (now «var_offset») ⌝ }
     requires { ⌜ (length (now «v_to_c») ≡ length (now «c_to_v»)) × (length (now «ewa_posterior») ≡ length (now priors)) ⌝ }
-    ensures messages { λ _. ⌜ messages (now («c_to_v» .entry)) (now («v_to_c» .exit)) ≡ variablesTo (ofVariables (length (now (priors .entry))) (now («var_message» .entry)) (now («var_offset» .entry))) (now (priors .entry)) (messages (now («c_to_v» .entry)) (now («v_to_c» .entry))) (length (now (priors .entry))) ⌝ }
-    ensures average { λ _. ⌜ now («ewa_posterior» .exit) ≡ averaged (ofVariables (length (now (priors .entry))) (now («var_message» .entry)) (now («var_offset» .entry))) (now (priors .entry)) weight (messages (now («c_to_v» .entry)) []) (now («ewa_posterior» .entry)) ⌝ }
+    ensures messages { λ _. ⌜
+        let g = ofVariables (length (now (priors .entry))) (now («var_message» .entry)) (now («var_offset» .entry)) in
+        let before = messages (now («c_to_v» .entry)) (now («v_to_c» .entry)) in
+        messages (now («c_to_v» .entry)) (now («v_to_c» .exit))
+        ≡ variablesTo g (now (priors .entry)) before (length (now (priors .entry))) ⌝ }
+    ensures average { λ _. ⌜
+        let g = ofVariables (length (now (priors .entry))) (now («var_message» .entry)) (now («var_offset» .entry)) in
+        now («ewa_posterior» .exit)
+        ≡ averaged g (now (priors .entry)) weight (messages (now («c_to_v» .entry)) []) (now («ewa_posterior» .entry)) ⌝ }
 {
     let mut v = 0;
     while v < priors.len() {
@@ -106,7 +121,10 @@ pub fn average(
 )
     requires { ⌜ Walks (length (now priors)) (length (now «c_to_v»)) (now «var_message») (now «var_offset») ⌝ }
     requires { ⌜ length (now «ewa_posterior») ≡ length (now priors) ⌝ }
-    ensures { λ _. ⌜ now («ewa_posterior» .exit) ≡ averaged (ofVariables (length (now (priors .entry))) (now («var_message» .entry)) (now («var_offset» .entry))) (now (priors .entry)) weight (messages (now («c_to_v» .entry)) []) (now («ewa_posterior» .entry)) ⌝ }
+    ensures { λ _. ⌜
+        let g = ofVariables (length (now (priors .entry))) (now («var_message» .entry)) (now («var_offset» .entry)) in
+        now («ewa_posterior» .exit)
+        ≡ averaged g (now (priors .entry)) weight (messages (now («c_to_v» .entry)) []) (now («ewa_posterior» .entry)) ⌝ }
 {
     let mut v = 0;
     while v < priors.len() {
@@ -132,8 +150,13 @@ fn serial_check(
     requires { ⌜ c < length (now syndrome) ⌝ }
     requires { ⌜ Walks (length (now syndrome)) (length (now priors)) (now «check_var») (now «check_offset») ⌝ }
     requires { ⌜ Walks (length (now priors)) (length (now «check_var»)) (now «var_message») (now «var_offset») ⌝ }
-    requires { ⌜ (length (now «c_to_v») ≡ length (now «check_var»)) × (length (now «v_to_c») ≡ length (now «check_var»)) ⌝ }
-    ensures { λ _. ⌜ messages (now («c_to_v» .exit)) (now («v_to_c» .exit)) ≡ serialCheck (walked (length (now (syndrome .entry))) (length (now (priors .entry))) (now («check_var» .entry)) (now («check_offset» .entry)) (now («var_message» .entry)) (now («var_offset» .entry))) scale (now (syndrome .entry)) (now (priors .entry)) (messages (now («c_to_v» .entry)) (now («v_to_c» .entry))) c ⌝ }
+    requires { ⌜ PerEdge (length (now «check_var»)) (now «c_to_v») (now «v_to_c») ⌝ }
+    ensures { λ _. ⌜
+        let g = walked (length (now (syndrome .entry))) (length (now (priors .entry))) (now («check_var» .entry))
+        (now («check_offset» .entry)) (now («var_message» .entry)) (now («var_offset» .entry)) in
+        let before = messages (now («c_to_v» .entry)) (now («v_to_c» .entry)) in
+        messages (now («c_to_v» .exit)) (now («v_to_c» .exit))
+        ≡ serialCheck g scale (now (syndrome .entry)) (now (priors .entry)) before c ⌝ }
 {
     let start = graph_lists::indices::at(check_offset, c);
     let end = graph_lists::indices::at(check_offset, c + 1);
@@ -165,8 +188,13 @@ pub fn serial_checks(
 )
     requires { ⌜ Walks (length (now syndrome)) (length (now priors)) (now «check_var») (now «check_offset») ⌝ }
     requires { ⌜ Walks (length (now priors)) (length (now «check_var»)) (now «var_message») (now «var_offset») ⌝ }
-    requires { ⌜ (length (now «c_to_v») ≡ length (now «check_var»)) × (length (now «v_to_c») ≡ length (now «check_var»)) ⌝ }
-    ensures { λ _. ⌜ messages (now («c_to_v» .exit)) (now («v_to_c» .exit)) ≡ serialTo (walked (length (now (syndrome .entry))) (length (now (priors .entry))) (now («check_var» .entry)) (now («check_offset» .entry)) (now («var_message» .entry)) (now («var_offset» .entry))) scale (now (syndrome .entry)) (now (priors .entry)) (messages (now («c_to_v» .entry)) (now («v_to_c» .entry))) (length (now (syndrome .entry))) ⌝ }
+    requires { ⌜ PerEdge (length (now «check_var»)) (now «c_to_v») (now «v_to_c») ⌝ }
+    ensures { λ _. ⌜
+        let g = walked (length (now (syndrome .entry))) (length (now (priors .entry))) (now («check_var» .entry))
+        (now («check_offset» .entry)) (now («var_message» .entry)) (now («var_offset» .entry)) in
+        let before = messages (now («c_to_v» .entry)) (now («v_to_c» .entry)) in
+        messages (now («c_to_v» .exit)) (now («v_to_c» .exit))
+        ≡ serialTo g scale (now (syndrome .entry)) (now (priors .entry)) before (length (now (syndrome .entry))) ⌝ }
 {
     let mut c = 0;
     while c < syndrome.len() {

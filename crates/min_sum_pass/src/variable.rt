@@ -35,7 +35,8 @@ fn update_entries(prior: f64, entries: &[u32], c_to_v: &[f64], v_to_c: &mut [f64
     requires { ⌜ Keys (length (now «c_to_v»)) (now entries) ⌝ }
     requires { ⌜ length (now «v_to_c») ≡ length (now «c_to_v») ⌝ }
     ensures sum { λ r. ⌜ r ≡ prior +ᶠ total (now («c_to_v» .entry)) (now (entries .entry)) ⌝ }
-    ensures messages { λ r. ⌜ now («v_to_c» .exit) ≡ dampedMessages r (now («c_to_v» .entry)) (now («v_to_c» .entry)) (now (entries .entry)) ⌝ }
+    ensures messages { λ r. ⌜
+        now («v_to_c» .exit) ≡ dampedMessages r (now («c_to_v» .entry)) (now («v_to_c» .entry)) (now (entries .entry)) ⌝ }
 {
     let sum = prior + graph_messages::total(entries, c_to_v);
     write_messages(entries, sum, c_to_v, v_to_c);
@@ -52,7 +53,9 @@ pub fn raw_posterior(
 ) -> f64
     requires { ⌜ v < length (now priors) ⌝ }
     requires { ⌜ Walks (length (now priors)) (length (now «c_to_v»)) (now «var_message») (now «var_offset») ⌝ }
-    ensures { λ r. ⌜ r ≡ rawPosterior (ofVariables (length (now (priors .entry))) (now («var_message» .entry)) (now («var_offset» .entry))) (now (priors .entry)) (messages (now («c_to_v» .entry)) []) v ⌝ }
+    ensures { λ r. ⌜
+        let g = ofVariables (length (now (priors .entry))) (now («var_message» .entry)) (now («var_offset» .entry)) in
+        r ≡ rawPosterior g (now (priors .entry)) (messages (now («c_to_v» .entry)) []) v ⌝ }
 {
     let start = graph_lists::indices::at(var_offset, v);
     let end = graph_lists::indices::at(var_offset, v + 1);
@@ -71,8 +74,13 @@ pub(crate) fn update_variable(
     requires { ⌜ v < length (now priors) ⌝ }
     requires { ⌜ Walks (length (now priors)) (length (now «c_to_v»)) (now «var_message») (now «var_offset») ⌝ }
     requires { ⌜ length (now «v_to_c») ≡ length (now «c_to_v») ⌝ }
-    ensures sum { λ r. ⌜ r ≡ rawPosterior (ofVariables (length (now (priors .entry))) (now («var_message» .entry)) (now («var_offset» .entry))) (now (priors .entry)) (messages (now («c_to_v» .entry)) []) v ⌝ }
-    ensures messages { λ _. ⌜ messages (now («c_to_v» .entry)) (now («v_to_c» .exit)) ≡ updateVariable (ofVariables (length (now (priors .entry))) (now («var_message» .entry)) (now («var_offset» .entry))) (now (priors .entry)) (messages (now («c_to_v» .entry)) (now («v_to_c» .entry))) v ⌝ }
+    ensures sum { λ r. ⌜
+        let g = ofVariables (length (now (priors .entry))) (now («var_message» .entry)) (now («var_offset» .entry)) in
+        r ≡ rawPosterior g (now (priors .entry)) (messages (now («c_to_v» .entry)) []) v ⌝ }
+    ensures messages { λ _. ⌜
+        let g = ofVariables (length (now (priors .entry))) (now («var_message» .entry)) (now («var_offset» .entry)) in
+        let before = messages (now («c_to_v» .entry)) (now («v_to_c» .entry)) in
+        messages (now («c_to_v» .entry)) (now («v_to_c» .exit)) ≡ updateVariable g (now (priors .entry)) before v ⌝ }
 {
     let start = graph_lists::indices::at(var_offset, v);
     let end = graph_lists::indices::at(var_offset, v + 1);
@@ -91,7 +99,11 @@ pub(crate) fn update_variables(
     requires { ⌜ Keys (length (now priors)) (now variables) ⌝ }
     requires { ⌜ Walks (length (now priors)) (length (now «c_to_v»)) (now «var_message») (now «var_offset») ⌝ }
     requires { ⌜ length (now «v_to_c») ≡ length (now «c_to_v») ⌝ }
-    ensures { λ _. ⌜ messages (now («c_to_v» .entry)) (now («v_to_c» .exit)) ≡ foldl (updateVariable (ofVariables (length (now (priors .entry))) (now («var_message» .entry)) (now («var_offset» .entry))) (now (priors .entry))) (messages (now («c_to_v» .entry)) (now («v_to_c» .entry))) (now (variables .entry)) ⌝ }
+    ensures { λ _. ⌜
+        let g = ofVariables (length (now (priors .entry))) (now («var_message» .entry)) (now («var_offset» .entry)) in
+        let before = messages (now («c_to_v» .entry)) (now («v_to_c» .entry)) in
+        messages (now («c_to_v» .entry)) (now («v_to_c» .exit))
+        ≡ foldl (updateVariable g (now (priors .entry))) before (now (variables .entry)) ⌝ }
 {
     let mut i = 0;
     while i < variables.len() {

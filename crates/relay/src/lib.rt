@@ -4,7 +4,9 @@ ghost use mathlib.Core.Path.{_≡_};
 ghost use mathlib.Core.List.{[]};
 ghost use Rattle.graph_lists.specs.Graph.{graph};
 ghost use Rattle.relay_step.specs.Step.{state};
-ghost use Rattle.relay_calls.specs.Calls.{stepLists, stepOutcome, iterationCall, legRecord, decodeOutcome, decodeInOrder, decode as decodeOf};
+ghost use Rattle.relay_calls.specs.Calls.{stepLists, stepOutcome, iterationCall, legRecord, decodeOutcome, decodeInOrder};
+ghost use Rattle.relay_calls.specs.Calls.{decode as decodeOf, decodeLists};
+ghost use Rattle.relay_calls.specs.Decode.{shot};
 use graph_lists::indices::at;
 use refusals::Answer;
 use refusals_tests::is_done;
@@ -42,8 +44,8 @@ pub fn leg_record(
     relay_calls::record_of(leg_state[r], at(leg_iterations, r), leg_weight[r])
 }
 
-// One iteration of the schedule in the order given. The messages and the posterior go in and come back; the bias is for work, and is zero after any call past
-// its tests. A call that its tests refuse writes nothing; refusal 30 zeroes the messages and the posterior.
+// One iteration of the schedule in the order given. The messages and the posterior go in and come back; the bias is for work, and is zero
+// after any call past its tests. A call that its tests refuse writes nothing; refusal 30 zeroes the messages and the posterior.
 pub fn iteration(
     size: graph::Size,
     priors: &[f64],
@@ -63,7 +65,14 @@ pub fn iteration(
     posterior: &mut [f64],
     bias: &mut [f64],
 ) -> Answer
-    ensures { λ r. ⌜ stepOutcome r (stepLists (state (now («c_to_v» .exit)) (now («v_to_c» .exit)) (now (posterior .exit))) (now (bias .exit))) ≡ iterationCall (size .edges) (now (priors .entry)) (graph (size .checks) (size .mechanisms) (now («check_var» .entry)) (now («check_message» .entry)) (now («check_offset» .entry)) (now («var_check» .entry)) (now («var_message» .entry)) (now («var_offset» .entry))) schedule alpha (now (gamma .entry)) (now (syndrome .entry)) (now (order .entry)) (stepLists (state (now («c_to_v» .entry)) (now («v_to_c» .entry)) (now (posterior .entry))) (now (bias .entry))) ⌝ }
+    ensures { λ r. ⌜
+        let g = graph (size .checks) (size .mechanisms) (now («check_var» .entry)) (now («check_message» .entry))
+        (now («check_offset» .entry)) (now («var_check» .entry)) (now («var_message» .entry)) (now («var_offset» .entry)) in
+        let before = stepLists (state (now («c_to_v» .entry)) (now («v_to_c» .entry)) (now (posterior .entry))) (now (bias .entry)) in
+        let after = stepLists (state (now («c_to_v» .exit)) (now («v_to_c» .exit)) (now (posterior .exit))) (now (bias .exit)) in
+        stepOutcome r after
+        ≡ iterationCall (size .edges) (now (priors .entry)) g schedule alpha (now (gamma .entry)) (now (syndrome .entry))
+        (now (order .entry)) before ⌝ }
 {
     let a = relay_calls::tests::fault(
         size,
@@ -104,8 +113,9 @@ pub fn iteration(
     )
 }
 
-// All legs, with the checks in the order given: the legs' records, the correction and the posterior are results, and the other lists are for work, zero after any
-// call past its tests. A call that its tests refuse writes nothing; refusal 30 zeroes the results. Leg lists may be longer, and keep their surplus.
+// All legs, with the checks in the order given: the legs' records, the correction and the posterior are results, and the other lists are
+// for work, zero after any call past its tests. A call that its tests refuse writes nothing; refusal 30 zeroes the results. Leg lists may
+// be longer, and keep their surplus.
 pub fn decode_in_order(
     size: graph::Size,
     priors: &[f64],
@@ -131,7 +141,17 @@ pub fn decode_in_order(
     c_to_v: &mut [f64],
     v_to_c: &mut [f64],
 ) -> Decoded
-    ensures { λ r. ⌜ decodeOutcome r (record { legState = now («leg_state» .exit); legIterations = now («leg_iterations» .exit); legWeight = now («leg_weight» .exit); rows = now (rows .exit); correction = now (correction .exit); posterior = now (posterior .exit); gamma = now (gamma .exit); bias = now (bias .exit); cToV = now («c_to_v» .exit); vToC = now («v_to_c» .exit) }) ≡ decodeInOrder (size .edges) (record { graph = graph (size .checks) (size .mechanisms) (now («check_var» .entry)) (now («check_message» .entry)) (now («check_offset» .entry)) (now («var_check» .entry)) (now («var_message» .entry)) (now («var_offset» .entry)); prior = now (priors .entry); settings = settings; gammas = now (gammas .entry); order = now (order .entry); syndrome = now (syndrome .entry); seed = seed }) (record { legState = now («leg_state» .entry); legIterations = now («leg_iterations» .entry); legWeight = now («leg_weight» .entry); rows = now (rows .entry); correction = now (correction .entry); posterior = now (posterior .entry); gamma = now (gamma .entry); bias = now (bias .entry); cToV = now («c_to_v» .entry); vToC = now («v_to_c» .entry) }) ⌝ }
+    ensures { λ r. ⌜
+        let g = graph (size .checks) (size .mechanisms) (now («check_var» .entry)) (now («check_message» .entry))
+        (now («check_offset» .entry)) (now («var_check» .entry)) (now («var_message» .entry)) (now («var_offset» .entry)) in
+        let x = shot g (now (priors .entry)) settings (now (gammas .entry)) (now (order .entry)) (now (syndrome .entry)) seed in
+        let before = decodeLists (now («leg_state» .entry)) (now («leg_iterations» .entry)) (now («leg_weight» .entry)) (now (rows .entry))
+        (now (correction .entry)) (now (posterior .entry)) (now (gamma .entry)) (now (bias .entry)) (now («c_to_v» .entry))
+        (now («v_to_c» .entry)) in
+        let after = decodeLists (now («leg_state» .exit)) (now («leg_iterations» .exit)) (now («leg_weight» .exit)) (now (rows .exit))
+        (now (correction .exit)) (now (posterior .exit)) (now (gamma .exit)) (now (bias .exit)) (now («c_to_v» .exit))
+        (now («v_to_c» .exit)) in
+        decodeOutcome r after ≡ decodeInOrder (size .edges) x before ⌝ }
 {
     let a = relay_decode::decode_tests::decode_fault(
         size,
@@ -209,7 +229,17 @@ pub fn decode(
     c_to_v: &mut [f64],
     v_to_c: &mut [f64],
 ) -> Decoded
-    ensures { λ r. ⌜ decodeOutcome r (record { legState = now («leg_state» .exit); legIterations = now («leg_iterations» .exit); legWeight = now («leg_weight» .exit); rows = now (rows .exit); correction = now (correction .exit); posterior = now (posterior .exit); gamma = now (gamma .exit); bias = now (bias .exit); cToV = now («c_to_v» .exit); vToC = now («v_to_c» .exit) }) ≡ decodeOf (size .edges) (record { graph = graph (size .checks) (size .mechanisms) (now («check_var» .entry)) (now («check_message» .entry)) (now («check_offset» .entry)) (now («var_check» .entry)) (now («var_message» .entry)) (now («var_offset» .entry)); prior = now (priors .entry); settings = settings; gammas = now (gammas .entry); order = []; syndrome = now (syndrome .entry); seed = seed }) (record { legState = now («leg_state» .entry); legIterations = now («leg_iterations» .entry); legWeight = now («leg_weight» .entry); rows = now (rows .entry); correction = now (correction .entry); posterior = now (posterior .entry); gamma = now (gamma .entry); bias = now (bias .entry); cToV = now («c_to_v» .entry); vToC = now («v_to_c» .entry) }) ⌝ }
+    ensures { λ r. ⌜
+        let g = graph (size .checks) (size .mechanisms) (now («check_var» .entry)) (now («check_message» .entry))
+        (now («check_offset» .entry)) (now («var_check» .entry)) (now («var_message» .entry)) (now («var_offset» .entry)) in
+        let x = shot g (now (priors .entry)) settings (now (gammas .entry)) [] (now (syndrome .entry)) seed in
+        let before = decodeLists (now («leg_state» .entry)) (now («leg_iterations» .entry)) (now («leg_weight» .entry)) (now (rows .entry))
+        (now (correction .entry)) (now (posterior .entry)) (now (gamma .entry)) (now (bias .entry)) (now («c_to_v» .entry))
+        (now («v_to_c» .entry)) in
+        let after = decodeLists (now («leg_state» .exit)) (now («leg_iterations» .exit)) (now («leg_weight» .exit)) (now (rows .exit))
+        (now (correction .exit)) (now (posterior .exit)) (now (gamma .exit)) (now (bias .exit)) (now («c_to_v» .exit))
+        (now («v_to_c» .exit)) in
+        decodeOutcome r after ≡ decodeOf (size .edges) x before ⌝ }
 {
     let a = relay_decode::decode_tests::shot_fault(
         size,

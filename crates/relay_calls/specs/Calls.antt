@@ -23,7 +23,7 @@ use Rattle.relay_calls.specs.declared.LegRecord.the-variants as LegRecor
 use Rattle.relay_settings.specs.Settings.{alphaGood, settingsFault}
 use Rattle.relay_step.specs.Step.{State, state, iteration}
 use Rattle.relay_orders.specs.Order.{namesFault, exchangeFault}
-use Rattle.relay_calls.specs.Decode.{Shot, Run, Ended, decoded, refused, decodeLegs, correctionOf}
+use Rattle.relay_calls.specs.Decode.{Shot, shot, Run, Ended, decoded, refused, decodeLegs, correctionOf}
 
 -- 21 for one check: its byte is 0 or 1
 unfoldable pub byteFault : List ℕ → ℕ → Answer
@@ -128,6 +128,22 @@ pub record DecodeLists : Type 0 where
   pub cToV : List Float
   pub vToC : List Float
 
+-- the lists of their parts
+abbrev pub decodeLists : List ℕ → List ℕ → List Float → List ℕ → List ℕ → List Float → List Float → List Float → List Float → List Float → DecodeLists
+decodeLists states iterations weights rows correction posterior gamma bias cToV vToC =
+    record {
+      legState = states;
+      legIterations = iterations;
+      legWeight = weights;
+      rows = rows;
+      correction = correction;
+      posterior = posterior;
+      gamma = gamma;
+      bias = bias;
+      cToV = cToV;
+      vToC = vToC;
+    }
+
 -- the answer, and the lists as they are after
 pub record DecodeOutcome : Type 0 where
   pub answer : Decoded
@@ -216,8 +232,7 @@ decodeInOrder edges x l = let o = afterLegs edges x (decodeLegs x) l in afterDec
 
 -- a shot in another order
 abbrev pub withOrder : Shot → List ℕ → Shot
-withOrder x order =
-    record { graph = x .graph; prior = x .prior; settings = x .settings; gammas = x .gammas; order = order; syndrome = x .syndrome; seed = x .seed }
+withOrder x order = shot (x .graph) (x .prior) (x .settings) (x .gammas) order (x .syndrome) (x .seed)
 
 -- `decode`: the checks in index order, whatever order the shot has
 unfoldable pub decode : ℕ → Shot → DecodeLists → DecodeOutcome

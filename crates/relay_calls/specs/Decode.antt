@@ -28,6 +28,11 @@ pub record Shot : Type 0 where
   pub syndrome : List ℕ
   pub seed : ℕ
 
+-- a shot of its parts
+abbrev pub shot : Graph → List Float → Settings → List Float → List ℕ → List ℕ → ℕ → Shot
+shot g prior settings gammas order syndrome seed =
+    record { graph = g; prior = prior; settings = settings; gammas = gammas; order = order; syndrome = syndrome; seed = seed }
+
 -- ---- one leg
 
 -- `iteration_limit`

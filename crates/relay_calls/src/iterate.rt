@@ -1,4 +1,5 @@
-// Past the tests of a single iteration: the step, 30 with the first mechanism that has a value that is not finite, and the lists that are zeroed.
+// Past the tests of a single iteration: the step, 30 with the first mechanism that has a value that is not finite, and the lists that are
+// zeroed.
 ghost use mathlib.Core.Path.{_≡_};
 ghost use mathlib.Core.List.{[]};
 ghost use Prim.Native.Nat.{_<_};
@@ -7,9 +8,10 @@ ghost use Rattle.numbers.specs.Floats.{zero⁺};
 ghost use Rattle.numbers.specs.Loops.{every};
 ghost use Rattle.refusals.specs.Tests.{unlessRefused};
 ghost use Rattle.graph_lists.specs.Sound.{Keys};
-ghost use Rattle.graph_messages.specs.Needs.{Walks, walked, ofVariables};
+ghost use Rattle.graph_messages.specs.Needs.{Walks, walked, ofVariables, PerEdge};
 ghost use Rattle.relay_step.specs.Step.{state, iteration};
 ghost use Rattle.relay_calls.specs.Calls.{messageFinite, mechanismFinite, stepEnd, stepLists, stepOutcome, stepped as steppedOf};
+ghost use Rattle.relay_step.specs.Places.{PerMechanism};
 use graph_lists::indices::at;
 use graph_messages::clear;
 use numbers::is_finite;
@@ -24,7 +26,9 @@ use relay_step::step::step;
 fn messages_finite(entries: &[u32], c_to_v: &[f64], v_to_c: &[f64]) -> bool
     requires { ⌜ Keys (length (now «c_to_v»)) (now entries) ⌝ }
     requires { ⌜ length (now «v_to_c») ≡ length (now «c_to_v») ⌝ }
-    ensures { λ r. ⌜ r ≡ every (length (now (entries .entry))) (messageFinite (state (now («c_to_v» .entry)) (now («v_to_c» .entry)) []) (now (entries .entry))) ⌝ }
+    ensures { λ r. ⌜
+        let before = state (now («c_to_v» .entry)) (now («v_to_c» .entry)) [] in
+        r ≡ every (length (now (entries .entry))) (messageFinite before (now (entries .entry))) ⌝ }
 {
     let mut i = 0;
     while i < entries.len() {
@@ -49,7 +53,10 @@ fn mechanism_finite(
     requires { ⌜ v < length (now posterior) ⌝ }
     requires { ⌜ Walks (length (now posterior)) (length (now «c_to_v»)) (now «var_message») (now «var_offset») ⌝ }
     requires { ⌜ length (now «v_to_c») ≡ length (now «c_to_v») ⌝ }
-    ensures { λ r. ⌜ r ≡ mechanismFinite (ofVariables (length (now (posterior .entry))) (now («var_message» .entry)) (now («var_offset» .entry))) (state (now («c_to_v» .entry)) (now («v_to_c» .entry)) (now (posterior .entry))) v ⌝ }
+    ensures { λ r. ⌜
+        let g = ofVariables (length (now (posterior .entry))) (now («var_message» .entry)) (now («var_offset» .entry)) in
+        let before = state (now («c_to_v» .entry)) (now («v_to_c» .entry)) (now (posterior .entry)) in
+        r ≡ mechanismFinite g before v ⌝ }
 {
     let start = at(var_offset, v);
     let end = at(var_offset, v + 1);
@@ -67,7 +74,10 @@ fn step_end(
 ) -> Answer
     requires { ⌜ Walks (length (now posterior)) (length (now «c_to_v»)) (now «var_message») (now «var_offset») ⌝ }
     requires { ⌜ length (now «v_to_c») ≡ length (now «c_to_v») ⌝ }
-    ensures { λ r. ⌜ r ≡ stepEnd (ofVariables (length (now (posterior .entry))) (now («var_message» .entry)) (now («var_offset» .entry))) (state (now («c_to_v» .entry)) (now («v_to_c» .entry)) (now (posterior .entry))) ⌝ }
+    ensures { λ r. ⌜
+        let g = ofVariables (length (now (posterior .entry))) (now («var_message» .entry)) (now («var_offset» .entry)) in
+        let before = state (now («c_to_v» .entry)) (now («v_to_c» .entry)) (now (posterior .entry)) in
+        r ≡ stepEnd g before ⌝ }
 {
     let mut v = 0;
     while v < posterior.len() {
@@ -89,8 +99,15 @@ fn ended(
 ) -> Answer
     requires { ⌜ Walks (length (now posterior)) (length (now «c_to_v»)) (now «var_message») (now «var_offset») ⌝ }
     requires { ⌜ length (now «v_to_c») ≡ length (now «c_to_v») ⌝ }
-    ensures end { λ r. ⌜ r ≡ stepEnd (ofVariables (length (now (posterior .entry))) (now («var_message» .entry)) (now («var_offset» .entry))) (state (now («c_to_v» .entry)) (now («v_to_c» .entry)) (now (posterior .entry))) ⌝ }
-    ensures left { λ r. ⌜ state (now («c_to_v» .exit)) (now («v_to_c» .exit)) (now (posterior .exit)) ≡ unlessRefused r (state (now («c_to_v» .entry)) (now («v_to_c» .entry)) (now (posterior .entry))) (state (replicate (length (now («c_to_v» .entry))) zero⁺) (replicate (length (now («v_to_c» .entry))) zero⁺) (replicate (length (now (posterior .entry))) zero⁺)) ⌝ }
+    ensures end { λ r. ⌜
+        let g = ofVariables (length (now (posterior .entry))) (now («var_message» .entry)) (now («var_offset» .entry)) in
+        let before = state (now («c_to_v» .entry)) (now («v_to_c» .entry)) (now (posterior .entry)) in
+        r ≡ stepEnd g before ⌝ }
+    ensures left { λ r. ⌜
+        let before = state (now («c_to_v» .entry)) (now («v_to_c» .entry)) (now (posterior .entry)) in
+        let before′ = state (replicate (length (now («c_to_v» .entry))) zero⁺) (replicate (length (now («v_to_c» .entry))) zero⁺)
+        (replicate (length (now (posterior .entry))) zero⁺) in
+        state (now («c_to_v» .exit)) (now («v_to_c» .exit)) (now (posterior .exit)) ≡ unlessRefused r before before′ ⌝ }
 {
     let a = step_end(var_message, var_offset, c_to_v, v_to_c, posterior);
     if is_done(a) {
@@ -122,9 +139,16 @@ pub fn stepped(
     requires { ⌜ Walks (length (now syndrome)) (length (now priors)) (now «check_var») (now «check_offset») ⌝ }
     requires { ⌜ Walks (length (now priors)) (length (now «check_var»)) (now «var_message») (now «var_offset») ⌝ }
     requires { ⌜ Keys (length (now syndrome)) (now order) ⌝ }
-    requires { ⌜ (length (now gamma) ≡ length (now priors)) × (length (now bias) ≡ length (now priors)) × (length (now posterior) ≡ length (now priors)) ⌝ }
-    requires { ⌜ (length (now «c_to_v») ≡ length (now «check_var»)) × (length (now «v_to_c») ≡ length (now «check_var»)) ⌝ }
-    ensures { λ r. ⌜ stepOutcome r (stepLists (state (now («c_to_v» .exit)) (now («v_to_c» .exit)) (now (posterior .exit))) (now (bias .exit))) ≡ steppedOf (length (now («check_var» .entry))) (walked (length (now (syndrome .entry))) (length (now (priors .entry))) (now («check_var» .entry)) (now («check_offset» .entry)) (now («var_message» .entry)) (now («var_offset» .entry))) (iteration schedule (walked (length (now (syndrome .entry))) (length (now (priors .entry))) (now («check_var» .entry)) (now («check_offset» .entry)) (now («var_message» .entry)) (now («var_offset» .entry))) alpha (now (syndrome .entry)) (now (priors .entry)) (now (gamma .entry)) (now (order .entry)) (state (now («c_to_v» .entry)) (now («v_to_c» .entry)) (now (posterior .entry)))) ⌝ }
+    requires { ⌜ PerMechanism (length (now priors)) (now gamma) (now bias) (now posterior) ⌝ }
+    requires { ⌜ PerEdge (length (now «check_var»)) (now «c_to_v») (now «v_to_c») ⌝ }
+    ensures { λ r. ⌜
+        let g = walked (length (now (syndrome .entry))) (length (now (priors .entry))) (now («check_var» .entry))
+        (now («check_offset» .entry)) (now («var_message» .entry)) (now («var_offset» .entry)) in
+        let before = state (now («c_to_v» .entry)) (now («v_to_c» .entry)) (now (posterior .entry)) in
+        let after = stepLists (state (now («c_to_v» .exit)) (now («v_to_c» .exit)) (now (posterior .exit))) (now (bias .exit)) in
+        stepOutcome r after
+        ≡ steppedOf (length (now («check_var» .entry))) g
+        (iteration schedule g alpha (now (syndrome .entry)) (now (priors .entry)) (now (gamma .entry)) (now (order .entry)) before) ⌝ }
 {
     step(
         schedule,

@@ -1,12 +1,13 @@
 // A decode past its tests: leg after leg, the end of the legs, and the lists that are zeroed.
 ghost use mathlib.Core.Path.{_≡_};
 ghost use mathlib.Core.Bool.{false, cond};
-ghost use Prim.Native.Nat.{_*_, _≤_, suc};
+ghost use Prim.Native.Nat.{_*_, suc};
 ghost use lib.ListN.{length, replicate};
 ghost use Rattle.numbers.specs.Floats.{zero⁺};
 ghost use Rattle.relay_calls.specs.Decode.{decodeLegs};
-ghost use Rattle.relay_calls.specs.Calls.{decodeOutcome, afterLegs};
-ghost use Rattle.relay_record.specs.Kept.{shotOf, Reads, answerOf, isRefused, results, resultsOf, started};
+ghost use Rattle.relay_calls.specs.Calls.{decodeOutcome, afterLegs, decodeLists};
+ghost use Rattle.relay_record.specs.Kept.{shotOf, Reads, answerOf, isRefused, results, resultsOf, started, LegsFit, LegsLong, PerShot};
+ghost use Rattle.graph_messages.specs.Needs.{PerEdge};
 use graph_messages::clear;
 use graph_messages::copy;
 use graph_messages::first_not_finite;
@@ -42,13 +43,31 @@ fn run_legs(
     c_to_v: &mut [f64],
     v_to_c: &mut [f64],
 ) -> Decoded
-    requires { ⌜ Reads t (now gammas) (now syndrome) (now priors) (now «check_var») (now «check_offset») (now «var_message») (now «var_offset») (now order) ⌝ }
-    requires { ⌜ (length (now «leg_state») ≡ suc (t .«num_legs»)) × (length (now «leg_iterations») ≡ suc (t .«num_legs»)) × (length (now «leg_weight») ≡ suc (t .«num_legs»)) × (length (now rows) ≡ suc (t .«num_legs») * length (now priors)) ⌝ }
-    requires { ⌜ (length (now correction) ≡ length (now priors)) × (length (now posterior) ≡ length (now priors)) × (length (now gamma) ≡ length (now priors)) × (length (now bias) ≡ length (now priors)) ⌝ }
-    requires { ⌜ (length (now «c_to_v») ≡ length (now «check_var»)) × (length (now «v_to_c») ≡ length (now «check_var»)) ⌝ }
-    requires { ⌜ results (now («leg_state»)) (now («leg_iterations»)) (now («leg_weight»)) (now (rows)) (now (correction)) (now (posterior)) ≡ started (shotOf t (now (gammas)) seed (now (syndrome)) (now (priors)) (now («check_var»)) (now («check_offset»)) (now («var_message»)) (now («var_offset»)) (now (order))) ⌝ }
-    ensures answer { λ r. ⌜ r ≡ answerOf (decodeLegs (shotOf t (now (gammas .entry)) seed (now (syndrome .entry)) (now (priors .entry)) (now («check_var» .entry)) (now («check_offset» .entry)) (now («var_message» .entry)) (now («var_offset» .entry)) (now (order .entry)))) ⌝ }
-    ensures left { λ r. ⌜ (isRefused r ≡ false → results (now («leg_state» .exit)) (now («leg_iterations» .exit)) (now («leg_weight» .exit)) (now (rows .exit)) (now (correction .exit)) (now (posterior .exit)) ≡ resultsOf (shotOf t (now (gammas .entry)) seed (now (syndrome .entry)) (now (priors .entry)) (now («check_var» .entry)) (now («check_offset» .entry)) (now («var_message» .entry)) (now («var_offset» .entry)) (now (order .entry))) (decodeLegs (shotOf t (now (gammas .entry)) seed (now (syndrome .entry)) (now (priors .entry)) (now («check_var» .entry)) (now («check_offset» .entry)) (now («var_message» .entry)) (now («var_offset» .entry)) (now (order .entry))))) ⌝ }
+    requires { ⌜
+        Reads t (now gammas) (now syndrome) (now priors) (now «check_var») (now «check_offset») (now «var_message») (now «var_offset»)
+        (now order) ⌝ }
+    requires { ⌜
+        LegsLong (suc (t .«num_legs»)) (length (now priors)) (now «leg_state») (now «leg_iterations») (now «leg_weight») (now rows) ⌝ }
+    requires { ⌜ PerShot (length (now priors)) (now correction) (now posterior) (now gamma) (now bias) ⌝ }
+    requires { ⌜ PerEdge (length (now «check_var»)) (now «c_to_v») (now «v_to_c») ⌝ }
+    requires { ⌜
+        let x = shotOf t (now (gammas)) seed (now (syndrome)) (now (priors)) (now («check_var»)) (now («check_offset»))
+        (now («var_message»)) (now («var_offset»)) (now (order)) in
+        results (now («leg_state»)) (now («leg_iterations»)) (now («leg_weight»)) (now (rows)) (now (correction)) (now (posterior))
+        ≡ started x ⌝ }
+    ensures answer { λ r. ⌜
+        let x = shotOf t (now (gammas .entry)) seed (now (syndrome .entry)) (now (priors .entry)) (now («check_var» .entry))
+        (now («check_offset» .entry)) (now («var_message» .entry)) (now («var_offset» .entry)) (now (order .entry)) in
+        let end = decodeLegs x in
+        r ≡ answerOf end ⌝ }
+    ensures left { λ r. ⌜
+        let x = shotOf t (now (gammas .entry)) seed (now (syndrome .entry)) (now (priors .entry)) (now («check_var» .entry))
+        (now («check_offset» .entry)) (now («var_message» .entry)) (now («var_offset» .entry)) (now (order .entry)) in
+        let end = decodeLegs x in
+        (isRefused r ≡ false
+        → results (now («leg_state» .exit)) (now («leg_iterations» .exit)) (now («leg_weight» .exit)) (now (rows .exit))
+        (now (correction .exit)) (now (posterior .exit))
+        ≡ resultsOf x end) ⌝ }
 {
     let num_legs = t.num_legs;
     let stop = t.stop_after_converged;
@@ -101,7 +120,12 @@ fn clear_records(
     rows: &mut [u8],
     correction: &mut [u8],
 )
-    ensures { λ _. ⌜ (now («leg_state» .exit) ≡ replicate (length (now («leg_state» .entry))) 0) × (now («leg_iterations» .exit) ≡ replicate (length (now («leg_iterations» .entry))) 0) × (now («leg_weight» .exit) ≡ replicate (length (now («leg_weight» .entry))) zero⁺) × (now (rows .exit) ≡ replicate (length (now (rows .entry))) 0) × (now (correction .exit) ≡ replicate (length (now (correction .entry))) 0) ⌝ }
+    ensures { λ _. ⌜
+        (now («leg_state» .exit) ≡ replicate (length (now («leg_state» .entry))) 0)
+        × (now («leg_iterations» .exit) ≡ replicate (length (now («leg_iterations» .entry))) 0)
+        × (now («leg_weight» .exit) ≡ replicate (length (now («leg_weight» .entry))) zero⁺)
+        × (now (rows .exit) ≡ replicate (length (now (rows .entry))) 0)
+        × (now (correction .exit) ≡ replicate (length (now (correction .entry))) 0) ⌝ }
 {
     clear_bytes(leg_state);
     graph_lists::indices::clear(leg_iterations);
@@ -112,7 +136,11 @@ fn clear_records(
 
 // The work lists, zeroed.
 fn clear_work(gamma: &mut [f64], bias: &mut [f64], c_to_v: &mut [f64], v_to_c: &mut [f64])
-    ensures { λ _. ⌜ (now (gamma .exit) ≡ replicate (length (now (gamma .entry))) zero⁺) × (now (bias .exit) ≡ replicate (length (now (bias .entry))) zero⁺) × (now («c_to_v» .exit) ≡ replicate (length (now («c_to_v» .entry))) zero⁺) × (now («v_to_c» .exit) ≡ replicate (length (now («v_to_c» .entry))) zero⁺) ⌝ }
+    ensures { λ _. ⌜
+        (now (gamma .exit) ≡ replicate (length (now (gamma .entry))) zero⁺)
+        × (now (bias .exit) ≡ replicate (length (now (bias .entry))) zero⁺)
+        × (now («c_to_v» .exit) ≡ replicate (length (now («c_to_v» .entry))) zero⁺)
+        × (now («v_to_c» .exit) ≡ replicate (length (now («v_to_c» .entry))) zero⁺) ⌝ }
 {
     clear(gamma);
     clear(bias);
@@ -141,7 +169,15 @@ fn end_legs(
     correction: &mut [u8],
     posterior: &mut [f64],
 )
-    ensures { λ _. ⌜ results (now («leg_state» .exit)) (now («leg_iterations» .exit)) (now («leg_weight» .exit)) (now (rows .exit)) (now (correction .exit)) (now (posterior .exit)) ≡ cond (isRefused d) (results (replicate (length (now («leg_state» .entry))) 0) (replicate (length (now («leg_iterations» .entry))) 0) (replicate (length (now («leg_weight» .entry))) zero⁺) (replicate (length (now (rows .entry))) 0) (replicate (length (now (correction .entry))) 0) (replicate (length (now (posterior .entry))) zero⁺)) (results (now («leg_state» .entry)) (now («leg_iterations» .entry)) (now («leg_weight» .entry)) (now (rows .entry)) (now (correction .entry)) (now (posterior .entry))) ⌝ }
+    ensures { λ _. ⌜
+        let before = results (now («leg_state» .entry)) (now («leg_iterations» .entry)) (now («leg_weight» .entry)) (now (rows .entry))
+        (now (correction .entry)) (now (posterior .entry)) in
+        let before′ = results (replicate (length (now («leg_state» .entry))) 0) (replicate (length (now («leg_iterations» .entry))) 0)
+        (replicate (length (now («leg_weight» .entry))) zero⁺) (replicate (length (now (rows .entry))) 0)
+        (replicate (length (now (correction .entry))) 0) (replicate (length (now (posterior .entry))) zero⁺) in
+        results (now («leg_state» .exit)) (now («leg_iterations» .exit)) (now («leg_weight» .exit)) (now (rows .exit))
+        (now (correction .exit)) (now (posterior .exit))
+        ≡ cond (isRefused d) before′ before ⌝ }
 {
     if !is_refused(d) {
         return;
@@ -173,13 +209,30 @@ fn run_shot(
     c_to_v: &mut [f64],
     v_to_c: &mut [f64],
 ) -> Decoded
-    requires { ⌜ Reads t (now gammas) (now syndrome) (now priors) (now «check_var») (now «check_offset») (now «var_message») (now «var_offset») (now order) ⌝ }
-    requires { ⌜ (length (now «leg_state») ≡ suc (t .«num_legs»)) × (length (now «leg_iterations») ≡ suc (t .«num_legs»)) × (length (now «leg_weight») ≡ suc (t .«num_legs»)) × (length (now rows) ≡ suc (t .«num_legs») * length (now priors)) ⌝ }
-    requires { ⌜ (length (now correction) ≡ length (now priors)) × (length (now posterior) ≡ length (now priors)) × (length (now gamma) ≡ length (now priors)) × (length (now bias) ≡ length (now priors)) ⌝ }
-    requires { ⌜ (length (now «c_to_v») ≡ length (now «check_var»)) × (length (now «v_to_c») ≡ length (now «check_var»)) ⌝ }
-    ensures answer { λ r. ⌜ r ≡ answerOf (decodeLegs (shotOf t (now (gammas .entry)) seed (now (syndrome .entry)) (now (priors .entry)) (now («check_var» .entry)) (now («check_offset» .entry)) (now («var_message» .entry)) (now («var_offset» .entry)) (now (order .entry)))) ⌝ }
-    ensures left { λ _. ⌜ results (now («leg_state» .exit)) (now («leg_iterations» .exit)) (now («leg_weight» .exit)) (now (rows .exit)) (now (correction .exit)) (now (posterior .exit)) ≡ resultsOf (shotOf t (now (gammas .entry)) seed (now (syndrome .entry)) (now (priors .entry)) (now («check_var» .entry)) (now («check_offset» .entry)) (now («var_message» .entry)) (now («var_offset» .entry)) (now (order .entry))) (decodeLegs (shotOf t (now (gammas .entry)) seed (now (syndrome .entry)) (now (priors .entry)) (now («check_var» .entry)) (now («check_offset» .entry)) (now («var_message» .entry)) (now («var_offset» .entry)) (now (order .entry)))) ⌝ }
-    ensures work { λ _. ⌜ (now (gamma .exit) ≡ replicate (length (now (priors .entry))) zero⁺) × (now (bias .exit) ≡ replicate (length (now (priors .entry))) zero⁺) × (now («c_to_v» .exit) ≡ replicate (length (now («check_var» .entry))) zero⁺) × (now («v_to_c» .exit) ≡ replicate (length (now («check_var» .entry))) zero⁺) ⌝ }
+    requires { ⌜
+        Reads t (now gammas) (now syndrome) (now priors) (now «check_var») (now «check_offset») (now «var_message») (now «var_offset»)
+        (now order) ⌝ }
+    requires { ⌜
+        LegsLong (suc (t .«num_legs»)) (length (now priors)) (now «leg_state») (now «leg_iterations») (now «leg_weight») (now rows) ⌝ }
+    requires { ⌜ PerShot (length (now priors)) (now correction) (now posterior) (now gamma) (now bias) ⌝ }
+    requires { ⌜ PerEdge (length (now «check_var»)) (now «c_to_v») (now «v_to_c») ⌝ }
+    ensures answer { λ r. ⌜
+        let x = shotOf t (now (gammas .entry)) seed (now (syndrome .entry)) (now (priors .entry)) (now («check_var» .entry))
+        (now («check_offset» .entry)) (now («var_message» .entry)) (now («var_offset» .entry)) (now (order .entry)) in
+        let end = decodeLegs x in
+        r ≡ answerOf end ⌝ }
+    ensures left { λ _. ⌜
+        let x = shotOf t (now (gammas .entry)) seed (now (syndrome .entry)) (now (priors .entry)) (now («check_var» .entry))
+        (now («check_offset» .entry)) (now («var_message» .entry)) (now («var_offset» .entry)) (now (order .entry)) in
+        let end = decodeLegs x in
+        results (now («leg_state» .exit)) (now («leg_iterations» .exit)) (now («leg_weight» .exit)) (now (rows .exit))
+        (now (correction .exit)) (now (posterior .exit))
+        ≡ resultsOf x end ⌝ }
+    ensures work { λ _. ⌜
+        (now (gamma .exit) ≡ replicate (length (now (priors .entry))) zero⁺)
+        × (now (bias .exit) ≡ replicate (length (now (priors .entry))) zero⁺)
+        × (now («c_to_v» .exit) ≡ replicate (length (now («check_var» .entry))) zero⁺)
+        × (now («v_to_c» .exit) ≡ replicate (length (now («check_var» .entry))) zero⁺) ⌝ }
 {
     clear_records(leg_state, leg_iterations, leg_weight, rows, correction);
     copy(priors, posterior);
@@ -241,11 +294,24 @@ pub fn decode_fronts(
     c_to_v: &mut [f64],
     v_to_c: &mut [f64],
 ) -> Decoded
-    requires { ⌜ Reads t (now gammas) (now syndrome) (now priors) (now «check_var») (now «check_offset») (now «var_message») (now «var_offset») (now order) ⌝ }
-    requires { ⌜ (suc (t .«num_legs») ≤ length (now «leg_state»)) × (suc (t .«num_legs») ≤ length (now «leg_iterations»)) × (suc (t .«num_legs») ≤ length (now «leg_weight»)) × (suc (t .«num_legs») * length (now priors) ≤ length (now rows)) ⌝ }
-    requires { ⌜ (length (now correction) ≡ length (now priors)) × (length (now posterior) ≡ length (now priors)) × (length (now gamma) ≡ length (now priors)) × (length (now bias) ≡ length (now priors)) ⌝ }
-    requires { ⌜ (length (now «c_to_v») ≡ length (now «check_var»)) × (length (now «v_to_c») ≡ length (now «check_var»)) ⌝ }
-    ensures { λ r. ⌜ decodeOutcome r (record { legState = now («leg_state» .exit); legIterations = now («leg_iterations» .exit); legWeight = now («leg_weight» .exit); rows = now (rows .exit); correction = now (correction .exit); posterior = now (posterior .exit); gamma = now (gamma .exit); bias = now (bias .exit); cToV = now («c_to_v» .exit); vToC = now («v_to_c» .exit) }) ≡ afterLegs (length (now («check_var» .entry))) (shotOf t (now (gammas .entry)) seed (now (syndrome .entry)) (now (priors .entry)) (now («check_var» .entry)) (now («check_offset» .entry)) (now («var_message» .entry)) (now («var_offset» .entry)) (now (order .entry))) (decodeLegs (shotOf t (now (gammas .entry)) seed (now (syndrome .entry)) (now (priors .entry)) (now («check_var» .entry)) (now («check_offset» .entry)) (now («var_message» .entry)) (now («var_offset» .entry)) (now (order .entry)))) (record { legState = now («leg_state» .entry); legIterations = now («leg_iterations» .entry); legWeight = now («leg_weight» .entry); rows = now (rows .entry); correction = now (correction .entry); posterior = now (posterior .entry); gamma = now (gamma .entry); bias = now (bias .entry); cToV = now («c_to_v» .entry); vToC = now («v_to_c» .entry) }) ⌝ }
+    requires { ⌜
+        Reads t (now gammas) (now syndrome) (now priors) (now «check_var») (now «check_offset») (now «var_message») (now «var_offset»)
+        (now order) ⌝ }
+    requires { ⌜
+        LegsFit (suc (t .«num_legs»)) (length (now priors)) (now «leg_state») (now «leg_iterations») (now «leg_weight») (now rows) ⌝ }
+    requires { ⌜ PerShot (length (now priors)) (now correction) (now posterior) (now gamma) (now bias) ⌝ }
+    requires { ⌜ PerEdge (length (now «check_var»)) (now «c_to_v») (now «v_to_c») ⌝ }
+    ensures { λ r. ⌜
+        let x = shotOf t (now (gammas .entry)) seed (now (syndrome .entry)) (now (priors .entry)) (now («check_var» .entry))
+        (now («check_offset» .entry)) (now («var_message» .entry)) (now («var_offset» .entry)) (now (order .entry)) in
+        let before = decodeLists (now («leg_state» .entry)) (now («leg_iterations» .entry)) (now («leg_weight» .entry)) (now (rows .entry))
+        (now (correction .entry)) (now (posterior .entry)) (now (gamma .entry)) (now (bias .entry)) (now («c_to_v» .entry))
+        (now («v_to_c» .entry)) in
+        let end = decodeLegs x in
+        let after = decodeLists (now («leg_state» .exit)) (now («leg_iterations» .exit)) (now («leg_weight» .exit)) (now (rows .exit))
+        (now (correction .exit)) (now (posterior .exit)) (now (gamma .exit)) (now (bias .exit)) (now («c_to_v» .exit))
+        (now («v_to_c» .exit)) in
+        decodeOutcome r after ≡ afterLegs (length (now («check_var» .entry))) x end before ⌝ }
 {
     let legs = t.num_legs + 1;
     let cells = legs * priors.len();

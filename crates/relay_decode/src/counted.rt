@@ -1,12 +1,13 @@
 // A decode in index order, without a lent order: the order is counted up in a local array, a short one where that is enough.
 ghost use mathlib.Core.Path.{_≡_};
-ghost use Prim.Native.Nat.{suc, _*_, _≤_};
+ghost use Prim.Native.Nat.{suc, _≤_};
 ghost use lib.ListN.{length};
 ghost use Rattle.numbers.specs.Limits.{maxChecks};
 ghost use Rattle.numbers.specs.Loops.{upto};
 ghost use Rattle.relay_calls.specs.Decode.{decodeLegs};
-ghost use Rattle.relay_calls.specs.Calls.{decodeOutcome, afterLegs};
-ghost use Rattle.relay_record.specs.Kept.{shotOf, Reads};
+ghost use Rattle.relay_calls.specs.Calls.{decodeOutcome, afterLegs, decodeLists};
+ghost use Rattle.relay_record.specs.Kept.{shotOf, Reads, LegsFit, PerShot};
+ghost use Rattle.graph_messages.specs.Needs.{PerEdge};
 use crate::all_legs::decode_fronts;
 use graph_lists::indices::number;
 use numbers::limits::MAX_CHECKS;
@@ -36,11 +37,25 @@ fn decode_few(
     v_to_c: &mut [f64],
 ) -> Decoded
     requires { ⌜ length (now syndrome) ≤ 1024 ⌝ }
-    requires { ⌜ Reads t (now gammas) (now syndrome) (now priors) (now «check_var») (now «check_offset») (now «var_message») (now «var_offset») (upto (length (now syndrome))) ⌝ }
-    requires { ⌜ (suc (t .«num_legs») ≤ length (now «leg_state»)) × (suc (t .«num_legs») ≤ length (now «leg_iterations»)) × (suc (t .«num_legs») ≤ length (now «leg_weight»)) × (suc (t .«num_legs») * length (now priors) ≤ length (now rows)) ⌝ }
-    requires { ⌜ (length (now correction) ≡ length (now priors)) × (length (now posterior) ≡ length (now priors)) × (length (now gamma) ≡ length (now priors)) × (length (now bias) ≡ length (now priors)) ⌝ }
-    requires { ⌜ (length (now «c_to_v») ≡ length (now «check_var»)) × (length (now «v_to_c») ≡ length (now «check_var»)) ⌝ }
-    ensures { λ r. ⌜ decodeOutcome r (record { legState = now («leg_state» .exit); legIterations = now («leg_iterations» .exit); legWeight = now («leg_weight» .exit); rows = now (rows .exit); correction = now (correction .exit); posterior = now (posterior .exit); gamma = now (gamma .exit); bias = now (bias .exit); cToV = now («c_to_v» .exit); vToC = now («v_to_c» .exit) }) ≡ afterLegs (length (now («check_var» .entry))) (shotOf t (now (gammas .entry)) seed (now (syndrome .entry)) (now (priors .entry)) (now («check_var» .entry)) (now («check_offset» .entry)) (now («var_message» .entry)) (now («var_offset» .entry)) (upto (length (now (syndrome .entry))))) (decodeLegs (shotOf t (now (gammas .entry)) seed (now (syndrome .entry)) (now (priors .entry)) (now («check_var» .entry)) (now («check_offset» .entry)) (now («var_message» .entry)) (now («var_offset» .entry)) (upto (length (now (syndrome .entry)))))) (record { legState = now («leg_state» .entry); legIterations = now («leg_iterations» .entry); legWeight = now («leg_weight» .entry); rows = now (rows .entry); correction = now (correction .entry); posterior = now (posterior .entry); gamma = now (gamma .entry); bias = now (bias .entry); cToV = now («c_to_v» .entry); vToC = now («v_to_c» .entry) }) ⌝ }
+    requires { ⌜
+        Reads t (now gammas) (now syndrome) (now priors) (now «check_var») (now «check_offset») (now «var_message») (now «var_offset»)
+        (upto (length (now syndrome))) ⌝ }
+    requires { ⌜
+        LegsFit (suc (t .«num_legs»)) (length (now priors)) (now «leg_state») (now «leg_iterations») (now «leg_weight») (now rows) ⌝ }
+    requires { ⌜ PerShot (length (now priors)) (now correction) (now posterior) (now gamma) (now bias) ⌝ }
+    requires { ⌜ PerEdge (length (now «check_var»)) (now «c_to_v») (now «v_to_c») ⌝ }
+    ensures { λ r. ⌜
+        let x = shotOf t (now (gammas .entry)) seed (now (syndrome .entry)) (now (priors .entry)) (now («check_var» .entry))
+        (now («check_offset» .entry)) (now («var_message» .entry)) (now («var_offset» .entry))
+        (upto (length (now (syndrome .entry)))) in
+        let before = decodeLists (now («leg_state» .entry)) (now («leg_iterations» .entry)) (now («leg_weight» .entry)) (now (rows .entry))
+        (now (correction .entry)) (now (posterior .entry)) (now (gamma .entry)) (now (bias .entry)) (now («c_to_v» .entry))
+        (now («v_to_c» .entry)) in
+        let end = decodeLegs x in
+        let after = decodeLists (now («leg_state» .exit)) (now («leg_iterations» .exit)) (now («leg_weight» .exit)) (now (rows .exit))
+        (now (correction .exit)) (now (posterior .exit)) (now (gamma .exit)) (now (bias .exit)) (now («c_to_v» .exit))
+        (now («v_to_c» .exit)) in
+        decodeOutcome r after ≡ afterLegs (length (now («check_var» .entry))) x end before ⌝ }
 {
     let checks = syndrome.len();
     let mut order = [0u32; 1024];
@@ -92,11 +107,25 @@ fn decode_many(
     v_to_c: &mut [f64],
 ) -> Decoded
     requires { ⌜ length (now syndrome) ≤ maxChecks ⌝ }
-    requires { ⌜ Reads t (now gammas) (now syndrome) (now priors) (now «check_var») (now «check_offset») (now «var_message») (now «var_offset») (upto (length (now syndrome))) ⌝ }
-    requires { ⌜ (suc (t .«num_legs») ≤ length (now «leg_state»)) × (suc (t .«num_legs») ≤ length (now «leg_iterations»)) × (suc (t .«num_legs») ≤ length (now «leg_weight»)) × (suc (t .«num_legs») * length (now priors) ≤ length (now rows)) ⌝ }
-    requires { ⌜ (length (now correction) ≡ length (now priors)) × (length (now posterior) ≡ length (now priors)) × (length (now gamma) ≡ length (now priors)) × (length (now bias) ≡ length (now priors)) ⌝ }
-    requires { ⌜ (length (now «c_to_v») ≡ length (now «check_var»)) × (length (now «v_to_c») ≡ length (now «check_var»)) ⌝ }
-    ensures { λ r. ⌜ decodeOutcome r (record { legState = now («leg_state» .exit); legIterations = now («leg_iterations» .exit); legWeight = now («leg_weight» .exit); rows = now (rows .exit); correction = now (correction .exit); posterior = now (posterior .exit); gamma = now (gamma .exit); bias = now (bias .exit); cToV = now («c_to_v» .exit); vToC = now («v_to_c» .exit) }) ≡ afterLegs (length (now («check_var» .entry))) (shotOf t (now (gammas .entry)) seed (now (syndrome .entry)) (now (priors .entry)) (now («check_var» .entry)) (now («check_offset» .entry)) (now («var_message» .entry)) (now («var_offset» .entry)) (upto (length (now (syndrome .entry))))) (decodeLegs (shotOf t (now (gammas .entry)) seed (now (syndrome .entry)) (now (priors .entry)) (now («check_var» .entry)) (now («check_offset» .entry)) (now («var_message» .entry)) (now («var_offset» .entry)) (upto (length (now (syndrome .entry)))))) (record { legState = now («leg_state» .entry); legIterations = now («leg_iterations» .entry); legWeight = now («leg_weight» .entry); rows = now (rows .entry); correction = now (correction .entry); posterior = now (posterior .entry); gamma = now (gamma .entry); bias = now (bias .entry); cToV = now («c_to_v» .entry); vToC = now («v_to_c» .entry) }) ⌝ }
+    requires { ⌜
+        Reads t (now gammas) (now syndrome) (now priors) (now «check_var») (now «check_offset») (now «var_message») (now «var_offset»)
+        (upto (length (now syndrome))) ⌝ }
+    requires { ⌜
+        LegsFit (suc (t .«num_legs»)) (length (now priors)) (now «leg_state») (now «leg_iterations») (now «leg_weight») (now rows) ⌝ }
+    requires { ⌜ PerShot (length (now priors)) (now correction) (now posterior) (now gamma) (now bias) ⌝ }
+    requires { ⌜ PerEdge (length (now «check_var»)) (now «c_to_v») (now «v_to_c») ⌝ }
+    ensures { λ r. ⌜
+        let x = shotOf t (now (gammas .entry)) seed (now (syndrome .entry)) (now (priors .entry)) (now («check_var» .entry))
+        (now («check_offset» .entry)) (now («var_message» .entry)) (now («var_offset» .entry))
+        (upto (length (now (syndrome .entry)))) in
+        let before = decodeLists (now («leg_state» .entry)) (now («leg_iterations» .entry)) (now («leg_weight» .entry)) (now (rows .entry))
+        (now (correction .entry)) (now (posterior .entry)) (now (gamma .entry)) (now (bias .entry)) (now («c_to_v» .entry))
+        (now («v_to_c» .entry)) in
+        let end = decodeLegs x in
+        let after = decodeLists (now («leg_state» .exit)) (now («leg_iterations» .exit)) (now («leg_weight» .exit)) (now (rows .exit))
+        (now (correction .exit)) (now (posterior .exit)) (now (gamma .exit)) (now (bias .exit)) (now («c_to_v» .exit))
+        (now («v_to_c» .exit)) in
+        decodeOutcome r after ≡ afterLegs (length (now («check_var» .entry))) x end before ⌝ }
 {
     let checks = syndrome.len();
     let mut order = [0u32; MAX_CHECKS];
@@ -148,11 +177,25 @@ pub fn decode_counted(
     v_to_c: &mut [f64],
 ) -> Decoded
     requires { ⌜ length (now syndrome) ≤ maxChecks ⌝ }
-    requires { ⌜ Reads t (now gammas) (now syndrome) (now priors) (now «check_var») (now «check_offset») (now «var_message») (now «var_offset») (upto (length (now syndrome))) ⌝ }
-    requires { ⌜ (suc (t .«num_legs») ≤ length (now «leg_state»)) × (suc (t .«num_legs») ≤ length (now «leg_iterations»)) × (suc (t .«num_legs») ≤ length (now «leg_weight»)) × (suc (t .«num_legs») * length (now priors) ≤ length (now rows)) ⌝ }
-    requires { ⌜ (length (now correction) ≡ length (now priors)) × (length (now posterior) ≡ length (now priors)) × (length (now gamma) ≡ length (now priors)) × (length (now bias) ≡ length (now priors)) ⌝ }
-    requires { ⌜ (length (now «c_to_v») ≡ length (now «check_var»)) × (length (now «v_to_c») ≡ length (now «check_var»)) ⌝ }
-    ensures { λ r. ⌜ decodeOutcome r (record { legState = now («leg_state» .exit); legIterations = now («leg_iterations» .exit); legWeight = now («leg_weight» .exit); rows = now (rows .exit); correction = now (correction .exit); posterior = now (posterior .exit); gamma = now (gamma .exit); bias = now (bias .exit); cToV = now («c_to_v» .exit); vToC = now («v_to_c» .exit) }) ≡ afterLegs (length (now («check_var» .entry))) (shotOf t (now (gammas .entry)) seed (now (syndrome .entry)) (now (priors .entry)) (now («check_var» .entry)) (now («check_offset» .entry)) (now («var_message» .entry)) (now («var_offset» .entry)) (upto (length (now (syndrome .entry))))) (decodeLegs (shotOf t (now (gammas .entry)) seed (now (syndrome .entry)) (now (priors .entry)) (now («check_var» .entry)) (now («check_offset» .entry)) (now («var_message» .entry)) (now («var_offset» .entry)) (upto (length (now (syndrome .entry)))))) (record { legState = now («leg_state» .entry); legIterations = now («leg_iterations» .entry); legWeight = now («leg_weight» .entry); rows = now (rows .entry); correction = now (correction .entry); posterior = now (posterior .entry); gamma = now (gamma .entry); bias = now (bias .entry); cToV = now («c_to_v» .entry); vToC = now («v_to_c» .entry) }) ⌝ }
+    requires { ⌜
+        Reads t (now gammas) (now syndrome) (now priors) (now «check_var») (now «check_offset») (now «var_message») (now «var_offset»)
+        (upto (length (now syndrome))) ⌝ }
+    requires { ⌜
+        LegsFit (suc (t .«num_legs»)) (length (now priors)) (now «leg_state») (now «leg_iterations») (now «leg_weight») (now rows) ⌝ }
+    requires { ⌜ PerShot (length (now priors)) (now correction) (now posterior) (now gamma) (now bias) ⌝ }
+    requires { ⌜ PerEdge (length (now «check_var»)) (now «c_to_v») (now «v_to_c») ⌝ }
+    ensures { λ r. ⌜
+        let x = shotOf t (now (gammas .entry)) seed (now (syndrome .entry)) (now (priors .entry)) (now («check_var» .entry))
+        (now («check_offset» .entry)) (now («var_message» .entry)) (now («var_offset» .entry))
+        (upto (length (now (syndrome .entry)))) in
+        let before = decodeLists (now («leg_state» .entry)) (now («leg_iterations» .entry)) (now («leg_weight» .entry)) (now (rows .entry))
+        (now (correction .entry)) (now (posterior .entry)) (now (gamma .entry)) (now (bias .entry)) (now («c_to_v» .entry))
+        (now («v_to_c» .entry)) in
+        let end = decodeLegs x in
+        let after = decodeLists (now («leg_state» .exit)) (now («leg_iterations» .exit)) (now («leg_weight» .exit)) (now (rows .exit))
+        (now (correction .exit)) (now (posterior .exit)) (now (gamma .exit)) (now (bias .exit)) (now («c_to_v» .exit))
+        (now («v_to_c» .exit)) in
+        decodeOutcome r after ≡ afterLegs (length (now («check_var» .entry))) x end before ⌝ }
 {
     if syndrome.len() <= 1024 {
         return decode_few(

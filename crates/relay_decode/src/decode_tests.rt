@@ -11,8 +11,9 @@ ghost use Rattle.graph_lists.specs.Graph.{graph};
 ghost use Rattle.graph_lists.specs.Sound.{Offsets, Keys};
 ghost use Rattle.graph_messages.specs.Needs.{ofChecks};
 ghost use Rattle.relay_orders.specs.Order.{namesFault, exchangeFault};
-ghost use Rattle.relay_calls.specs.Calls.{decodeFault};
+ghost use Rattle.relay_calls.specs.Calls.{decodeFault, decodeLists};
 ghost use Rattle.relay_record.specs.Kept.{shotFault};
+ghost use Rattle.relay_calls.specs.Decode.{shot};
 use refusals::Answer;
 use refusals::Refusal;
 use refusals_tests::at_most;
@@ -39,7 +40,12 @@ fn legs_fit(
     rows: &[u8],
 ) -> bool
     requires { ⌜ («num_legs» ≤ maxCount) × (mechanisms ≤ maxMechanisms) ⌝ }
-    ensures { λ r. ⌜ r ≡ (leb (suc «num_legs») (length (now («leg_state» .entry))) && (leb (suc «num_legs») (length (now («leg_iterations» .entry))) && (leb (suc «num_legs») (length (now («leg_weight» .entry))) && leb (suc «num_legs» * mechanisms) (length (now (rows .entry)))))) ⌝ }
+    ensures { λ r. ⌜
+        r
+        ≡ (leb (suc «num_legs») (length (now («leg_state» .entry)))
+        && (leb (suc «num_legs») (length (now («leg_iterations» .entry)))
+        && (leb (suc «num_legs») (length (now («leg_weight» .entry)))
+        && leb (suc «num_legs» * mechanisms) (length (now (rows .entry)))))) ⌝ }
 {
     let legs = num_legs + 1;
     let cells = legs * mechanisms;
@@ -63,7 +69,13 @@ fn work_fits(
     c_to_v: &[f64],
     v_to_c: &[f64],
 ) -> bool
-    ensures { λ r. ⌜ r ≡ (eqb (length (now (correction .entry))) mechanisms && (eqb (length (now (posterior .entry))) mechanisms && (eqb (length (now (gamma .entry))) mechanisms && (eqb (length (now (bias .entry))) mechanisms && (eqb (length (now («c_to_v» .entry))) edges && eqb (length (now («v_to_c» .entry))) edges))))) ⌝ }
+    ensures { λ r. ⌜
+        r
+        ≡ (eqb (length (now (correction .entry))) mechanisms
+        && (eqb (length (now (posterior .entry))) mechanisms
+        && (eqb (length (now (gamma .entry))) mechanisms
+        && (eqb (length (now (bias .entry))) mechanisms
+        && (eqb (length (now («c_to_v» .entry))) edges && eqb (length (now («v_to_c» .entry))) edges))))) ⌝ }
 {
     let messages = both(
         same_number(c_to_v.len(), edges),
@@ -103,7 +115,14 @@ pub fn shot_fault(
     c_to_v: &[f64],
     v_to_c: &[f64],
 ) -> Answer
-    ensures { λ r. ⌜ r ≡ shotFault (size .edges) (record { graph = graph (size .checks) (size .mechanisms) (now («check_var» .entry)) (now («check_message» .entry)) (now («check_offset» .entry)) (now («var_check» .entry)) (now («var_message» .entry)) (now («var_offset» .entry)); prior = now (priors .entry); settings = t; gammas = now (gammas .entry); order = []; syndrome = now (syndrome .entry); seed = 0 }) (record { legState = now («leg_state» .entry); legIterations = now («leg_iterations» .entry); legWeight = now («leg_weight» .entry); rows = now (rows .entry); correction = now (correction .entry); posterior = now (posterior .entry); gamma = now (gamma .entry); bias = now (bias .entry); cToV = now («c_to_v» .entry); vToC = now («v_to_c» .entry) }) ⌝ }
+    ensures { λ r. ⌜
+        let g = graph (size .checks) (size .mechanisms) (now («check_var» .entry)) (now («check_message» .entry))
+        (now («check_offset» .entry)) (now («var_check» .entry)) (now («var_message» .entry)) (now («var_offset» .entry)) in
+        let x = shot g (now (priors .entry)) t (now (gammas .entry)) [] (now (syndrome .entry)) 0 in
+        let before = decodeLists (now («leg_state» .entry)) (now («leg_iterations» .entry)) (now («leg_weight» .entry)) (now (rows .entry))
+        (now (correction .entry)) (now (posterior .entry)) (now (gamma .entry)) (now (bias .entry)) (now («c_to_v» .entry))
+        (now («v_to_c» .entry)) in
+        r ≡ shotFault (size .edges) x before ⌝ }
 {
     let num_legs = t.num_legs;
     let a = graph::check_graph(
@@ -158,7 +177,9 @@ fn order_fault(
     requires { ⌜ checks ≤ maxChecks ⌝ }
     requires { ⌜ Offsets checks (length (now «check_var»)) (now «check_offset») ⌝ }
     requires { ⌜ Keys maxMechanisms (now «check_var») ⌝ }
-    ensures { λ r. ⌜ r ≡ orElse (namesFault checks (now (order .entry))) (exchangeFault schedule (ofChecks checks (now («check_var» .entry)) (now («check_offset» .entry))) (now (order .entry))) ⌝ }
+    ensures { λ r. ⌜
+        let g = ofChecks checks (now («check_var» .entry)) (now («check_offset» .entry)) in
+        r ≡ orElse (namesFault checks (now (order .entry))) (exchangeFault schedule g (now (order .entry))) ⌝ }
 {
     if is_index_order(checks, order) {
         return Answer::Done;
@@ -195,7 +216,14 @@ pub fn decode_fault(
     c_to_v: &[f64],
     v_to_c: &[f64],
 ) -> Answer
-    ensures { λ r. ⌜ r ≡ decodeFault (size .edges) (record { graph = graph (size .checks) (size .mechanisms) (now («check_var» .entry)) (now («check_message» .entry)) (now («check_offset» .entry)) (now («var_check» .entry)) (now («var_message» .entry)) (now («var_offset» .entry)); prior = now (priors .entry); settings = t; gammas = now (gammas .entry); order = now (order .entry); syndrome = now (syndrome .entry); seed = 0 }) (record { legState = now («leg_state» .entry); legIterations = now («leg_iterations» .entry); legWeight = now («leg_weight» .entry); rows = now (rows .entry); correction = now (correction .entry); posterior = now (posterior .entry); gamma = now (gamma .entry); bias = now (bias .entry); cToV = now («c_to_v» .entry); vToC = now («v_to_c» .entry) }) ⌝ }
+    ensures { λ r. ⌜
+        let g = graph (size .checks) (size .mechanisms) (now («check_var» .entry)) (now («check_message» .entry))
+        (now («check_offset» .entry)) (now («var_check» .entry)) (now («var_message» .entry)) (now («var_offset» .entry)) in
+        let x = shot g (now (priors .entry)) t (now (gammas .entry)) (now (order .entry)) (now (syndrome .entry)) 0 in
+        let before = decodeLists (now («leg_state» .entry)) (now («leg_iterations» .entry)) (now («leg_weight» .entry)) (now (rows .entry))
+        (now (correction .entry)) (now (posterior .entry)) (now (gamma .entry)) (now (bias .entry)) (now («c_to_v» .entry))
+        (now («v_to_c» .entry)) in
+        r ≡ decodeFault (size .edges) x before ⌝ }
 {
     let schedule = t.schedule;
     let a = shot_fault(

@@ -37,7 +37,10 @@ fn set_of(leg: usize, sets: usize) -> usize
 // That set, out of the flat list.
 fn copy_set(sets: usize, leg: usize, flat: &[f64], gamma: &mut [f64])
     requires { ⌜ (0 < leg) × (0 < sets) × (length (now flat) ≡ sets * length (now gamma)) ⌝ }
-    ensures { λ _. ⌜ now (gamma .exit) ≡ part ((leg - 1) % sets * length (now (gamma .entry))) ((leg - 1) % sets * length (now (gamma .entry)) + length (now (gamma .entry))) (now (flat .entry)) ⌝ }
+    ensures { λ _. ⌜
+        now (gamma .exit)
+        ≡ part ((leg - 1) % sets * length (now (gamma .entry)))
+        ((leg - 1) % sets * length (now (gamma .entry)) + length (now (gamma .entry))) (now (flat .entry)) ⌝ }
 {
     let start = set_of(leg, sets) * gamma.len();
     let end = start + gamma.len();
@@ -67,7 +70,8 @@ fn relay_gamma(
 // The gammas of any leg: gamma0 in leg zero.
 pub fn prepare_gamma(t: Settings, flat: &[f64], seed: u64, leg: usize, gamma: &mut [f64])
     requires { ⌜ leg ≤ maxCount ⌝ }
-    requires { ⌜ (0 < leg → (sets : ℕ) → t .«gamma_source» ≡ Explicit sets → (0 < sets) × (length (now flat) ≡ sets * length (now gamma))) ⌝ }
+    requires { ⌜
+        (0 < leg → (sets : ℕ) → t .«gamma_source» ≡ Explicit sets → (0 < sets) × (length (now flat) ≡ sets * length (now gamma))) ⌝ }
     ensures { λ _. ⌜ now (gamma .exit) ≡ gammaOf t (now (flat .entry)) (length (now (gamma .entry))) seed leg ⌝ }
 {
     let source = t.gamma_source;

@@ -5,11 +5,12 @@ ghost use Prim.Native.Nat.{_+_, _*_, _<_, _≤_, suc};
 ghost use lib.ListN.{length};
 ghost use Rattle.numbers.specs.Limits.{maxCount};
 ghost use Rattle.graph_lists.specs.Sound.{Keys};
-ghost use Rattle.graph_messages.specs.Needs.{walked};
+ghost use Rattle.graph_messages.specs.Needs.{walked, PerEdge};
 ghost use Rattle.relay_step.specs.Step.{state};
 ghost use Rattle.relay_step.specs.Leg.{leg as legOf, hardDecision, startLeg};
 ghost use Rattle.relay_calls.specs.Decode.{iterationLimit, executedLeg};
-ghost use Rattle.relay_record.specs.Kept.{shotOf, Reads, bestOf, kept, keptWith, rowAfter, keptAfter, Blank};
+ghost use Rattle.relay_record.specs.Kept.{shotOf, Reads, bestOf, kept, keptWith, rowAfter, keptAfter, Blank, LegsLong, PerShot};
+ghost use Rattle.relay_step.specs.Places.{LegLists};
 use graph_messages::clear;
 use graph_messages::from_variables;
 use relay_gammas::prepare_gamma;
@@ -32,8 +33,10 @@ fn iteration_limit(t: Settings, leg: usize) -> usize
 // `start_leg`: check messages cleared, variable messages at the priors.
 fn start_leg(check_var: &[u32], priors: &[f64], c_to_v: &mut [f64], v_to_c: &mut [f64])
     requires { ⌜ Keys (length (now priors)) (now «check_var») ⌝ }
-    requires { ⌜ (length (now «c_to_v») ≡ length (now «check_var»)) × (length (now «v_to_c») ≡ length (now «check_var»)) ⌝ }
-    ensures { λ _. ⌜ state (now («c_to_v» .exit)) (now («v_to_c» .exit)) [] ≡ startLeg (walked 0 0 (now («check_var» .entry)) [] [] []) (now (priors .entry)) [] ⌝ }
+    requires { ⌜ PerEdge (length (now «check_var»)) (now «c_to_v») (now «v_to_c») ⌝ }
+    ensures { λ _. ⌜
+        let g = walked 0 0 (now («check_var» .entry)) [] [] [] in
+        state (now («c_to_v» .exit)) (now («v_to_c» .exit)) [] ≡ startLeg g (now (priors .entry)) [] ⌝ }
 {
     clear(c_to_v);
     from_variables(check_var, priors, v_to_c);
@@ -59,11 +62,17 @@ fn execute_leg(
     posterior: &mut [f64],
     bits: &mut [u8],
 ) -> Leg
-    requires { ⌜ Reads t (now gammas) (now syndrome) (now priors) (now «check_var») (now «check_offset») (now «var_message») (now «var_offset») (now order) ⌝ }
+    requires { ⌜
+        Reads t (now gammas) (now syndrome) (now priors) (now «check_var») (now «check_offset») (now «var_message») (now «var_offset»)
+        (now order) ⌝ }
     requires { ⌜ leg ≤ t .«num_legs» ⌝ }
-    requires { ⌜ (length (now gamma) ≡ length (now priors)) × (length (now bias) ≡ length (now priors)) × (length (now posterior) ≡ length (now priors)) × (length (now bits) ≡ length (now priors)) ⌝ }
-    requires { ⌜ (length (now «c_to_v») ≡ length (now «check_var»)) × (length (now «v_to_c») ≡ length (now «check_var»)) ⌝ }
-    ensures ran { λ r. ⌜ legOf (r .converged) (r .iterations) (state (now («c_to_v» .exit)) (now («v_to_c» .exit)) (now (posterior .exit))) ≡ executedLeg (shotOf t (now (gammas .entry)) seed (now (syndrome .entry)) (now (priors .entry)) (now («check_var» .entry)) (now («check_offset» .entry)) (now («var_message» .entry)) (now («var_offset» .entry)) (now (order .entry))) leg (now (posterior .entry)) ⌝ }
+    requires { ⌜ LegLists (length (now priors)) (now gamma) (now bias) (now posterior) (now bits) ⌝ }
+    requires { ⌜ PerEdge (length (now «check_var»)) (now «c_to_v») (now «v_to_c») ⌝ }
+    ensures ran { λ r. ⌜
+        let x = shotOf t (now (gammas .entry)) seed (now (syndrome .entry)) (now (priors .entry)) (now («check_var» .entry))
+        (now («check_offset» .entry)) (now («var_message» .entry)) (now («var_offset» .entry)) (now (order .entry)) in
+        let after = state (now («c_to_v» .exit)) (now («v_to_c» .exit)) (now (posterior .exit)) in
+        legOf (r .converged) (r .iterations) after ≡ executedLeg x leg (now (posterior .entry)) ⌝ }
     ensures bits { λ _. ⌜ now (bits .exit) ≡ hardDecision (now (posterior .exit)) ⌝ }
     ensures few { λ r. ⌜ r .iterations ≤ maxCount ⌝ }
 {
@@ -117,12 +126,27 @@ fn leg_in_row(
     c_to_v: &mut [f64],
     v_to_c: &mut [f64],
 ) -> Tally
-    requires { ⌜ Reads t (now gammas) (now syndrome) (now priors) (now «check_var») (now «check_offset») (now «var_message») (now «var_offset») (now order) ⌝ }
+    requires { ⌜
+        Reads t (now gammas) (now syndrome) (now priors) (now «check_var») (now «check_offset») (now «var_message») (now «var_offset»)
+        (now order) ⌝ }
     requires { ⌜ (leg ≤ t .«num_legs») × (tally .«num_converged» ≤ 65536) × (tally .«total_iterations» ≤ 65536 * 65535) ⌝ }
     requires { ⌜ (leg < length (now «leg_state»)) × (leg < length (now «leg_iterations»)) × (leg < length (now «leg_weight»)) ⌝ }
-    requires { ⌜ (length (now row) ≡ length (now priors)) × (length (now correction) ≡ length (now priors)) × (length (now posterior) ≡ length (now priors)) × (length (now gamma) ≡ length (now priors)) × (length (now bias) ≡ length (now priors)) ⌝ }
-    requires { ⌜ (length (now «c_to_v») ≡ length (now «check_var»)) × (length (now «v_to_c») ≡ length (now «check_var»)) ⌝ }
-    ensures turn { λ r. ⌜ kept (bestOf (r .found) (r .weight)) (r .«num_converged») (r .«total_iterations») (suc leg) (now («leg_state» .exit)) (now («leg_iterations» .exit)) (now («leg_weight» .exit)) (now (row .exit)) (now (correction .exit)) (now (posterior .exit)) ≡ keptWith (shotOf t (now (gammas .entry)) seed (now (syndrome .entry)) (now (priors .entry)) (now («check_var» .entry)) (now («check_offset» .entry)) (now («var_message» .entry)) (now («var_offset» .entry)) (now (order .entry))) (kept (bestOf (tally .found) (tally .weight)) (tally .«num_converged») (tally .«total_iterations») leg (now («leg_state» .entry)) (now («leg_iterations» .entry)) (now («leg_weight» .entry)) [] (now (correction .entry)) []) leg (executedLeg (shotOf t (now (gammas .entry)) seed (now (syndrome .entry)) (now (priors .entry)) (now («check_var» .entry)) (now («check_offset» .entry)) (now («var_message» .entry)) (now («var_offset» .entry)) (now (order .entry))) leg (now (posterior .entry))) (rowAfter (shotOf t (now (gammas .entry)) seed (now (syndrome .entry)) (now (priors .entry)) (now («check_var» .entry)) (now («check_offset» .entry)) (now («var_message» .entry)) (now («var_offset» .entry)) (now (order .entry))) (executedLeg (shotOf t (now (gammas .entry)) seed (now (syndrome .entry)) (now (priors .entry)) (now («check_var» .entry)) (now («check_offset» .entry)) (now («var_message» .entry)) (now («var_offset» .entry)) (now (order .entry))) leg (now (posterior .entry)))) ⌝ }
+    requires { ⌜
+        (length (now row) ≡ length (now priors))
+        × (length (now correction) ≡ length (now priors))
+        × (length (now posterior) ≡ length (now priors))
+        × (length (now gamma) ≡ length (now priors))
+        × (length (now bias) ≡ length (now priors)) ⌝ }
+    requires { ⌜ PerEdge (length (now «check_var»)) (now «c_to_v») (now «v_to_c») ⌝ }
+    ensures turn { λ r. ⌜
+        let x = shotOf t (now (gammas .entry)) seed (now (syndrome .entry)) (now (priors .entry)) (now («check_var» .entry))
+        (now («check_offset» .entry)) (now («var_message» .entry)) (now («var_offset» .entry)) (now (order .entry)) in
+        let before = kept (bestOf (tally .found) (tally .weight)) (tally .«num_converged») (tally .«total_iterations») leg
+        (now («leg_state» .entry)) (now («leg_iterations» .entry)) (now («leg_weight» .entry)) [] (now (correction .entry)) [] in
+        let leg′ = executedLeg x leg (now (posterior .entry)) in
+        kept (bestOf (r .found) (r .weight)) (r .«num_converged») (r .«total_iterations») (suc leg) (now («leg_state» .exit))
+        (now («leg_iterations» .exit)) (now («leg_weight» .exit)) (now (row .exit)) (now (correction .exit)) (now (posterior .exit))
+        ≡ keptWith x before leg leg′ (rowAfter x leg′) ⌝ }
     ensures few { λ r. ⌜ (r .«num_converged» ≤ tally .«num_converged» + 1) × (r .«total_iterations» ≤ tally .«total_iterations» + 65535) ⌝ }
 {
     let l = execute_leg(
@@ -182,13 +206,25 @@ pub fn next_leg(
     c_to_v: &mut [f64],
     v_to_c: &mut [f64],
 ) -> Tally
-    requires { ⌜ Reads t (now gammas) (now syndrome) (now priors) (now «check_var») (now «check_offset») (now «var_message») (now «var_offset») (now order) ⌝ }
+    requires { ⌜
+        Reads t (now gammas) (now syndrome) (now priors) (now «check_var») (now «check_offset») (now «var_message») (now «var_offset»)
+        (now order) ⌝ }
     requires { ⌜ (leg ≤ t .«num_legs») × (tally .«num_converged» ≤ 65536) × (tally .«total_iterations» ≤ 65536 * 65535) ⌝ }
-    requires { ⌜ (length (now «leg_state») ≡ suc (t .«num_legs»)) × (length (now «leg_iterations») ≡ suc (t .«num_legs»)) × (length (now «leg_weight») ≡ suc (t .«num_legs»)) × (length (now rows) ≡ suc (t .«num_legs») * length (now priors)) ⌝ }
+    requires { ⌜
+        LegsLong (suc (t .«num_legs»)) (length (now priors)) (now «leg_state») (now «leg_iterations») (now «leg_weight») (now rows) ⌝ }
     requires { ⌜ Blank (leg * length (now priors)) (now rows) ⌝ }
-    requires { ⌜ (length (now correction) ≡ length (now priors)) × (length (now posterior) ≡ length (now priors)) × (length (now gamma) ≡ length (now priors)) × (length (now bias) ≡ length (now priors)) ⌝ }
-    requires { ⌜ (length (now «c_to_v») ≡ length (now «check_var»)) × (length (now «v_to_c») ≡ length (now «check_var»)) ⌝ }
-    ensures turn { λ r. ⌜ kept (bestOf (r .found) (r .weight)) (r .«num_converged») (r .«total_iterations») (suc leg) (now («leg_state» .exit)) (now («leg_iterations» .exit)) (now («leg_weight» .exit)) (now (rows .exit)) (now (correction .exit)) (now (posterior .exit)) ≡ keptAfter (shotOf t (now (gammas .entry)) seed (now (syndrome .entry)) (now (priors .entry)) (now («check_var» .entry)) (now («check_offset» .entry)) (now («var_message» .entry)) (now («var_offset» .entry)) (now (order .entry))) (kept (bestOf (tally .found) (tally .weight)) (tally .«num_converged») (tally .«total_iterations») leg (now («leg_state» .entry)) (now («leg_iterations» .entry)) (now («leg_weight» .entry)) (now (rows .entry)) (now (correction .entry)) (now (posterior .entry))) leg (executedLeg (shotOf t (now (gammas .entry)) seed (now (syndrome .entry)) (now (priors .entry)) (now («check_var» .entry)) (now («check_offset» .entry)) (now («var_message» .entry)) (now («var_offset» .entry)) (now (order .entry))) leg (now (posterior .entry))) ⌝ }
+    requires { ⌜ PerShot (length (now priors)) (now correction) (now posterior) (now gamma) (now bias) ⌝ }
+    requires { ⌜ PerEdge (length (now «check_var»)) (now «c_to_v») (now «v_to_c») ⌝ }
+    ensures turn { λ r. ⌜
+        let x = shotOf t (now (gammas .entry)) seed (now (syndrome .entry)) (now (priors .entry)) (now («check_var» .entry))
+        (now («check_offset» .entry)) (now («var_message» .entry)) (now («var_offset» .entry)) (now (order .entry)) in
+        let before = kept (bestOf (tally .found) (tally .weight)) (tally .«num_converged») (tally .«total_iterations») leg
+        (now («leg_state» .entry)) (now («leg_iterations» .entry)) (now («leg_weight» .entry)) (now (rows .entry))
+        (now (correction .entry)) (now (posterior .entry)) in
+        let leg′ = executedLeg x leg (now (posterior .entry)) in
+        kept (bestOf (r .found) (r .weight)) (r .«num_converged») (r .«total_iterations») (suc leg) (now («leg_state» .exit))
+        (now («leg_iterations» .exit)) (now («leg_weight» .exit)) (now (rows .exit)) (now (correction .exit)) (now (posterior .exit))
+        ≡ keptAfter x before leg leg′ ⌝ }
     ensures blank { λ _. ⌜ Blank (leg * length (now (priors .entry)) + length (now (priors .entry))) (now (rows .exit)) ⌝ }
     ensures few { λ r. ⌜ (r .«num_converged» ≤ tally .«num_converged» + 1) × (r .«total_iterations» ≤ tally .«total_iterations» + 65535) ⌝ }
 {

@@ -52,6 +52,21 @@ pub record Reads (t : Settings) (flat : List Float) (syndrome : List ℕ) (prior
   pub leg-few : t .«leg_iterations» ≤ maxCount
   pub sets-many : 0 < t .«num_legs» → (sets : ℕ) → t .«gamma_source» ≡ Explicit sets → (0 < sets) × (length flat ≡ sets * length prior)
 
+-- a value for each mechanism: correction, posterior, gammas and biases
+abbrev pub PerShot : ℕ → List ℕ → List Float → List Float → List Float → Type 0
+PerShot mechanisms correction posterior gamma bias =
+    (length correction ≡ mechanisms) × (length posterior ≡ mechanisms) × (length gamma ≡ mechanisms) × (length bias ≡ mechanisms)
+
+-- the leg lists and the correction rows are those of so many legs
+abbrev pub LegsLong : ℕ → ℕ → List ℕ → List ℕ → List Float → List ℕ → Type 0
+LegsLong legs mechanisms states iterations weights rows =
+    (length states ≡ legs) × (length iterations ≡ legs) × (length weights ≡ legs) × (length rows ≡ legs * mechanisms)
+
+-- or of more
+abbrev pub LegsFit : ℕ → ℕ → List ℕ → List ℕ → List Float → List ℕ → Type 0
+LegsFit legs mechanisms states iterations weights rows =
+    (legs ≤ length states) × (legs ≤ length iterations) × (legs ≤ length weights) × (legs * mechanisms ≤ length rows)
+
 -- ---- between legs
 
 -- the best weight, as the code has it

@@ -49,8 +49,11 @@ fn keep_least(
     requires { ⌜ (tally .«num_converged» ≤ 65536) × (tally .«total_iterations» ≤ 65536 * 65535) × (iterations ≤ 65535) ⌝ }
     requires { ⌜ length (now correction) ≡ length (now row) ⌝ }
     ensures best { λ r. ⌜ bestOf (r .found) (r .weight) ≡ bestAfter true (bestOf (tally .found) (tally .weight)) weight ⌝ }
-    ensures counts { λ r. ⌜ (r .«num_converged» ≡ tally .«num_converged» + 1) × (r .«total_iterations» ≡ tally .«total_iterations» + iterations) ⌝ }
-    ensures correction { λ _. ⌜ now (correction .exit) ≡ corrected true (bestOf (tally .found) (tally .weight)) weight (now (row .entry)) (now (correction .entry)) ⌝ }
+    ensures counts { λ r. ⌜
+        (r .«num_converged» ≡ tally .«num_converged» + 1) × (r .«total_iterations» ≡ tally .«total_iterations» + iterations) ⌝ }
+    ensures correction { λ _. ⌜
+        now (correction .exit)
+        ≡ corrected true (bestOf (tally .found) (tally .weight)) weight (now (row .entry)) (now (correction .entry)) ⌝ }
 {
     let converged = tally.num_converged + 1;
     let total = tally.total_iterations + iterations;
@@ -92,8 +95,15 @@ fn write_leg(
     leg_iterations: &mut [u32],
     leg_weight: &mut [f64],
 )
-    requires { ⌜ (leg < length (now «leg_state»)) × (leg < length (now «leg_iterations»)) × (leg < length (now «leg_weight»)) × (iterations ≤ 65535) ⌝ }
-    ensures { λ _. ⌜ (now («leg_state» .exit) ≡ set (now («leg_state» .entry)) leg state) × (now («leg_iterations» .exit) ≡ set (now («leg_iterations» .entry)) leg iterations) × (now («leg_weight» .exit) ≡ set (now («leg_weight» .entry)) leg weight) ⌝ }
+    requires { ⌜
+        (leg < length (now «leg_state»))
+        × (leg < length (now «leg_iterations»))
+        × (leg < length (now «leg_weight»))
+        × (iterations ≤ 65535) ⌝ }
+    ensures { λ _. ⌜
+        (now («leg_state» .exit) ≡ set (now («leg_state» .entry)) leg state)
+        × (now («leg_iterations» .exit) ≡ set (now («leg_iterations» .entry)) leg iterations)
+        × (now («leg_weight» .exit) ≡ set (now («leg_weight» .entry)) leg weight) ⌝ }
 {
     leg_state[leg] = state;
     leg_iterations[leg] = iterations as u32;
@@ -115,11 +125,25 @@ pub fn record_leg(
     requires { ⌜ (tally .«num_converged» ≤ 65536) × (tally .«total_iterations» ≤ 65536 * 65535) × (l .iterations ≤ 65535) ⌝ }
     requires { ⌜ (length (now row) ≡ length (now priors)) × (length (now correction) ≡ length (now priors)) ⌝ }
     requires { ⌜ (leg < length (now «leg_state»)) × (leg < length (now «leg_iterations»)) × (leg < length (now «leg_weight»)) ⌝ }
-    ensures best { λ r. ⌜ bestOf (r .found) (r .weight) ≡ bestAfter (l .converged) (bestOf (tally .found) (tally .weight)) (correctionWeight (now (priors .entry)) (now (row .entry)) (length (now (priors .entry)))) ⌝ }
-    ensures counts { λ r. ⌜ (r .«num_converged» ≡ tally .«num_converged» + cond (l .converged) 1 0) × (r .«total_iterations» ≡ tally .«total_iterations» + l .iterations) ⌝ }
-    ensures entries { λ _. ⌜ (now («leg_state» .exit) ≡ set (now («leg_state» .entry)) leg (cond (l .converged) 2 1)) × (now («leg_iterations» .exit) ≡ set (now («leg_iterations» .entry)) leg (l .iterations)) × (now («leg_weight» .exit) ≡ set (now («leg_weight» .entry)) leg (cond (l .converged) (correctionWeight (now (priors .entry)) (now (row .entry)) (length (now (priors .entry)))) zero⁺)) ⌝ }
+    ensures best { λ r. ⌜
+        bestOf (r .found) (r .weight)
+        ≡ bestAfter (l .converged) (bestOf (tally .found) (tally .weight))
+        (correctionWeight (now (priors .entry)) (now (row .entry)) (length (now (priors .entry)))) ⌝ }
+    ensures counts { λ r. ⌜
+        (r .«num_converged» ≡ tally .«num_converged» + cond (l .converged) 1 0)
+        × (r .«total_iterations» ≡ tally .«total_iterations» + l .iterations) ⌝ }
+    ensures entries { λ _. ⌜
+        (now («leg_state» .exit) ≡ set (now («leg_state» .entry)) leg (cond (l .converged) 2 1))
+        × (now («leg_iterations» .exit) ≡ set (now («leg_iterations» .entry)) leg (l .iterations))
+        × (now («leg_weight» .exit)
+        ≡ set (now («leg_weight» .entry)) leg
+        (cond (l .converged) (correctionWeight (now (priors .entry)) (now (row .entry)) (length (now (priors .entry)))) zero⁺)) ⌝ }
     ensures row { λ _. ⌜ now (row .exit) ≡ cond (l .converged) (now (row .entry)) (replicate (length (now (row .entry))) 0) ⌝ }
-    ensures correction { λ _. ⌜ now (correction .exit) ≡ corrected (l .converged) (bestOf (tally .found) (tally .weight)) (correctionWeight (now (priors .entry)) (now (row .entry)) (length (now (priors .entry)))) (now (row .entry)) (now (correction .entry)) ⌝ }
+    ensures correction { λ _. ⌜
+        now (correction .exit)
+        ≡ corrected (l .converged) (bestOf (tally .found) (tally .weight))
+        (correctionWeight (now (priors .entry)) (now (row .entry)) (length (now (priors .entry)))) (now (row .entry))
+        (now (correction .entry)) ⌝ }
 {
     if l.converged {
         let weight = correction_weight(priors, row);

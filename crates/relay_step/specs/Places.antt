@@ -1,9 +1,10 @@
--- What the code of a check's update has on the way: for private contracts, and no part of what a reader must believe. Definitions only. Assumes nothing.
+-- What the code of a check's update has on the way, and lists that are long enough: for private contracts, and no part of what a reader must believe. Definitions only. Assumes nothing.
 use Prim.Native.Nat.{ℕ}
+use mathlib.Core.Path.{_≡_}
 use mathlib.Core.Bool.{Bool, cond}
 use mathlib.Core.List.{List}
 use lib.Ieee.{Float, nan, lt}
-use lib.ListN.{getD}
+use lib.ListN.{length, getD}
 use Rattle.numbers.specs.Floats.{zero⁺}
 use Rattle.numbers.specs.Loops.{turns, table}
 use Rattle.graph_lists.specs.Messages.{Scan, startScan}
@@ -16,3 +17,12 @@ scanPlaces odd messages n = turns n (λ i s. scanned s i (getD messages i nan)) 
 -- one of two for each of the first n messages, by its sign
 unfoldable pub bySigns : Float → Float → List Float → ℕ → List Float
 bySigns minus plus messages n = table n (λ i. cond (lt (getD messages i nan) zero⁺) minus plus)
+
+-- a value for each mechanism: gammas, biases and posterior
+abbrev pub PerMechanism : ℕ → List Float → List Float → List Float → Type 0
+PerMechanism mechanisms gamma bias posterior = (length gamma ≡ mechanisms) × (length bias ≡ mechanisms) × (length posterior ≡ mechanisms)
+
+-- those, and a bit
+abbrev pub LegLists : ℕ → List Float → List Float → List Float → List ℕ → Type 0
+LegLists mechanisms gamma bias posterior bits =
+    (length gamma ≡ mechanisms) × (length bias ≡ mechanisms) × (length posterior ≡ mechanisms) × (length bits ≡ mechanisms)

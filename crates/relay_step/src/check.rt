@@ -18,7 +18,9 @@ use graph_messages::start_scan;
 // The message at a place.
 fn scanned(s: Scan, place: usize, message: f64) -> Scan
     requires { ⌜ Ordered (s .min1) (s .min2) ⌝ }
-    ensures scan { λ r. ⌜ scanOf (r .«total_sign») (r .min1) (r .min2) (r .least) ≡ scannedOf (scanOf (s .«total_sign») (s .min1) (s .min2) (s .least)) place message ⌝ }
+    ensures scan { λ r. ⌜
+        let before = scanOf (s .«total_sign») (s .min1) (s .min2) (s .least) in
+        scanOf (r .«total_sign») (r .min1) (r .min2) (r .least) ≡ scannedOf before place message ⌝ }
     ensures ordered { λ r. ⌜ Ordered (r .min1) (r .min2) ⌝ }
 {
     lowered(
@@ -31,7 +33,9 @@ fn scanned(s: Scan, place: usize, message: f64) -> Scan
 
 // The first pass. It knows the least by its place: a check has a variable at one place alone.
 fn scan_check(odd: bool, messages: &[f64]) -> Scan
-    ensures { λ r. ⌜ scanOf (r .«total_sign») (r .min1) (r .min2) (r .least) ≡ scanPlaces odd (now (messages .entry)) (length (now (messages .entry))) ⌝ }
+    ensures { λ r. ⌜
+        scanOf (r .«total_sign») (r .min1) (r .min2) (r .least)
+        ≡ scanPlaces odd (now (messages .entry)) (length (now (messages .entry))) ⌝ }
 {
     let mut s = start_scan(odd, 0xFFFFFFFFFFFFFFFF);
     let mut i = 0;
@@ -108,9 +112,16 @@ pub(crate) fn update_part(
     v_to_c: &[f64],
     c_to_v: &mut [f64],
 )
-    requires { ⌜ (start ≤ end) × (end ≤ length (now «check_var»)) × (length (now «v_to_c») ≡ length (now «check_var»)) × (length (now «c_to_v») ≡ length (now «check_var»)) ⌝ }
+    requires { ⌜
+        (start ≤ end)
+        × (end ≤ length (now «check_var»))
+        × (length (now «v_to_c») ≡ length (now «check_var»))
+        × (length (now «c_to_v») ≡ length (now «check_var»)) ⌝ }
     requires { ⌜ Rises (part start end (now «check_var»)) ⌝ }
-    ensures { λ _. ⌜ now («c_to_v» .exit) ≡ spliced (now («c_to_v» .entry)) start end (checkMessages alpha odd (part start end (now («check_var» .entry))) (part start end (now («v_to_c» .entry)))) ⌝ }
+    ensures { λ _. ⌜
+        now («c_to_v» .exit)
+        ≡ spliced (now («c_to_v» .entry)) start end
+        (checkMessages alpha odd (part start end (now («check_var» .entry))) (part start end (now («v_to_c» .entry)))) ⌝ }
 {
     update_check(
         alpha,

@@ -5,9 +5,11 @@ ghost use Prim.Native.Nat.{_<_};
 ghost use lib.ListN.{length};
 ghost use Rattle.numbers.specs.Loops.{every};
 ghost use Rattle.graph_lists.specs.Sound.{Keys};
-ghost use Rattle.graph_messages.specs.Needs.{Walks, walked, ofChecks};
+ghost use Rattle.graph_messages.specs.Needs.{Walks, walked, ofChecks, PerEdge};
 ghost use Rattle.relay_step.specs.Step.{state, iteration};
-ghost use Rattle.relay_step.specs.Leg.{hardBit, hardDecision, parity as parityOf, matches as matchesOf, satisfied as satisfiedBy, leg as legOf, runLeg, cost as costOf, correctionWeight};
+ghost use Rattle.relay_step.specs.Leg.{hardBit, hardDecision, parity as parityOf, matches as matchesOf, satisfied as satisfiedBy};
+ghost use Rattle.relay_step.specs.Leg.{leg as legOf, runLeg, cost as costOf, correctionWeight};
+ghost use Rattle.relay_step.specs.Places.{LegLists};
 use crate::step::step;
 use graph_lists::indices::at;
 use relay_settings::Schedule;
@@ -53,7 +55,9 @@ fn parity(entries: &[u32], bits: &[u8]) -> u8
 fn matches(c: usize, syndrome: &[u8], check_var: &[u32], check_offset: &[u32], bits: &[u8]) -> bool
     requires { ⌜ c < length (now syndrome) ⌝ }
     requires { ⌜ Walks (length (now syndrome)) (length (now bits)) (now «check_var») (now «check_offset») ⌝ }
-    ensures { λ r. ⌜ r ≡ matchesOf (ofChecks (length (now (syndrome .entry))) (now («check_var» .entry)) (now («check_offset» .entry))) (now (bits .entry)) (now (syndrome .entry)) c ⌝ }
+    ensures { λ r. ⌜
+        let g = ofChecks (length (now (syndrome .entry))) (now («check_var» .entry)) (now («check_offset» .entry)) in
+        r ≡ matchesOf g (now (bits .entry)) (now (syndrome .entry)) c ⌝ }
 {
     let start = at(check_offset, c);
     let end = at(check_offset, c + 1);
@@ -63,7 +67,9 @@ fn matches(c: usize, syndrome: &[u8], check_var: &[u32], check_offset: &[u32], b
 // All parities match.
 fn all_match(syndrome: &[u8], check_var: &[u32], check_offset: &[u32], bits: &[u8]) -> bool
     requires { ⌜ Walks (length (now syndrome)) (length (now bits)) (now «check_var») (now «check_offset») ⌝ }
-    ensures { λ r. ⌜ r ≡ every (length (now (syndrome .entry))) (matchesOf (ofChecks (length (now (syndrome .entry))) (now («check_var» .entry)) (now («check_offset» .entry))) (now (bits .entry)) (now (syndrome .entry))) ⌝ }
+    ensures { λ r. ⌜
+        let g = ofChecks (length (now (syndrome .entry))) (now («check_var» .entry)) (now («check_offset» .entry)) in
+        r ≡ every (length (now (syndrome .entry))) (matchesOf g (now (bits .entry)) (now (syndrome .entry))) ⌝ }
 {
     let mut c = 0;
     while c < syndrome.len() {
@@ -85,7 +91,9 @@ fn satisfied(
 ) -> bool
     requires { ⌜ Walks (length (now syndrome)) (length (now posterior)) (now «check_var») (now «check_offset») ⌝ }
     requires { ⌜ length (now bits) ≡ length (now posterior) ⌝ }
-    ensures test { λ r. ⌜ r ≡ satisfiedBy (ofChecks (length (now (syndrome .entry))) (now («check_var» .entry)) (now («check_offset» .entry))) (now (syndrome .entry)) (now (posterior .entry)) ⌝ }
+    ensures test { λ r. ⌜
+        let g = ofChecks (length (now (syndrome .entry))) (now («check_var» .entry)) (now («check_offset» .entry)) in
+        r ≡ satisfiedBy g (now (syndrome .entry)) (now (posterior .entry)) ⌝ }
     ensures bits { λ _. ⌜ now (bits .exit) ≡ hardDecision (now (posterior .entry)) ⌝ }
 {
     hard_decision(posterior, bits);
@@ -141,9 +149,17 @@ pub fn run_leg(
     requires { ⌜ Walks (length (now syndrome)) (length (now priors)) (now «check_var») (now «check_offset») ⌝ }
     requires { ⌜ Walks (length (now priors)) (length (now «check_var»)) (now «var_message») (now «var_offset») ⌝ }
     requires { ⌜ Keys (length (now syndrome)) (now order) ⌝ }
-    requires { ⌜ (length (now gamma) ≡ length (now priors)) × (length (now bias) ≡ length (now priors)) × (length (now posterior) ≡ length (now priors)) × (length (now bits) ≡ length (now priors)) ⌝ }
-    requires { ⌜ (length (now «c_to_v») ≡ length (now «check_var»)) × (length (now «v_to_c») ≡ length (now «check_var»)) ⌝ }
-    ensures leg { λ r. ⌜ legOf (r .converged) (r .iterations) (state (now («c_to_v» .exit)) (now («v_to_c» .exit)) (now (posterior .exit))) ≡ runLeg (iteration schedule (walked (length (now (syndrome .entry))) (length (now (priors .entry))) (now («check_var» .entry)) (now («check_offset» .entry)) (now («var_message» .entry)) (now («var_offset» .entry))) alpha (now (syndrome .entry)) (now (priors .entry)) (now (gamma .entry)) (now (order .entry))) (satisfiedBy (ofChecks (length (now (syndrome .entry))) (now («check_var» .entry)) (now («check_offset» .entry))) (now (syndrome .entry))) limit false 0 (state (now («c_to_v» .entry)) (now («v_to_c» .entry)) (now (posterior .entry))) ⌝ }
+    requires { ⌜ LegLists (length (now priors)) (now gamma) (now bias) (now posterior) (now bits) ⌝ }
+    requires { ⌜ PerEdge (length (now «check_var»)) (now «c_to_v») (now «v_to_c») ⌝ }
+    ensures leg { λ r. ⌜
+        let gChecks = ofChecks (length (now (syndrome .entry))) (now («check_var» .entry)) (now («check_offset» .entry)) in
+        let g = walked (length (now (syndrome .entry))) (length (now (priors .entry))) (now («check_var» .entry))
+        (now («check_offset» .entry)) (now («var_message» .entry)) (now («var_offset» .entry)) in
+        let before = state (now («c_to_v» .entry)) (now («v_to_c» .entry)) (now (posterior .entry)) in
+        let after = state (now («c_to_v» .exit)) (now («v_to_c» .exit)) (now (posterior .exit)) in
+        legOf (r .converged) (r .iterations) after
+        ≡ runLeg (iteration schedule g alpha (now (syndrome .entry)) (now (priors .entry)) (now (gamma .entry)) (now (order .entry)))
+        (satisfiedBy gChecks (now (syndrome .entry))) limit false 0 before ⌝ }
     ensures bits { λ _. ⌜ (0 < limit → now (bits .exit) ≡ hardDecision (now (posterior .exit))) ⌝ }
 {
     let mut k = 0;

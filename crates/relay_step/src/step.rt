@@ -4,8 +4,10 @@ ghost use mathlib.Core.List.{[]};
 ghost use Prim.Native.Nat.{_<_};
 ghost use lib.ListN.{length};
 ghost use Rattle.graph_lists.specs.Sound.{Offsets, Keys};
-ghost use Rattle.graph_messages.specs.Needs.{Walks, walked, ofChecks, ofVariables, RowsRise};
-ghost use Rattle.relay_step.specs.Step.{state, biasOf, computeBias, updateCheck, checkPass, variablePass, serialCheck, serialPass, floodingIteration, checkSerialIteration, iteration};
+ghost use Rattle.graph_messages.specs.Needs.{Walks, walked, ofChecks, ofVariables, RowsRise, PerEdge};
+ghost use Rattle.relay_step.specs.Step.{state, biasOf, computeBias, updateCheck, checkPass, variablePass, serialCheck, serialPass};
+ghost use Rattle.relay_step.specs.Step.{floodingIteration, checkSerialIteration, iteration};
+ghost use Rattle.relay_step.specs.Places.{PerMechanism};
 use crate::check::update_part;
 use crate::variable::update_variable;
 use crate::variable::update_variables;
@@ -21,7 +23,10 @@ fn bias_of(prior: f64, gamma: f64, posterior: f64) -> f64
 
 // `compute_bias`.
 fn compute_bias(priors: &[f64], gamma: &[f64], posterior: &[f64], bias: &mut [f64])
-    requires { ⌜ (length (now gamma) ≡ length (now priors)) × (length (now posterior) ≡ length (now priors)) × (length (now bias) ≡ length (now priors)) ⌝ }
+    requires { ⌜
+        (length (now gamma) ≡ length (now priors))
+        × (length (now posterior) ≡ length (now priors))
+        × (length (now bias) ≡ length (now priors)) ⌝ }
     ensures { λ _. ⌜ now (bias .exit) ≡ computeBias (now (priors .entry)) (now (gamma .entry)) (now (posterior .entry)) ⌝ }
 {
     let mut v = 0;
@@ -44,8 +49,11 @@ fn update_one(
     requires { ⌜ c < length (now syndrome) ⌝ }
     requires { ⌜ Offsets (length (now syndrome)) (length (now «check_var»)) (now «check_offset») ⌝ }
     requires { ⌜ RowsRise (length (now syndrome)) (now «check_var») (now «check_offset») ⌝ }
-    requires { ⌜ (length (now «v_to_c») ≡ length (now «check_var»)) × (length (now «c_to_v») ≡ length (now «check_var»)) ⌝ }
-    ensures { λ _. ⌜ state (now («c_to_v» .exit)) (now («v_to_c» .entry)) [] ≡ updateCheck (ofChecks (length (now (syndrome .entry))) (now («check_var» .entry)) (now («check_offset» .entry))) alpha (now (syndrome .entry)) (state (now («c_to_v» .entry)) (now («v_to_c» .entry)) []) c ⌝ }
+    requires { ⌜ PerEdge (length (now «check_var»)) (now «v_to_c») (now «c_to_v») ⌝ }
+    ensures { λ _. ⌜
+        let g = ofChecks (length (now (syndrome .entry))) (now («check_var» .entry)) (now («check_offset» .entry)) in
+        let before = state (now («c_to_v» .entry)) (now («v_to_c» .entry)) [] in
+        state (now («c_to_v» .exit)) (now («v_to_c» .entry)) [] ≡ updateCheck g alpha (now (syndrome .entry)) before c ⌝ }
 {
     let start = at(check_offset, c);
     let end = at(check_offset, c + 1);
@@ -73,8 +81,11 @@ fn check_pass(
     requires { ⌜ Offsets (length (now syndrome)) (length (now «check_var»)) (now «check_offset») ⌝ }
     requires { ⌜ RowsRise (length (now syndrome)) (now «check_var») (now «check_offset») ⌝ }
     requires { ⌜ Keys (length (now syndrome)) (now order) ⌝ }
-    requires { ⌜ (length (now «v_to_c») ≡ length (now «check_var»)) × (length (now «c_to_v») ≡ length (now «check_var»)) ⌝ }
-    ensures { λ _. ⌜ state (now («c_to_v» .exit)) (now («v_to_c» .entry)) [] ≡ checkPass (ofChecks (length (now (syndrome .entry))) (now («check_var» .entry)) (now («check_offset» .entry))) alpha (now (syndrome .entry)) (now (order .entry)) (state (now («c_to_v» .entry)) (now («v_to_c» .entry)) []) ⌝ }
+    requires { ⌜ PerEdge (length (now «check_var»)) (now «v_to_c») (now «c_to_v») ⌝ }
+    ensures { λ _. ⌜
+        let g = ofChecks (length (now (syndrome .entry))) (now («check_var» .entry)) (now («check_offset» .entry)) in
+        let before = state (now («c_to_v» .entry)) (now («v_to_c» .entry)) [] in
+        state (now («c_to_v» .exit)) (now («v_to_c» .entry)) [] ≡ checkPass g alpha (now (syndrome .entry)) (now (order .entry)) before ⌝ }
 {
     let mut i = 0;
     while i < order.len() {
@@ -96,7 +107,11 @@ fn variable_pass(
     requires { ⌜ length (now posterior) ≡ length (now bias) ⌝ }
     requires { ⌜ Walks (length (now bias)) (length (now «c_to_v»)) (now «var_message») (now «var_offset») ⌝ }
     requires { ⌜ length (now «v_to_c») ≡ length (now «c_to_v») ⌝ }
-    ensures { λ _. ⌜ state (now («c_to_v» .entry)) (now («v_to_c» .exit)) (now (posterior .exit)) ≡ variablePass (ofVariables (length (now (bias .entry))) (now («var_message» .entry)) (now («var_offset» .entry))) (now (bias .entry)) (state (now («c_to_v» .entry)) (now («v_to_c» .entry)) (now (posterior .entry))) (length (now (bias .entry))) ⌝ }
+    ensures { λ _. ⌜
+        let g = ofVariables (length (now (bias .entry))) (now («var_message» .entry)) (now («var_offset» .entry)) in
+        let before = state (now («c_to_v» .entry)) (now («v_to_c» .entry)) (now (posterior .entry)) in
+        state (now («c_to_v» .entry)) (now («v_to_c» .exit)) (now (posterior .exit))
+        ≡ variablePass g (now (bias .entry)) before (length (now (bias .entry))) ⌝ }
 {
     let mut v = 0;
     while v < bias.len() {
@@ -124,9 +139,14 @@ fn flooding_iteration(
     requires { ⌜ Walks (length (now syndrome)) (length (now priors)) (now «check_var») (now «check_offset») ⌝ }
     requires { ⌜ Walks (length (now priors)) (length (now «check_var»)) (now «var_message») (now «var_offset») ⌝ }
     requires { ⌜ Keys (length (now syndrome)) (now order) ⌝ }
-    requires { ⌜ (length (now gamma) ≡ length (now priors)) × (length (now bias) ≡ length (now priors)) × (length (now posterior) ≡ length (now priors)) ⌝ }
-    requires { ⌜ (length (now «c_to_v») ≡ length (now «check_var»)) × (length (now «v_to_c») ≡ length (now «check_var»)) ⌝ }
-    ensures { λ _. ⌜ state (now («c_to_v» .exit)) (now («v_to_c» .exit)) (now (posterior .exit)) ≡ floodingIteration (walked (length (now (syndrome .entry))) (length (now (priors .entry))) (now («check_var» .entry)) (now («check_offset» .entry)) (now («var_message» .entry)) (now («var_offset» .entry))) alpha (now (syndrome .entry)) (now (priors .entry)) (now (gamma .entry)) (now (order .entry)) (state (now («c_to_v» .entry)) (now («v_to_c» .entry)) (now (posterior .entry))) ⌝ }
+    requires { ⌜ PerMechanism (length (now priors)) (now gamma) (now bias) (now posterior) ⌝ }
+    requires { ⌜ PerEdge (length (now «check_var»)) (now «c_to_v») (now «v_to_c») ⌝ }
+    ensures { λ _. ⌜
+        let g = walked (length (now (syndrome .entry))) (length (now (priors .entry))) (now («check_var» .entry))
+        (now («check_offset» .entry)) (now («var_message» .entry)) (now («var_offset» .entry)) in
+        let before = state (now («c_to_v» .entry)) (now («v_to_c» .entry)) (now (posterior .entry)) in
+        state (now («c_to_v» .exit)) (now («v_to_c» .exit)) (now (posterior .exit))
+        ≡ floodingIteration g alpha (now (syndrome .entry)) (now (priors .entry)) (now (gamma .entry)) (now (order .entry)) before ⌝ }
 {
     check_pass(
         alpha,
@@ -159,8 +179,13 @@ fn serial_check(
     requires { ⌜ Walks (length (now syndrome)) (length (now bias)) (now «check_var») (now «check_offset») ⌝ }
     requires { ⌜ Walks (length (now bias)) (length (now «check_var»)) (now «var_message») (now «var_offset») ⌝ }
     requires { ⌜ length (now posterior) ≡ length (now bias) ⌝ }
-    requires { ⌜ (length (now «c_to_v») ≡ length (now «check_var»)) × (length (now «v_to_c») ≡ length (now «check_var»)) ⌝ }
-    ensures { λ _. ⌜ state (now («c_to_v» .exit)) (now («v_to_c» .exit)) (now (posterior .exit)) ≡ serialCheck (walked (length (now (syndrome .entry))) (length (now (bias .entry))) (now («check_var» .entry)) (now («check_offset» .entry)) (now («var_message» .entry)) (now («var_offset» .entry))) alpha (now (syndrome .entry)) (now (bias .entry)) (state (now («c_to_v» .entry)) (now («v_to_c» .entry)) (now (posterior .entry))) c ⌝ }
+    requires { ⌜ PerEdge (length (now «check_var»)) (now «c_to_v») (now «v_to_c») ⌝ }
+    ensures { λ _. ⌜
+        let g = walked (length (now (syndrome .entry))) (length (now (bias .entry))) (now («check_var» .entry))
+        (now («check_offset» .entry)) (now («var_message» .entry)) (now («var_offset» .entry)) in
+        let before = state (now («c_to_v» .entry)) (now («v_to_c» .entry)) (now (posterior .entry)) in
+        state (now («c_to_v» .exit)) (now («v_to_c» .exit)) (now (posterior .exit))
+        ≡ serialCheck g alpha (now (syndrome .entry)) (now (bias .entry)) before c ⌝ }
 {
     let start = at(check_offset, c);
     let end = at(check_offset, c + 1);
@@ -202,8 +227,13 @@ fn serial_pass(
     requires { ⌜ Walks (length (now bias)) (length (now «check_var»)) (now «var_message») (now «var_offset») ⌝ }
     requires { ⌜ Keys (length (now syndrome)) (now order) ⌝ }
     requires { ⌜ length (now posterior) ≡ length (now bias) ⌝ }
-    requires { ⌜ (length (now «c_to_v») ≡ length (now «check_var»)) × (length (now «v_to_c») ≡ length (now «check_var»)) ⌝ }
-    ensures { λ _. ⌜ state (now («c_to_v» .exit)) (now («v_to_c» .exit)) (now (posterior .exit)) ≡ serialPass (walked (length (now (syndrome .entry))) (length (now (bias .entry))) (now («check_var» .entry)) (now («check_offset» .entry)) (now («var_message» .entry)) (now («var_offset» .entry))) alpha (now (syndrome .entry)) (now (bias .entry)) (now (order .entry)) (state (now («c_to_v» .entry)) (now («v_to_c» .entry)) (now (posterior .entry))) ⌝ }
+    requires { ⌜ PerEdge (length (now «check_var»)) (now «c_to_v») (now «v_to_c») ⌝ }
+    ensures { λ _. ⌜
+        let g = walked (length (now (syndrome .entry))) (length (now (bias .entry))) (now («check_var» .entry))
+        (now («check_offset» .entry)) (now («var_message» .entry)) (now («var_offset» .entry)) in
+        let before = state (now («c_to_v» .entry)) (now («v_to_c» .entry)) (now (posterior .entry)) in
+        state (now («c_to_v» .exit)) (now («v_to_c» .exit)) (now (posterior .exit))
+        ≡ serialPass g alpha (now (syndrome .entry)) (now (bias .entry)) (now (order .entry)) before ⌝ }
 {
     let mut i = 0;
     while i < order.len() {
@@ -244,9 +274,14 @@ fn check_serial_iteration(
     requires { ⌜ Walks (length (now syndrome)) (length (now priors)) (now «check_var») (now «check_offset») ⌝ }
     requires { ⌜ Walks (length (now priors)) (length (now «check_var»)) (now «var_message») (now «var_offset») ⌝ }
     requires { ⌜ Keys (length (now syndrome)) (now order) ⌝ }
-    requires { ⌜ (length (now gamma) ≡ length (now priors)) × (length (now bias) ≡ length (now priors)) × (length (now posterior) ≡ length (now priors)) ⌝ }
-    requires { ⌜ (length (now «c_to_v») ≡ length (now «check_var»)) × (length (now «v_to_c») ≡ length (now «check_var»)) ⌝ }
-    ensures { λ _. ⌜ state (now («c_to_v» .exit)) (now («v_to_c» .exit)) (now (posterior .exit)) ≡ checkSerialIteration (walked (length (now (syndrome .entry))) (length (now (priors .entry))) (now («check_var» .entry)) (now («check_offset» .entry)) (now («var_message» .entry)) (now («var_offset» .entry))) alpha (now (syndrome .entry)) (now (priors .entry)) (now (gamma .entry)) (now (order .entry)) (state (now («c_to_v» .entry)) (now («v_to_c» .entry)) (now (posterior .entry))) ⌝ }
+    requires { ⌜ PerMechanism (length (now priors)) (now gamma) (now bias) (now posterior) ⌝ }
+    requires { ⌜ PerEdge (length (now «check_var»)) (now «c_to_v») (now «v_to_c») ⌝ }
+    ensures { λ _. ⌜
+        let g = walked (length (now (syndrome .entry))) (length (now (priors .entry))) (now («check_var» .entry))
+        (now («check_offset» .entry)) (now («var_message» .entry)) (now («var_offset» .entry)) in
+        let before = state (now («c_to_v» .entry)) (now («v_to_c» .entry)) (now (posterior .entry)) in
+        state (now («c_to_v» .exit)) (now («v_to_c» .exit)) (now (posterior .exit))
+        ≡ checkSerialIteration g alpha (now (syndrome .entry)) (now (priors .entry)) (now (gamma .entry)) (now (order .entry)) before ⌝ }
 {
     compute_bias(priors, gamma, posterior, bias);
     serial_pass(
@@ -284,9 +319,14 @@ pub fn step(
     requires { ⌜ Walks (length (now syndrome)) (length (now priors)) (now «check_var») (now «check_offset») ⌝ }
     requires { ⌜ Walks (length (now priors)) (length (now «check_var»)) (now «var_message») (now «var_offset») ⌝ }
     requires { ⌜ Keys (length (now syndrome)) (now order) ⌝ }
-    requires { ⌜ (length (now gamma) ≡ length (now priors)) × (length (now bias) ≡ length (now priors)) × (length (now posterior) ≡ length (now priors)) ⌝ }
-    requires { ⌜ (length (now «c_to_v») ≡ length (now «check_var»)) × (length (now «v_to_c») ≡ length (now «check_var»)) ⌝ }
-    ensures { λ _. ⌜ state (now («c_to_v» .exit)) (now («v_to_c» .exit)) (now (posterior .exit)) ≡ iteration schedule (walked (length (now (syndrome .entry))) (length (now (priors .entry))) (now («check_var» .entry)) (now («check_offset» .entry)) (now («var_message» .entry)) (now («var_offset» .entry))) alpha (now (syndrome .entry)) (now (priors .entry)) (now (gamma .entry)) (now (order .entry)) (state (now («c_to_v» .entry)) (now («v_to_c» .entry)) (now (posterior .entry))) ⌝ }
+    requires { ⌜ PerMechanism (length (now priors)) (now gamma) (now bias) (now posterior) ⌝ }
+    requires { ⌜ PerEdge (length (now «check_var»)) (now «c_to_v») (now «v_to_c») ⌝ }
+    ensures { λ _. ⌜
+        let g = walked (length (now (syndrome .entry))) (length (now (priors .entry))) (now («check_var» .entry))
+        (now («check_offset» .entry)) (now («var_message» .entry)) (now («var_offset» .entry)) in
+        let before = state (now («c_to_v» .entry)) (now («v_to_c» .entry)) (now (posterior .entry)) in
+        state (now («c_to_v» .exit)) (now («v_to_c» .exit)) (now (posterior .exit))
+        ≡ iteration schedule g alpha (now (syndrome .entry)) (now (priors .entry)) (now (gamma .entry)) (now (order .entry)) before ⌝ }
 {
     match schedule {
         Schedule::Flooding => flooding_iteration(

@@ -50,7 +50,10 @@ pub(crate) fn update_variable(
     requires { ⌜ (v < length (now bias)) × (length (now posterior) ≡ length (now bias)) ⌝ }
     requires { ⌜ Walks (length (now bias)) (length (now «c_to_v»)) (now «var_message») (now «var_offset») ⌝ }
     requires { ⌜ length (now «v_to_c») ≡ length (now «c_to_v») ⌝ }
-    ensures { λ _. ⌜ state (now («c_to_v» .entry)) (now («v_to_c» .exit)) (now (posterior .exit)) ≡ updateVariable (ofVariables (length (now (bias .entry))) (now («var_message» .entry)) (now («var_offset» .entry))) (now (bias .entry)) (state (now («c_to_v» .entry)) (now («v_to_c» .entry)) (now (posterior .entry))) v ⌝ }
+    ensures { λ _. ⌜
+        let g = ofVariables (length (now (bias .entry))) (now («var_message» .entry)) (now («var_offset» .entry)) in
+        let before = state (now («c_to_v» .entry)) (now («v_to_c» .entry)) (now (posterior .entry)) in
+        state (now («c_to_v» .entry)) (now («v_to_c» .exit)) (now (posterior .exit)) ≡ updateVariable g (now (bias .entry)) before v ⌝ }
 {
     let start = at(var_offset, v);
     let end = at(var_offset, v + 1);
@@ -72,7 +75,11 @@ pub(crate) fn update_variables(
     requires { ⌜ length (now posterior) ≡ length (now bias) ⌝ }
     requires { ⌜ Walks (length (now bias)) (length (now «c_to_v»)) (now «var_message») (now «var_offset») ⌝ }
     requires { ⌜ length (now «v_to_c») ≡ length (now «c_to_v») ⌝ }
-    ensures { λ _. ⌜ state (now («c_to_v» .entry)) (now («v_to_c» .exit)) (now (posterior .exit)) ≡ foldl (updateVariable (ofVariables (length (now (bias .entry))) (now («var_message» .entry)) (now («var_offset» .entry))) (now (bias .entry))) (state (now («c_to_v» .entry)) (now («v_to_c» .entry)) (now (posterior .entry))) (now (variables .entry)) ⌝ }
+    ensures { λ _. ⌜
+        let g = ofVariables (length (now (bias .entry))) (now («var_message» .entry)) (now («var_offset» .entry)) in
+        let before = state (now («c_to_v» .entry)) (now («v_to_c» .entry)) (now (posterior .entry)) in
+        state (now («c_to_v» .entry)) (now («v_to_c» .exit)) (now (posterior .exit))
+        ≡ foldl (updateVariable g (now (bias .entry))) before (now (variables .entry)) ⌝ }
 {
     let mut i = 0;
     while i < variables.len() {

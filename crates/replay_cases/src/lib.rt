@@ -202,7 +202,8 @@ pub fn same_float(a: f64, b: f64) -> bool {
     both(a == b, is_negative(a) == is_negative(b))
 }
 
-// What a call must have left in a list: the line's words in the first `written` elements, zeros up to `cleared`, and behind them what was lent.
+// What a call must have left in a list: the line's words in the first `written` elements, zeros up to `cleared`, and behind them what was
+// lent.
 pub struct Left {
     pub written: usize,
     pub cleared: usize,

@@ -1,5 +1,5 @@
-// Compares what a decode answered, and what it left in every lent list, with what the line says. The lists of bytes and numbers were lent full of 7, those of floats
-// full of 7.0, so that what was not written shows, in the lists and in what the arrays have behind them.
+// Compares what a decode answered, and what it left in every lent list, with what the line says. The lists of bytes and numbers were lent
+// full of 7, those of floats full of 7.0, so that what was not written shows, in the lists and in what the arrays have behind them.
 use graph::Size;
 use numbers::wrapping_mul;
 use refusals::Answer;
@@ -69,8 +69,8 @@ fn product(a: usize, b: usize) -> usize {
     wrapping_mul(a as u64, b as u64) as usize
 }
 
-// Where the lists begin on the line, and how much of each must be written and cleared: of the leg lists, of the rows, of the other results, and of the work lists of
-// mechanisms and of edges.
+// Where the lists begin on the line, and how much of each must be written and cleared: of the leg lists, of the rows, of the other results,
+// and of the work lists of mechanisms and of edges.
 struct Expected {
     start: Same,
     legs: Left,

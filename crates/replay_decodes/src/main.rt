@@ -1,5 +1,6 @@
-// Replays the oracle's list of decodes: builds each model's graph, decodes the shot and compares the answer and every lent list with the Rust's. It reads the list
-// from standard input, which the file stdin holds. Room: 63 checks and mechanisms, 128 edges, 128 gammas, 64 legs, 512 bytes of rows.
+// Replays the oracle's list of decodes: builds each model's graph, decodes the shot and compares the answer and every lent list with the
+// Rust's. It reads the list from standard input, which the file stdin holds. Room: 63 checks and mechanisms, 128 edges, 128 gammas, 64
+// legs, 512 bytes of rows.
 mod compare;
 
 use compare::same_decode;

@@ -1,5 +1,5 @@
-// Runs the session of `shots` over many streams, one after the other, each with its length before it, and writes what it says of each: the fixed lines in `stdout` are what
-// the published Rust and the stream's rules, written apart, say (`oracle/streams`).
+// Runs the session of `shots` over many streams, one after the other, each with its length before it, and writes what it says of each: the
+// fixed lines in `stdout` are what the published Rust and the stream's rules, written apart, say (`oracle/streams`).
 ghost use Prim.Native.Nat.{_<_};
 use replay_cases::text_room;
 use stream_session::Session;

@@ -1,8 +1,9 @@
-// `shots`: reads a record stream from standard input, in whatever pieces it comes, and writes a line for each shot and one at the end. It decides nothing itself: the session
-// does (`stream_session`). It ends with the input, or with the refusal that ends the run.
+// `shots`: reads a record stream from standard input, in whatever pieces it comes, and writes a line for each shot and one at the end. It
+// decides nothing itself: the session does (`stream_session`). It ends with the input, or with the refusal that ends the run.
 use stream_session::Session;
 
-// Reads to the end of the input, or until a refusal. A proved loop has to end, so it counts its turns down, from a number that no run uses up.
+// Reads to the end of the input, or until a refusal. A proved loop has to end, so it counts its turns down, from a number that no run uses
+// up.
 fn main() {
     // The longest payload within the room: 12 + 12 * 256 + 4 * 512 bytes.
     let mut payload = [0u8; 5132];

@@ -5,7 +5,8 @@ ghost use Prim.Native.Nat.{_+_, _<_, _≤_};
 ghost use lib.ListN.{length};
 ghost use Rattle.numbers.specs.Loops.{over};
 ghost use Rattle.stream_lines.specs.Writing.{Put};
-ghost use Rattle.stream_lines.specs.Lines.{digits, decimal, flag as flagOf, bitDigit, bitsAfter, shotLine, refusedLine, stoppedLine, endLine, unlessTooLong};
+ghost use Rattle.stream_lines.specs.Lines.{digits, decimal, flag as flagOf, bitDigit, bitsAfter, shotLine, refusedLine, stoppedLine};
+ghost use Rattle.stream_lines.specs.Lines.{endLine, unlessTooLong};
 use numbers::limits::ROOM_LINE;
 use numbers::limits::ROOM_MECHANISMS;
 
@@ -75,7 +76,8 @@ fn bit_digit(bit: u8) -> u8
 // Writes the bits of a correction.
 fn put_bits(bits: &[u8], out: &mut [u8], at: usize) -> usize
     requires { ⌜ at + length (now bits) ≤ length (now out) ⌝ }
-    ensures { λ r. ⌜ (r ≡ at + length (now (bits .entry))) × Put (map bitDigit (now (bits .entry))) (now (out .entry)) at (now (out .exit)) r ⌝ }
+    ensures { λ r. ⌜
+        (r ≡ at + length (now (bits .entry))) × Put (map bitDigit (now (bits .entry))) (now (out .entry)) at (now (out .exit)) r ⌝ }
 {
     let mut i = 0;
     while i < bits.len() {
@@ -88,7 +90,8 @@ fn put_bits(bits: &[u8], out: &mut [u8], at: usize) -> usize
 // Writes them after a space; nothing where there are none.
 fn put_after(bits: &[u8], out: &mut [u8], at: usize) -> usize
     requires { ⌜ at + (1 + length (now bits)) ≤ length (now out) ⌝ }
-    ensures { λ r. ⌜ (r ≤ at + (1 + length (now (bits .entry)))) × Put (bitsAfter (now (bits .entry))) (now (out .entry)) at (now (out .exit)) r ⌝ }
+    ensures { λ r. ⌜
+        (r ≤ at + (1 + length (now (bits .entry)))) × Put (bitsAfter (now (bits .entry))) (now (out .entry)) at (now (out .exit)) r ⌝ }
 {
     if bits.len() == 0 {
         return at;
@@ -116,7 +119,10 @@ pub fn shot_line(
     bits: &[u8],
     out: &mut [u8; ROOM_LINE],
 ) -> usize
-    ensures { λ r. ⌜ (r ≡ length (unlessTooLong (now (bits .entry)) (shotLine number converged total legs (now (bits .entry))))) × (now (out .exit) ≡ over (unlessTooLong (now (bits .entry)) (shotLine number converged total legs (now (bits .entry)))) (now (out .entry))) ⌝ }
+    ensures { λ r. ⌜
+        (r ≡ length (unlessTooLong (now (bits .entry)) (shotLine number converged total legs (now (bits .entry)))))
+        × (now (out .exit)
+        ≡ over (unlessTooLong (now (bits .entry)) (shotLine number converged total legs (now (bits .entry)))) (now (out .entry))) ⌝ }
 {
     if ROOM_MECHANISMS < bits.len() {
         return 0;

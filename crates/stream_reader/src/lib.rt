@@ -20,8 +20,8 @@ use relay_settings::Settings;
 use stream_grammar::fields;
 use stream_grammar::rules;
 
-// What the bytes of a record have said so far: the record's offset in the stream, how many of its bytes were taken, its payload length and kind, and of a
-// model its counts and the sum of its degrees.
+// What the bytes of a record have said so far: the record's offset in the stream, how many of its bytes were taken, its payload length and
+// kind, and of a model its counts and the sum of its degrees.
 pub struct Reader {
     pub offset: usize,
     pub taken: usize,
@@ -111,15 +111,17 @@ pub fn read_counts(payload: &[u8]) -> Counts
     }
 }
 
-// The lists of a model's payload, as `graph::build_sparse` takes them: the caller's lists have the lengths that the counts say. Lists beyond the room are
-// left as they were.
+// The lists of a model's payload, as `graph::build_sparse` takes them: the caller's lists have the lengths that the counts say. Lists
+// beyond the room are left as they were.
 pub fn read_model(
     payload: &[u8],
     priors: &mut [f64],
     detector_offsets: &mut [u32],
     detectors: &mut [u32],
 )
-    ensures { λ _. ⌜ modelLists (now (priors .exit)) (now («detector_offsets» .exit)) (now (detectors .exit)) ≡ modelRead (now (payload .entry)) (modelLists (now (priors .entry)) (now («detector_offsets» .entry)) (now (detectors .entry))) ⌝ }
+    ensures { λ _. ⌜
+        modelLists (now (priors .exit)) (now («detector_offsets» .exit)) (now (detectors .exit))
+        ≡ modelRead (now (payload .entry)) (modelLists (now (priors .entry)) (now («detector_offsets» .entry)) (now (detectors .entry))) ⌝ }
 {
     let mechanisms = priors.len();
     let fit = both(

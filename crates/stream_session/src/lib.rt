@@ -14,7 +14,8 @@ use refusals::number_of;
 use relay_settings::Settings;
 use stream_reader::Reader;
 
-// What the stream has said of model and settings: how long the model's payload is, whether there is one, the settings, and whether there are any.
+// What the stream has said of model and settings: how long the model's payload is, whether there is one, the settings, and whether there
+// are any.
 pub struct Known {
     pub model_length: usize,
     pub has_model: bool,
@@ -22,7 +23,8 @@ pub struct Known {
     pub has_settings: bool,
 }
 
-// The reader, what is known, the number of the next shot, whether a refusal has ended the run, and how long the line is that is to be written now.
+// The reader, what is known, the number of the next shot, whether a refusal has ended the run, and how long the line is that is to be
+// written now.
 pub struct Session {
     pub reader: Reader,
     pub known: Known,
@@ -51,8 +53,8 @@ impl Session {
     }
 }
 
-// One byte of the stream. The payload's bytes are kept in one list and the model's in another; what is to be written now is the line's front. A run that has
-// ended says nothing more.
+// One byte of the stream. The payload's bytes are kept in one list and the model's in another; what is to be written now is the line's
+// front. A run that has ended says nothing more.
 pub fn take(
     s: Session,
     byte: u8,
@@ -60,7 +62,9 @@ pub fn take(
     model: &mut [u8],
     line: &mut [u8; ROOM_LINE],
 ) -> Session
-    ensures { λ x. ⌜ left (taken (told x (now (line .exit))) (now (model .exit))) (now (payload .exit)) ≡ byteTaken s byte (now (payload .entry)) (now (model .entry)) (now (line .entry)) ⌝ }
+    ensures { λ x. ⌜
+        left (taken (told x (now (line .exit))) (now (model .exit))) (now (payload .exit))
+        ≡ byteTaken s byte (now (payload .entry)) (now (model .entry)) (now (line .entry)) ⌝ }
 {
     let before = s.reader;
     if s.stopped {

@@ -13,7 +13,8 @@ use refusals::Answer;
 
 // Settings: they replace earlier ones, and the model stays.
 fn take_settings(s: Session, payload: &[u8], line: &mut [u8; ROOM_LINE]) -> Session
-    ensures { λ x. ⌜ told x (now (line .exit)) ≡ settingsTaken s (settingsAnswer (now (payload .entry))) (now (payload .entry)) (now (line .entry)) ⌝ }
+    ensures { λ x. ⌜
+        told x (now (line .exit)) ≡ settingsTaken s (settingsAnswer (now (payload .entry))) (now (payload .entry)) (now (line .entry)) ⌝ }
 {
     let a = stream_table::settings_answer(payload);
     let k = s.known;
@@ -47,7 +48,9 @@ fn keep(payload: &[u8], list: &mut [u8])
 
 // A model: it replaces an earlier one, and the settings stay.
 fn take_model(s: Session, payload: &[u8], model: &mut [u8], line: &mut [u8; ROOM_LINE]) -> Session
-    ensures { λ x. ⌜ taken (told x (now (line .exit))) (now (model .exit)) ≡ modelTaken s (modelFault (now (payload .entry))) (now (payload .entry)) (now (model .entry)) (now (line .entry)) ⌝ }
+    ensures { λ x. ⌜
+        taken (told x (now (line .exit))) (now (model .exit))
+        ≡ modelTaken s (modelFault (now (payload .entry))) (now (payload .entry)) (now (model .entry)) (now (line .entry)) ⌝ }
 {
     let a = stream_table::model_fault(payload);
     let k = s.known;
@@ -77,7 +80,10 @@ fn shot_told(
     correction: &mut [u8],
     line: &mut [u8; ROOM_LINE],
 ) -> Session
-    ensures { λ x. ⌜ told x (now (line .exit)) ≡ tells s (shotDecoded (now (model .entry)) (s .known .settings) (now (payload .entry)) (now (correction .entry))) (now (line .entry)) ⌝ }
+    ensures { λ x. ⌜
+        told x (now (line .exit))
+        ≡ tells s (shotDecoded (now (model .entry)) (s .known .settings) (now (payload .entry)) (now (correction .entry)))
+        (now (line .entry)) ⌝ }
 {
     let k = s.known;
     let settings = k.settings;
@@ -97,7 +103,9 @@ fn take_shot(s: Session, model: &[u8], payload: &[u8], line: &mut [u8; ROOM_LINE
 
 // A record past 41 to 45, by its kind.
 fn take_kind(s: Session, payload: &[u8], model: &mut [u8], line: &mut [u8; ROOM_LINE]) -> Session
-    ensures { λ x. ⌜ taken (told x (now (line .exit))) (now (model .exit)) ≡ kindTaken s (now (payload .entry)) (now (model .entry)) (now (line .entry)) ⌝ }
+    ensures { λ x. ⌜
+        taken (told x (now (line .exit))) (now (model .exit))
+        ≡ kindTaken s (now (payload .entry)) (now (model .entry)) (now (line .entry)) ⌝ }
 {
     if s.reader.kind == 1 {
         return take_model(s, payload, model, line);
@@ -111,7 +119,9 @@ fn take_kind(s: Session, payload: &[u8], model: &mut [u8], line: &mut [u8; ROOM_
 
 // Past 41 to 45 the payload is what was kept of it.
 fn take_accepted(s: Session, kept: &[u8], model: &mut [u8], line: &mut [u8; ROOM_LINE]) -> Session
-    ensures { λ x. ⌜ taken (told x (now (line .exit))) (now (model .exit)) ≡ kindTaken s (take (s .reader .length) (now (kept .entry))) (now (model .entry)) (now (line .entry)) ⌝ }
+    ensures { λ x. ⌜
+        taken (told x (now (line .exit))) (now (model .exit))
+        ≡ kindTaken s (take (s .reader .length) (now (kept .entry))) (now (model .entry)) (now (line .entry)) ⌝ }
 {
     let n = stream_table::front(kept, s.reader.length);
     take_kind(s, &kept[..n], model, line)
@@ -124,7 +134,9 @@ pub(crate) fn take_record(
     model: &mut [u8],
     line: &mut [u8; ROOM_LINE],
 ) -> Session
-    ensures { λ x. ⌜ taken (told x (now (line .exit))) (now (model .exit)) ≡ recordTaken s (now (kept .entry)) (now (model .entry)) (now (line .entry)) ⌝ }
+    ensures { λ x. ⌜
+        taken (told x (now (line .exit))) (now (model .exit))
+        ≡ recordTaken s (now (kept .entry)) (now (model .entry)) (now (line .entry)) ⌝ }
 {
     let reader = s.reader;
     let a = stream_reader::verdict(reader, kept, s.known.has_model, s.known.has_settings);

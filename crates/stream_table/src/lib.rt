@@ -7,7 +7,9 @@ ghost use lib.ListN.{length, take, drop};
 ghost use Rattle.numbers.specs.Limits.{roomChecks, roomMechanisms, roomEdges};
 ghost use Rattle.graph_lists.specs.Graph.{graph};
 ghost use Rattle.stream_grammar.specs.Fields.{modelLists};
-ghost use Rattle.stream_table.specs.Table.{builtFrom, modelFault, settingsAnswer, decodedFrom, decoding, found, shotDecoded, modelRoom, graphRoom, shotRoom, within as withinOf};
+ghost use Rattle.stream_table.specs.Table.{builtFrom, modelFault, settingsAnswer, decodedFrom, decoding, found, shotDecoded};
+ghost use Rattle.stream_table.specs.Table.{modelRoom, graphRoom, shotRoom, within as withinOf};
+ghost use Rattle.relay_calls.specs.Calls.{decodeLists};
 use graph::Size;
 use numbers::limits::ROOM_ALL_LEGS;
 use numbers::limits::ROOM_CHECK_OFFSETS;
@@ -23,7 +25,10 @@ use stream_reader::Counts;
 
 // n, or the length of a list that is shorter.
 pub fn front(list: &[u8], n: usize) -> usize
-    ensures { λ r. ⌜ (r ≤ length (now (list .entry))) × (take r (now (list .entry)) ≡ take n (now (list .entry))) × (drop r (now (list .entry)) ≡ drop n (now (list .entry))) ⌝ }
+    ensures { λ r. ⌜
+        (r ≤ length (now (list .entry)))
+        × (take r (now (list .entry)) ≡ take n (now (list .entry)))
+        × (drop r (now (list .entry)) ≡ drop n (now (list .entry))) ⌝ }
 {
     if n <= list.len() {
         return n;
@@ -52,7 +57,12 @@ fn built(
     var_message: &mut [u32],
     var_offset: &mut [u32],
 ) -> Answer
-    ensures { λ a. ⌜ a ≡ builtFrom (size .edges) (now (payload .entry)) (modelLists (now (priors .entry)) (now («detector_offsets» .entry)) (now (detectors .entry))) (graph (size .checks) (size .mechanisms) (now («check_var» .entry)) (now («check_message» .entry)) (now («check_offset» .entry)) (now («var_check» .entry)) (now («var_message» .entry)) (now («var_offset» .entry))) .answer ⌝ }
+    ensures { λ a. ⌜
+        let g = graph (size .checks) (size .mechanisms) (now («check_var» .entry)) (now («check_message» .entry))
+        (now («check_offset» .entry)) (now («var_check» .entry)) (now («var_message» .entry)) (now («var_offset» .entry)) in
+        a
+        ≡ builtFrom (size .edges) (now (payload .entry))
+        (modelLists (now (priors .entry)) (now («detector_offsets» .entry)) (now (detectors .entry))) g .answer ⌝ }
 {
     stream_reader::read_model(payload, priors, detector_offsets, detectors);
     graph::build_sparse(
@@ -152,7 +162,15 @@ fn decoded(
     c_to_v: &mut [f64],
     v_to_c: &mut [f64],
 ) -> Decoded
-    ensures { λ d. ⌜ decoding d (now (correction .exit)) ≡ found (decodedFrom (size .edges) (now (model .entry)) settings (now (syndrome .entry)) seed (modelLists (now (priors .entry)) (now («detector_offsets» .entry)) (now (detectors .entry))) (graph (size .checks) (size .mechanisms) (now («check_var» .entry)) (now («check_message» .entry)) (now («check_offset» .entry)) (now («var_check» .entry)) (now («var_message» .entry)) (now («var_offset» .entry))) (record { legState = now («leg_state» .entry); legIterations = now («leg_iterations» .entry); legWeight = now («leg_weight» .entry); rows = now (rows .entry); correction = now (correction .entry); posterior = now (posterior .entry); gamma = now (gamma .entry); bias = now (bias .entry); cToV = now («c_to_v» .entry); vToC = now («v_to_c» .entry) })) ⌝ }
+    ensures { λ d. ⌜
+        let g = graph (size .checks) (size .mechanisms) (now («check_var» .entry)) (now («check_message» .entry))
+        (now («check_offset» .entry)) (now («var_check» .entry)) (now («var_message» .entry)) (now («var_offset» .entry)) in
+        let before = decodeLists (now («leg_state» .entry)) (now («leg_iterations» .entry)) (now («leg_weight» .entry)) (now (rows .entry))
+        (now (correction .entry)) (now (posterior .entry)) (now (gamma .entry)) (now (bias .entry)) (now («c_to_v» .entry))
+        (now («v_to_c» .entry)) in
+        decoding d (now (correction .exit))
+        ≡ found (decodedFrom (size .edges) (now (model .entry)) settings (now (syndrome .entry)) seed
+        (modelLists (now (priors .entry)) (now («detector_offsets» .entry)) (now (detectors .entry))) g before) ⌝ }
 {
     stream_reader::read_model(model, priors, detector_offsets, detectors);
     graph::build_sparse(
@@ -204,7 +222,10 @@ fn decoded_within(
     correction: &mut [u8],
 ) -> Decoded
     requires { ⌜ (c .checks ≤ roomChecks) × (c .mechanisms ≤ roomMechanisms) × (c .edges ≤ roomEdges) ⌝ }
-    ensures { λ d. ⌜ decoding d (now (correction .exit)) ≡ found (decodedFrom (c .edges) (now (model .entry)) settings (now (syndrome .entry)) seed (modelRoom c) (graphRoom c) (shotRoom c (now (correction .entry)))) ⌝ }
+    ensures { λ d. ⌜
+        decoding d (now (correction .exit))
+        ≡ found (decodedFrom (c .edges) (now (model .entry)) settings (now (syndrome .entry)) seed (modelRoom c) (graphRoom c)
+        (shotRoom c (now (correction .entry)))) ⌝ }
 {
     let checks = c.checks;
     let mechanisms = c.mechanisms;
@@ -267,7 +288,8 @@ pub fn decode_shot(
     payload: &[u8],
     correction: &mut [u8],
 ) -> Decoded
-    ensures { λ d. ⌜ decoding d (now (correction .exit)) ≡ shotDecoded (now (model .entry)) settings (now (payload .entry)) (now (correction .entry)) ⌝ }
+    ensures { λ d. ⌜
+        decoding d (now (correction .exit)) ≡ shotDecoded (now (model .entry)) settings (now (payload .entry)) (now (correction .entry)) ⌝ }
 {
     let c = stream_reader::read_counts(model);
     if within(c) {

@@ -23,7 +23,9 @@ fn heard(
     model: &mut [u8],
     line: &mut [u8; ROOM_LINE],
 ) -> Session
-    ensures { λ x. ⌜ left (taken (told x (now (line .exit))) (now (model .exit))) (now (payload .exit)) ≡ byteTaken s byte (now (payload .entry)) (now (model .entry)) (now (line .entry)) ⌝ }
+    ensures { λ x. ⌜
+        left (taken (told x (now (line .exit))) (now (model .exit))) (now (payload .exit))
+        ≡ byteTaken s byte (now (payload .entry)) (now (model .entry)) (now (line .entry)) ⌝ }
 {
     let next = stream_session::take(s, byte, payload, model, line);
     say(line, next.said);
@@ -38,7 +40,9 @@ pub fn piece(
     model: &mut [u8],
     line: &mut [u8; ROOM_LINE],
 ) -> Session
-    ensures { λ x. ⌜ left (taken (told x (now (line .exit))) (now (model .exit))) (now (payload .exit)) ≡ pieceTaken (now (bytes .entry)) (left (taken (told before (now (line .entry))) (now (model .entry))) (now (payload .entry))) ⌝ }
+    ensures { λ x. ⌜
+        left (taken (told x (now (line .exit))) (now (model .exit))) (now (payload .exit))
+        ≡ pieceTaken (now (bytes .entry)) (left (taken (told before (now (line .entry))) (now (model .entry))) (now (payload .entry))) ⌝ }
 {
     let mut s = before;
     let mut i = 0;
