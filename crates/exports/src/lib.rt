@@ -15,7 +15,8 @@ ghost use Rattle.graph_lists.specs.Model.{buildSparse, countEdges, buildDense, 
 ghost use Rattle.min_sum.specs.Beliefs.{beliefsLists, beliefs as beliefsOf};
 ghost use Rattle.relay_settings.specs.Settings.{published, alphaGood, settingsFault};
 ghost use Rattle.relay_step.specs.Step.{state};
-ghost use Rattle.relay_calls.specs.Calls.{stepLists, iterationCall, decode as decodeOf, decodeInOrder, legRecord, valuesOf};
+ghost use Rattle.relay_calls.specs.Records.{legRecord, valuesOf};
+ghost use Rattle.relay_calls.specs.Calls.{stepLists, iterationCall, decode as decodeOf, decodeInOrder};
 ghost use Rattle.stream_grammar.specs.Stream.{seed as seedOf, isOfShot};
 ghost use Rattle.stream_reader.specs.Reading.{fresh, isWhole, held, pushed, verdict as verdictOf, atEnd};
 ghost use Rattle.stream_grammar.specs.Fields.{countsRead, modelLists, modelRead, settingsRead};

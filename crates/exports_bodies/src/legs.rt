@@ -1,7 +1,7 @@
 // The reading of a leg's record. Its state passes as the answer: 2 converged, 1 ran out, 0 not executed; iterations and weight go into lists of one.
 ghost use mathlib.Core.Path.{_≡_};
 ghost use mathlib.Core.List.{[], _∷_};
-ghost use Rattle.relay_calls.specs.Calls.{legRecord, valuesOf};
+ghost use Rattle.relay_calls.specs.Records.{legRecord, valuesOf};
 use exports_values::told::tell_record;
 
 // `relay::leg_record`.

@@ -6,7 +6,7 @@ ghost use lib.Dec.{eqb};
 ghost use Rattle.numbers.specs.Floats.{zero⁺};
 ghost use Rattle.refusals.specs.Refusal.{numberOf};
 ghost use Rattle.refusals.specs.declared.Answer.the-variants.{Refused};
-ghost use Rattle.relay_calls.specs.Calls.{valuesOf};
+ghost use Rattle.relay_calls.specs.Records.{valuesOf};
 ghost use Rattle.exports_values.specs.Codes.{codeOf, decodedCode, decodedCounts, decodedWeight, byteOf, floatsIn, countsIn};
 use crate::answers::code;
 use refusals::Answer;

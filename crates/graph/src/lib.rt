@@ -33,12 +33,12 @@ pub fn build_sparse(
     var_message: &mut [u32],
     var_offset: &mut [u32],
 ) -> Answer
-    ensures { λ r. ⌜
+    ensures { λ r.
         let g = graph (size .checks) (size .mechanisms) (now («check_var» .entry)) (now («check_message» .entry))
         (now («check_offset» .entry)) (now («var_check» .entry)) (now («var_message» .entry)) (now («var_offset» .entry)) in
         let built = graph (size .checks) (size .mechanisms) (now («check_var» .exit)) (now («check_message» .exit))
         (now («check_offset» .exit)) (now («var_check» .exit)) (now («var_message» .exit)) (now («var_offset» .exit)) in
-        buildOutcome r built
+        ⌜ buildOutcome r built
         ≡ buildSparse (size .edges) (now (priors .entry)) (now («detector_offsets» .entry)) (now (detectors .entry)) g ⌝ }
 {
     let fit = lists_fit(
@@ -97,12 +97,12 @@ pub fn build_dense(
     var_message: &mut [u32],
     var_offset: &mut [u32],
 ) -> Answer
-    ensures { λ r. ⌜
+    ensures { λ r.
         let g = graph checks mechanisms (now («check_var» .entry)) (now («check_message» .entry)) (now («check_offset» .entry))
         (now («var_check» .entry)) (now («var_message» .entry)) (now («var_offset» .entry)) in
         let built = graph checks mechanisms (now («check_var» .exit)) (now («check_message» .exit)) (now («check_offset» .exit))
         (now («var_check» .exit)) (now («var_message» .exit)) (now («var_offset» .exit)) in
-        buildOutcome r built ≡ buildDense (now (priors .entry)) (now (matrix .entry)) g ⌝ }
+        ⌜ buildOutcome r built ≡ buildDense (now (priors .entry)) (now (matrix .entry)) g ⌝ }
 {
     let size = Size {
         checks: checks,
@@ -147,10 +147,10 @@ pub fn check_graph(
     var_message: &[u32],
     var_offset: &[u32],
 ) -> Answer
-    ensures { λ r. ⌜
+    ensures { λ r.
         let g = graph (size .checks) (size .mechanisms) (now («check_var» .entry)) (now («check_message» .entry))
         (now («check_offset» .entry)) (now («var_check» .entry)) (now («var_message» .entry)) (now («var_offset» .entry)) in
-        r ≡ graphFault (size .edges) (now (priors .entry)) g ⌝ }
+        ⌜ r ≡ graphFault (size .edges) (now (priors .entry)) g ⌝ }
 {
     if !sizes_good(size) {
         return Answer::Refused(Refusal::SizeAboveLimit);

@@ -89,9 +89,9 @@ fn next_least(message: f64, magnitude: f64, min1: f64, min2: f64) -> f64
 // The scan, one message further, with its total sign: strict comparison keeps the first minimum.
 pub fn lowered(s: Scan, sign: f64, own: usize, message: f64) -> Scan
     requires { ⌜ Ordered (s .min1) (s .min2) ⌝ }
-    ensures scan { λ r. ⌜
+    ensures scan { λ r.
         let before = scanOf (s .«total_sign») (s .min1) (s .min2) (s .least) in
-        scanOf (r .«total_sign») (r .min1) (r .min2) (r .least) ≡ loweredOf before sign own message ⌝ }
+        ⌜ scanOf (r .«total_sign») (r .min1) (r .min2) (r .least) ≡ loweredOf before sign own message ⌝ }
     ensures ordered { λ r. ⌜ Ordered (r .min1) (r .min2) ⌝ }
 {
     let magnitude = numbers::magnitude(message);

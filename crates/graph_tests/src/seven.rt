@@ -149,10 +149,10 @@ fn vars_good(
     requires { ⌜ Offsets checks (length (now «check_var»)) (now «check_offset») ⌝ }
     requires { ⌜ Offsets mechanisms (length (now «var_check»)) (now «var_offset») ⌝ }
     requires { ⌜ length (now «var_message») ≡ length (now «var_check») ⌝ }
-    ensures { λ r. ⌜
+    ensures { λ r.
         let g = graph checks mechanisms (now («check_var» .entry)) (now («check_message» .entry)) (now («check_offset» .entry))
         (now («var_check» .entry)) (now («var_message» .entry)) (now («var_offset» .entry)) in
-        r ≡ every mechanisms (varGood g) ⌝ }
+        ⌜ r ≡ every mechanisms (varGood g) ⌝ }
 {
     let mut v = 0;
     while v < mechanisms {
@@ -185,14 +185,14 @@ pub fn is_graph(
     var_message: &[u32],
     var_offset: &[u32],
 ) -> bool
-    requires { ⌜
-        let g = graph checks mechanisms (now «check_var») (now «check_message») (now «check_offset») (now «var_check») (now «var_message»)
+    requires { let g = graph checks mechanisms (now «check_var») (now «check_message») (now «check_offset»)
+        (now «var_check») (now «var_message»)
         (now «var_offset») in
-        Long edges g ⌝ }
-    ensures { λ r. ⌜
+        ⌜ Long edges g ⌝ }
+    ensures { λ r.
         let g = graph checks mechanisms (now («check_var» .entry)) (now («check_message» .entry)) (now («check_offset» .entry))
         (now («var_check» .entry)) (now («var_message» .entry)) (now («var_offset» .entry)) in
-        r ≡ isGraph g ⌝ }
+        ⌜ r ≡ isGraph g ⌝ }
 {
     if !offsets_good(checks, edges, check_offset) {
         return false;

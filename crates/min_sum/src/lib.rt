@@ -28,12 +28,13 @@ pub fn beliefs(
     c_to_v: &mut [f64],
     v_to_c: &mut [f64],
 ) -> Answer
-    ensures { λ r. ⌜
+    ensures { λ r.
         let g = graph (size .checks) (size .mechanisms) (now («check_var» .entry)) (now («check_message» .entry))
         (now («check_offset» .entry)) (now («var_check» .entry)) (now («var_message» .entry)) (now («var_offset» .entry)) in
         let before = beliefsLists (now (posterior .entry)) (now («ewa_posterior» .entry)) (now («c_to_v» .entry)) (now («v_to_c» .entry)) in
         let after = beliefsLists (now (posterior .exit)) (now («ewa_posterior» .exit)) (now («c_to_v» .exit)) (now («v_to_c» .exit)) in
-        beliefsOutcome r after ≡ beliefsOf (size .edges) (now (priors .entry)) g (now (syndrome .entry)) iterations scale serial before ⌝ }
+        ⌜ beliefsOutcome r after
+        ≡ beliefsOf (size .edges) (now (priors .entry)) g (now (syndrome .entry)) iterations scale serial before ⌝ }
 {
     let n = tests::Lengths {
         syndrome: syndrome.len(),

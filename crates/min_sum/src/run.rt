@@ -39,12 +39,13 @@ fn iterate_parallel(
     requires { ⌜ Walks (length (now syndrome)) (length (now priors)) (now «check_var») (now «check_offset») ⌝ }
     requires { ⌜ Walks (length (now priors)) (length (now «check_var»)) (now «var_message») (now «var_offset») ⌝ }
     requires { ⌜ RunLists (length (now «check_var»)) (length (now priors)) (now «c_to_v») (now «v_to_c») (now «ewa_posterior») ⌝ }
-    ensures { λ _. ⌜
+    ensures { λ _.
         let g = walked (length (now (syndrome .entry))) (length (now (priors .entry))) (now («check_var» .entry))
         (now («check_offset» .entry)) (now («var_message» .entry)) (now («var_offset» .entry)) in
         let before = belief (messages (now («c_to_v» .entry)) (now («v_to_c» .entry))) (now («ewa_posterior» .entry)) in
         let after = messages (now («c_to_v» .exit)) (now («v_to_c» .exit)) in
-        belief after (now («ewa_posterior» .exit)) ≡ iterated g false scale (now (syndrome .entry)) (now (priors .entry)) weight before ⌝ }
+        ⌜ belief after (now («ewa_posterior» .exit))
+        ≡ iterated g false scale (now (syndrome .entry)) (now (priors .entry)) weight before ⌝ }
 {
     min_sum_pass::pass::parallel_checks(scale, syndrome, check_var, check_offset, v_to_c, c_to_v);
     min_sum_pass::pass::update_and_average(
@@ -75,12 +76,12 @@ fn iterate_serial(
     requires { ⌜ Walks (length (now syndrome)) (length (now priors)) (now «check_var») (now «check_offset») ⌝ }
     requires { ⌜ Walks (length (now priors)) (length (now «check_var»)) (now «var_message») (now «var_offset») ⌝ }
     requires { ⌜ RunLists (length (now «check_var»)) (length (now priors)) (now «c_to_v») (now «v_to_c») (now «ewa_posterior») ⌝ }
-    ensures { λ _. ⌜
+    ensures { λ _.
         let g = walked (length (now (syndrome .entry))) (length (now (priors .entry))) (now («check_var» .entry))
         (now («check_offset» .entry)) (now («var_message» .entry)) (now («var_offset» .entry)) in
         let before = belief (messages (now («c_to_v» .entry)) (now («v_to_c» .entry))) (now («ewa_posterior» .entry)) in
         let after = messages (now («c_to_v» .exit)) (now («v_to_c» .exit)) in
-        belief after (now («ewa_posterior» .exit)) ≡ iterated g true scale (now (syndrome .entry)) (now (priors .entry)) weight before ⌝ }
+        ⌜ belief after (now («ewa_posterior» .exit)) ≡ iterated g true scale (now (syndrome .entry)) (now (priors .entry)) weight before ⌝ }
 {
     min_sum_pass::pass::serial_checks(
         scale,
@@ -121,12 +122,13 @@ fn iterate(
     requires { ⌜ Walks (length (now syndrome)) (length (now priors)) (now «check_var») (now «check_offset») ⌝ }
     requires { ⌜ Walks (length (now priors)) (length (now «check_var»)) (now «var_message») (now «var_offset») ⌝ }
     requires { ⌜ RunLists (length (now «check_var»)) (length (now priors)) (now «c_to_v») (now «v_to_c») (now «ewa_posterior») ⌝ }
-    ensures { λ _. ⌜
+    ensures { λ _.
         let g = walked (length (now (syndrome .entry))) (length (now (priors .entry))) (now («check_var» .entry))
         (now («check_offset» .entry)) (now («var_message» .entry)) (now («var_offset» .entry)) in
         let before = belief (messages (now («c_to_v» .entry)) (now («v_to_c» .entry))) (now («ewa_posterior» .entry)) in
         let after = messages (now («c_to_v» .exit)) (now («v_to_c» .exit)) in
-        belief after (now («ewa_posterior» .exit)) ≡ iterated g serial scale (now (syndrome .entry)) (now (priors .entry)) weight before ⌝ }
+        ⌜ belief after (now («ewa_posterior» .exit))
+        ≡ iterated g serial scale (now (syndrome .entry)) (now (priors .entry)) weight before ⌝ }
 {
     if serial {
         iterate_serial(
@@ -178,12 +180,12 @@ fn outer_round(
     requires { ⌜ Walks (length (now syndrome)) (length (now priors)) (now «check_var») (now «check_offset») ⌝ }
     requires { ⌜ Walks (length (now priors)) (length (now «check_var»)) (now «var_message») (now «var_offset») ⌝ }
     requires { ⌜ RunLists (length (now «check_var»)) (length (now priors)) (now «c_to_v») (now «v_to_c») (now «ewa_posterior») ⌝ }
-    ensures { λ _. ⌜
+    ensures { λ _.
         let g = walked (length (now (syndrome .entry))) (length (now (priors .entry))) (now («check_var» .entry))
         (now («check_offset» .entry)) (now («var_message» .entry)) (now («var_offset» .entry)) in
         let before = belief (messages (now («c_to_v» .entry)) (now («v_to_c» .entry))) (now («ewa_posterior» .entry)) in
         let after = messages (now («c_to_v» .exit)) (now («v_to_c» .exit)) in
-        belief after (now («ewa_posterior» .exit))
+        ⌜ belief after (now («ewa_posterior» .exit))
         ≡ outerRoundOf g serial scale (now (syndrome .entry)) (now (priors .entry)) inner outer before ⌝ }
 {
     graph_messages::clear(c_to_v);
@@ -226,12 +228,12 @@ fn two_outer_rounds(
     requires { ⌜ Walks (length (now syndrome)) (length (now priors)) (now «check_var») (now «check_offset») ⌝ }
     requires { ⌜ Walks (length (now priors)) (length (now «check_var»)) (now «var_message») (now «var_offset») ⌝ }
     requires { ⌜ RunLists (length (now «check_var»)) (length (now priors)) (now «c_to_v») (now «v_to_c») (now «ewa_posterior») ⌝ }
-    ensures { λ _. ⌜
+    ensures { λ _.
         let g = walked (length (now (syndrome .entry))) (length (now (priors .entry))) (now («check_var» .entry))
         (now («check_offset» .entry)) (now («var_message» .entry)) (now («var_offset» .entry)) in
         let before = belief (messages (now («c_to_v» .entry)) (now («v_to_c» .entry))) (now («ewa_posterior» .entry)) in
         let after = messages (now («c_to_v» .exit)) (now («v_to_c» .exit)) in
-        belief after (now («ewa_posterior» .exit))
+        ⌜ belief after (now («ewa_posterior» .exit))
         ≡ outerRoundOf g serial scale (now (syndrome .entry)) (now (priors .entry)) inner 1
         (outerRoundOf g serial scale (now (syndrome .entry)) (now (priors .entry)) inner 0 before) ⌝ }
 {
@@ -285,11 +287,11 @@ fn all_rounds(
     requires { ⌜ Walks (length (now syndrome)) (length (now priors)) (now «check_var») (now «check_offset») ⌝ }
     requires { ⌜ Walks (length (now priors)) (length (now «check_var»)) (now «var_message») (now «var_offset») ⌝ }
     requires { ⌜ RunLists (length (now «check_var»)) (length (now priors)) (now «c_to_v») (now «v_to_c») (now «ewa_posterior») ⌝ }
-    ensures { λ _. ⌜
+    ensures { λ _.
         let g = walked (length (now (syndrome .entry))) (length (now (priors .entry))) (now («check_var» .entry))
         (now («check_offset» .entry)) (now («var_message» .entry)) (now («var_offset» .entry)) in
         let after = messages (now («c_to_v» .exit)) (now («v_to_c» .exit)) in
-        belief after (now («ewa_posterior» .exit)) ≡ allRoundsOf g serial scale (now (syndrome .entry)) (now (priors .entry)) n ⌝ }
+        ⌜ belief after (now («ewa_posterior» .exit)) ≡ allRoundsOf g serial scale (now (syndrome .entry)) (now (priors .entry)) n ⌝ }
 {
     graph_messages::copy(priors, ewa_posterior);
     if n < 6 {
@@ -350,10 +352,10 @@ fn choose(
 )
     requires { ⌜ Walks (length (now priors)) (length (now «c_to_v»)) (now «var_message») (now «var_offset») ⌝ }
     requires { ⌜ (length (now «ewa_posterior») ≡ length (now priors)) × (length (now posterior) ≡ length (now priors)) ⌝ }
-    ensures { λ _. ⌜
+    ensures { λ _.
         let g = ofVariables (length (now (priors .entry))) (now («var_message» .entry)) (now («var_offset» .entry)) in
         let before = belief (messages (now («c_to_v» .entry)) []) (now («ewa_posterior» .entry)) in
-        now (posterior .exit) ≡ chosenTo g (now (priors .entry)) before (length (now (priors .entry))) ⌝ }
+        ⌜ now (posterior .exit) ≡ chosenTo g (now (priors .entry)) before (length (now (priors .entry))) ⌝ }
 {
     let mut v = 0;
     while v < priors.len() {
@@ -383,10 +385,10 @@ pub(crate) fn min_sum_bp(
     requires { ⌜ Walks (length (now priors)) (length (now «check_var»)) (now «var_message») (now «var_offset») ⌝ }
     requires { ⌜ RunLists (length (now «check_var»)) (length (now priors)) (now «c_to_v») (now «v_to_c») (now «ewa_posterior») ⌝ }
     requires { ⌜ length (now posterior) ≡ length (now priors) ⌝ }
-    ensures { λ _. ⌜
+    ensures { λ _.
         let g = walked (length (now (syndrome .entry))) (length (now (priors .entry))) (now («check_var» .entry))
         (now («check_offset» .entry)) (now («var_message» .entry)) (now («var_offset» .entry)) in
-        now (posterior .exit) ≡ minSumBp g serial scale (now (syndrome .entry)) (now (priors .entry)) n ⌝ }
+        ⌜ now (posterior .exit) ≡ minSumBp g serial scale (now (syndrome .entry)) (now (priors .entry)) n ⌝ }
 {
     all_rounds(
         n,
@@ -432,11 +434,11 @@ pub(crate) fn ran(
     requires { ⌜ Walks (length (now priors)) (length (now «check_var»)) (now «var_message») (now «var_offset») ⌝ }
     requires { ⌜ RunLists (length (now «check_var»)) (length (now priors)) (now «c_to_v») (now «v_to_c») (now «ewa_posterior») ⌝ }
     requires { ⌜ length (now posterior) ≡ length (now priors) ⌝ }
-    ensures { λ r. ⌜
+    ensures { λ r.
         let g = walked (length (now (syndrome .entry))) (length (now (priors .entry))) (now («check_var» .entry))
         (now («check_offset» .entry)) (now («var_message» .entry)) (now («var_offset» .entry)) in
         let after = beliefsLists (now (posterior .exit)) (now («ewa_posterior» .exit)) (now («c_to_v» .exit)) (now («v_to_c» .exit)) in
-        beliefsOutcome r after
+        ⌜ beliefsOutcome r after
         ≡ ranOf (length (now («check_var» .entry))) g (minSumBp g serial scale (now (syndrome .entry)) (now (priors .entry)) n) ⌝ }
 {
     min_sum_bp(

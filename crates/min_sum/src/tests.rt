@@ -73,10 +73,10 @@ pub(crate) fn fault(
     iterations: usize,
     n: Lengths,
 ) -> Answer
-    ensures { λ r. ⌜
+    ensures { λ r.
         let g = graph (size .checks) (size .mechanisms) (now («check_var» .entry)) (now («check_message» .entry))
         (now («check_offset» .entry)) (now («var_check» .entry)) (now («var_message» .entry)) (now («var_offset» .entry)) in
-        r
+        ⌜ r
         ≡ orElse (graphFault (size .edges) (now (priors .entry)) g) (orElse (unless (leb iterations maxCount) BadIterations) (orElse
         (unless (eqb (n .syndrome) (size .checks)) SyndromeLength) (unless (eqb (n .posterior) (size .mechanisms)
         && (eqb (n .«ewa_posterior») (size .mechanisms)

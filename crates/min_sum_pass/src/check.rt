@@ -24,9 +24,9 @@ fn flipped(sign: f64, message: f64) -> f64
 // The message at a position.
 fn scanned(s: Scan, position: usize, message: f64) -> Scan
     requires { ⌜ Ordered (s .min1) (s .min2) ⌝ }
-    ensures scan { λ r. ⌜
+    ensures scan { λ r.
         let before = scanOf (s .«total_sign») (s .min1) (s .min2) (s .least) in
-        scanOf (r .«total_sign») (r .min1) (r .min2) (r .least) ≡ scannedOf before position message ⌝ }
+        ⌜ scanOf (r .«total_sign») (r .min1) (r .min2) (r .least) ≡ scannedOf before position message ⌝ }
     ensures ordered { λ r. ⌜ Ordered (r .min1) (r .min2) ⌝ }
 {
     lowered(s, flipped(s.total_sign, message), position, message)

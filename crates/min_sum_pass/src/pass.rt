@@ -29,10 +29,10 @@ fn parallel_check(
     requires { ⌜ c < length (now syndrome) ⌝ }
     requires { ⌜ Offsets (length (now syndrome)) (length (now «check_var»)) (now «check_offset») ⌝ }
     requires { ⌜ PerEdge (length (now «check_var»)) (now «v_to_c») (now «c_to_v») ⌝ }
-    ensures { λ _. ⌜
+    ensures { λ _.
         let g = ofChecks (length (now (syndrome .entry))) (now («check_var» .entry)) (now («check_offset» .entry)) in
         let before = messages (now («c_to_v» .entry)) (now («v_to_c» .entry)) in
-        messages (now («c_to_v» .exit)) (now («v_to_c» .entry)) ≡ parallelCheck g scale (now (syndrome .entry)) before c ⌝ }
+        ⌜ messages (now («c_to_v» .exit)) (now («v_to_c» .entry)) ≡ parallelCheck g scale (now (syndrome .entry)) before c ⌝ }
 {
     let start = graph_lists::indices::at(check_offset, c);
     let end = graph_lists::indices::at(check_offset, c + 1);
@@ -53,10 +53,10 @@ pub fn parallel_checks(
 )
     requires { ⌜ Offsets (length (now syndrome)) (length (now «check_var»)) (now «check_offset») ⌝ }
     requires { ⌜ PerEdge (length (now «check_var»)) (now «v_to_c») (now «c_to_v») ⌝ }
-    ensures { λ _. ⌜
+    ensures { λ _.
         let g = ofChecks (length (now (syndrome .entry))) (now («check_var» .entry)) (now («check_offset» .entry)) in
         let before = messages (now («c_to_v» .entry)) (now («v_to_c» .entry)) in
-        messages (now («c_to_v» .exit)) (now («v_to_c» .entry))
+        ⌜ messages (now («c_to_v» .exit)) (now («v_to_c» .entry))
         ≡ checksTo g scale (now (syndrome .entry)) before (length (now (syndrome .entry))) ⌝ }
 {
     let mut c = 0;
@@ -85,14 +85,14 @@ pub fn update_and_average(
 )
     requires { ⌜ Walks (length (now priors)) (length (now «c_to_v»)) (now «var_message») (now «var_offset») ⌝ }
     requires { ⌜ (length (now «v_to_c») ≡ length (now «c_to_v»)) × (length (now «ewa_posterior») ≡ length (now priors)) ⌝ }
-    ensures messages { λ _. ⌜
+    ensures messages { λ _.
         let g = ofVariables (length (now (priors .entry))) (now («var_message» .entry)) (now («var_offset» .entry)) in
         let before = messages (now («c_to_v» .entry)) (now («v_to_c» .entry)) in
-        messages (now («c_to_v» .entry)) (now («v_to_c» .exit))
+        ⌜ messages (now («c_to_v» .entry)) (now («v_to_c» .exit))
         ≡ variablesTo g (now (priors .entry)) before (length (now (priors .entry))) ⌝ }
-    ensures average { λ _. ⌜
+    ensures average { λ _.
         let g = ofVariables (length (now (priors .entry))) (now («var_message» .entry)) (now («var_offset» .entry)) in
-        now («ewa_posterior» .exit)
+        ⌜ now («ewa_posterior» .exit)
         ≡ averaged g (now (priors .entry)) weight (messages (now («c_to_v» .entry)) []) (now («ewa_posterior» .entry)) ⌝ }
 {
     let mut v = 0;
@@ -121,9 +121,9 @@ pub fn average(
 )
     requires { ⌜ Walks (length (now priors)) (length (now «c_to_v»)) (now «var_message») (now «var_offset») ⌝ }
     requires { ⌜ length (now «ewa_posterior») ≡ length (now priors) ⌝ }
-    ensures { λ _. ⌜
+    ensures { λ _.
         let g = ofVariables (length (now (priors .entry))) (now («var_message» .entry)) (now («var_offset» .entry)) in
-        now («ewa_posterior» .exit)
+        ⌜ now («ewa_posterior» .exit)
         ≡ averaged g (now (priors .entry)) weight (messages (now («c_to_v» .entry)) []) (now («ewa_posterior» .entry)) ⌝ }
 {
     let mut v = 0;
@@ -151,11 +151,11 @@ fn serial_check(
     requires { ⌜ Walks (length (now syndrome)) (length (now priors)) (now «check_var») (now «check_offset») ⌝ }
     requires { ⌜ Walks (length (now priors)) (length (now «check_var»)) (now «var_message») (now «var_offset») ⌝ }
     requires { ⌜ PerEdge (length (now «check_var»)) (now «c_to_v») (now «v_to_c») ⌝ }
-    ensures { λ _. ⌜
+    ensures { λ _.
         let g = walked (length (now (syndrome .entry))) (length (now (priors .entry))) (now («check_var» .entry))
         (now («check_offset» .entry)) (now («var_message» .entry)) (now («var_offset» .entry)) in
         let before = messages (now («c_to_v» .entry)) (now («v_to_c» .entry)) in
-        messages (now («c_to_v» .exit)) (now («v_to_c» .exit))
+        ⌜ messages (now («c_to_v» .exit)) (now («v_to_c» .exit))
         ≡ serialCheck g scale (now (syndrome .entry)) (now (priors .entry)) before c ⌝ }
 {
     let start = graph_lists::indices::at(check_offset, c);
@@ -189,11 +189,11 @@ pub fn serial_checks(
     requires { ⌜ Walks (length (now syndrome)) (length (now priors)) (now «check_var») (now «check_offset») ⌝ }
     requires { ⌜ Walks (length (now priors)) (length (now «check_var»)) (now «var_message») (now «var_offset») ⌝ }
     requires { ⌜ PerEdge (length (now «check_var»)) (now «c_to_v») (now «v_to_c») ⌝ }
-    ensures { λ _. ⌜
+    ensures { λ _.
         let g = walked (length (now (syndrome .entry))) (length (now (priors .entry))) (now («check_var» .entry))
         (now («check_offset» .entry)) (now («var_message» .entry)) (now («var_offset» .entry)) in
         let before = messages (now («c_to_v» .entry)) (now («v_to_c» .entry)) in
-        messages (now («c_to_v» .exit)) (now («v_to_c» .exit))
+        ⌜ messages (now («c_to_v» .exit)) (now («v_to_c» .exit))
         ≡ serialTo g scale (now (syndrome .entry)) (now (priors .entry)) before (length (now (syndrome .entry))) ⌝ }
 {
     let mut c = 0;

@@ -53,9 +53,9 @@ pub fn raw_posterior(
 ) -> f64
     requires { ⌜ v < length (now priors) ⌝ }
     requires { ⌜ Walks (length (now priors)) (length (now «c_to_v»)) (now «var_message») (now «var_offset») ⌝ }
-    ensures { λ r. ⌜
+    ensures { λ r.
         let g = ofVariables (length (now (priors .entry))) (now («var_message» .entry)) (now («var_offset» .entry)) in
-        r ≡ rawPosterior g (now (priors .entry)) (messages (now («c_to_v» .entry)) []) v ⌝ }
+        ⌜ r ≡ rawPosterior g (now (priors .entry)) (messages (now («c_to_v» .entry)) []) v ⌝ }
 {
     let start = graph_lists::indices::at(var_offset, v);
     let end = graph_lists::indices::at(var_offset, v + 1);
@@ -74,13 +74,13 @@ pub(crate) fn update_variable(
     requires { ⌜ v < length (now priors) ⌝ }
     requires { ⌜ Walks (length (now priors)) (length (now «c_to_v»)) (now «var_message») (now «var_offset») ⌝ }
     requires { ⌜ length (now «v_to_c») ≡ length (now «c_to_v») ⌝ }
-    ensures sum { λ r. ⌜
+    ensures sum { λ r.
         let g = ofVariables (length (now (priors .entry))) (now («var_message» .entry)) (now («var_offset» .entry)) in
-        r ≡ rawPosterior g (now (priors .entry)) (messages (now («c_to_v» .entry)) []) v ⌝ }
-    ensures messages { λ _. ⌜
+        ⌜ r ≡ rawPosterior g (now (priors .entry)) (messages (now («c_to_v» .entry)) []) v ⌝ }
+    ensures messages { λ _.
         let g = ofVariables (length (now (priors .entry))) (now («var_message» .entry)) (now («var_offset» .entry)) in
         let before = messages (now («c_to_v» .entry)) (now («v_to_c» .entry)) in
-        messages (now («c_to_v» .entry)) (now («v_to_c» .exit)) ≡ updateVariable g (now (priors .entry)) before v ⌝ }
+        ⌜ messages (now («c_to_v» .entry)) (now («v_to_c» .exit)) ≡ updateVariable g (now (priors .entry)) before v ⌝ }
 {
     let start = graph_lists::indices::at(var_offset, v);
     let end = graph_lists::indices::at(var_offset, v + 1);
@@ -99,10 +99,10 @@ pub(crate) fn update_variables(
     requires { ⌜ Keys (length (now priors)) (now variables) ⌝ }
     requires { ⌜ Walks (length (now priors)) (length (now «c_to_v»)) (now «var_message») (now «var_offset») ⌝ }
     requires { ⌜ length (now «v_to_c») ≡ length (now «c_to_v») ⌝ }
-    ensures { λ _. ⌜
+    ensures { λ _.
         let g = ofVariables (length (now (priors .entry))) (now («var_message» .entry)) (now («var_offset» .entry)) in
         let before = messages (now («c_to_v» .entry)) (now («v_to_c» .entry)) in
-        messages (now («c_to_v» .entry)) (now («v_to_c» .exit))
+        ⌜ messages (now («c_to_v» .entry)) (now («v_to_c» .exit))
         ≡ foldl (updateVariable g (now (priors .entry))) before (now (variables .entry)) ⌝ }
 {
     let mut i = 0;

@@ -20,7 +20,8 @@ use Rattle.relay_step.specs.Step.{State, iteration}
 use Rattle.relay_step.specs.Leg.{startLeg, runLeg, satisfied}
 use Rattle.relay_gammas.specs.Gammas.{gammaOf}
 use Rattle.relay_calls.specs.Decode.{Shot, iterationLimit, stepOf, executedLeg}
-use Rattle.relay_calls.specs.Calls.{StepLists, StepOutcome, stepOutcome, stepFault, stepped, iterationCall, legRecord, DecodeLists, DecodeOutcome, decodeOutcome, decodeInOrder, decode}
+use Rattle.relay_calls.specs.Records.{legRecord}
+use Rattle.relay_calls.specs.Calls.{StepLists, StepOutcome, stepOutcome, stepFault, stepped, iterationCall, DecodeLists, DecodeOutcome, decodeOutcome, decodeInOrder, decode}
 use Rattle.relay_orders.proofs.OrderWords.{exchanged-is}
 use Rattle.relay.proofs.AnyOrder.{order-free, flooding-takes, serial-takes}
 

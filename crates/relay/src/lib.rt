@@ -4,7 +4,8 @@ ghost use mathlib.Core.Path.{_≡_};
 ghost use mathlib.Core.List.{[]};
 ghost use Rattle.graph_lists.specs.Graph.{graph};
 ghost use Rattle.relay_step.specs.Step.{state};
-ghost use Rattle.relay_calls.specs.Calls.{stepLists, stepOutcome, iterationCall, legRecord, decodeOutcome, decodeInOrder};
+ghost use Rattle.relay_calls.specs.Records.{legRecord};
+ghost use Rattle.relay_calls.specs.Calls.{stepLists, stepOutcome, iterationCall, decodeOutcome, decodeInOrder};
 ghost use Rattle.relay_calls.specs.Calls.{decode as decodeOf, decodeLists};
 ghost use Rattle.relay_calls.specs.Decode.{shot};
 use graph_lists::indices::at;
@@ -65,12 +66,12 @@ pub fn iteration(
     posterior: &mut [f64],
     bias: &mut [f64],
 ) -> Answer
-    ensures { λ r. ⌜
+    ensures { λ r.
         let g = graph (size .checks) (size .mechanisms) (now («check_var» .entry)) (now («check_message» .entry))
         (now («check_offset» .entry)) (now («var_check» .entry)) (now («var_message» .entry)) (now («var_offset» .entry)) in
         let before = stepLists (state (now («c_to_v» .entry)) (now («v_to_c» .entry)) (now (posterior .entry))) (now (bias .entry)) in
         let after = stepLists (state (now («c_to_v» .exit)) (now («v_to_c» .exit)) (now (posterior .exit))) (now (bias .exit)) in
-        stepOutcome r after
+        ⌜ stepOutcome r after
         ≡ iterationCall (size .edges) (now (priors .entry)) g schedule alpha (now (gamma .entry)) (now (syndrome .entry))
         (now (order .entry)) before ⌝ }
 {
@@ -141,7 +142,7 @@ pub fn decode_in_order(
     c_to_v: &mut [f64],
     v_to_c: &mut [f64],
 ) -> Decoded
-    ensures { λ r. ⌜
+    ensures { λ r.
         let g = graph (size .checks) (size .mechanisms) (now («check_var» .entry)) (now («check_message» .entry))
         (now («check_offset» .entry)) (now («var_check» .entry)) (now («var_message» .entry)) (now («var_offset» .entry)) in
         let x = shot g (now (priors .entry)) settings (now (gammas .entry)) (now (order .entry)) (now (syndrome .entry)) seed in
@@ -151,7 +152,7 @@ pub fn decode_in_order(
         let after = decodeLists (now («leg_state» .exit)) (now («leg_iterations» .exit)) (now («leg_weight» .exit)) (now (rows .exit))
         (now (correction .exit)) (now (posterior .exit)) (now (gamma .exit)) (now (bias .exit)) (now («c_to_v» .exit))
         (now («v_to_c» .exit)) in
-        decodeOutcome r after ≡ decodeInOrder (size .edges) x before ⌝ }
+        ⌜ decodeOutcome r after ≡ decodeInOrder (size .edges) x before ⌝ }
 {
     let a = relay_decode::decode_tests::decode_fault(
         size,
@@ -229,7 +230,7 @@ pub fn decode(
     c_to_v: &mut [f64],
     v_to_c: &mut [f64],
 ) -> Decoded
-    ensures { λ r. ⌜
+    ensures { λ r.
         let g = graph (size .checks) (size .mechanisms) (now («check_var» .entry)) (now («check_message» .entry))
         (now («check_offset» .entry)) (now («var_check» .entry)) (now («var_message» .entry)) (now («var_offset» .entry)) in
         let x = shot g (now (priors .entry)) settings (now (gammas .entry)) [] (now (syndrome .entry)) seed in
@@ -239,7 +240,7 @@ pub fn decode(
         let after = decodeLists (now («leg_state» .exit)) (now («leg_iterations» .exit)) (now («leg_weight» .exit)) (now (rows .exit))
         (now (correction .exit)) (now (posterior .exit)) (now (gamma .exit)) (now (bias .exit)) (now («c_to_v» .exit))
         (now («v_to_c» .exit)) in
-        decodeOutcome r after ≡ decodeOf (size .edges) x before ⌝ }
+        ⌜ decodeOutcome r after ≡ decodeOf (size .edges) x before ⌝ }
 {
     let a = relay_decode::decode_tests::shot_fault(
         size,

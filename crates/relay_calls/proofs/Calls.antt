@@ -30,7 +30,8 @@ use Rattle.relay_calls.specs.declared.LegRecord.{LegRecord}
 use Rattle.relay_calls.specs.declared.LegRecord.the-variants as LegRecord
 use Rattle.relay_step.specs.Step.{State, state, updateCheck, updateVariable, checkPass, variablePass, floodingIteration, serialCheck, serialPass, checkSerialIteration, iteration}
 use Rattle.relay_calls.specs.Decode.{Shot, Run, Progress, running, finished, afterLeg, legsFrom}
-use Rattle.relay_calls.specs.Calls.{byteFault, syndromeFault, StepLists, stepLists, StepOutcome, stepOutcome, stepFits, finiteAt, stepFault, messageFinite, mechanismFinite, finiteFault, stepEnd, stepped, afterStepTests, iterationCall, recordOf, legRecord}
+use Rattle.relay_calls.specs.Records.{recordOf, legRecord}
+use Rattle.relay_calls.specs.Calls.{byteFault, syndromeFault, StepLists, stepLists, StepOutcome, stepOutcome, stepFits, finiteAt, stepFault, messageFinite, mechanismFinite, finiteFault, stepEnd, stepped, afterStepTests, iterationCall}
 use Rattle.relay_calls.proofs.Named.{names-entries}
 
 -- ---- what the tests tell

@@ -1,10 +1,10 @@
 -- The public calls of `relay`: `iteration`, `decode_in_order`, `decode` and `leg_record`. For each its tests in the reference's order, its answer, and what it
 -- leaves in every lent list. Definitions only. Assumes nothing.
-use Prim.Native.Nat.{ℕ, zero, suc, _*_}
-use mathlib.Core.Bool.{Bool, true, false, _&&_, cond}
+use Prim.Native.Nat.{ℕ, suc, _*_}
+use mathlib.Core.Bool.{Bool, true, false, _&&_}
 use mathlib.Core.List.{List}
 use mathlib.Core.Option.{Option, none, some}
-use lib.Dec.{eqb, leb, ltb}
+use lib.Dec.{eqb, leb}
 use lib.Ieee.{Float, nan}
 use lib.ListN.{length, getD, replicate}
 use Rattle.numbers.specs.Floats.{zero⁺, isFinite}
@@ -18,8 +18,6 @@ use Rattle.graph_lists.specs.Model.{graphFault}
 use Rattle.relay_settings.specs.declared.Schedule.{Schedule}
 use Rattle.relay_calls.specs.declared.Decoded.{Decoded}
 use Rattle.relay_calls.specs.declared.Decoded.the-variants as Decoded
-use Rattle.relay_calls.specs.declared.LegRecord.{LegRecord}
-use Rattle.relay_calls.specs.declared.LegRecord.the-variants as LegRecord
 use Rattle.relay_settings.specs.Settings.{alphaGood, settingsFault}
 use Rattle.relay_step.specs.Step.{State, state, iteration}
 use Rattle.relay_orders.specs.Order.{namesFault, exchangeFault}
@@ -254,34 +252,3 @@ abbrev pub summaryOf : Decoded → Summary
 summaryOf (Decoded.Converged n t w) = summary Done true n t (some w)
 summaryOf (Decoded.NotConverged n t) = summary Done false n t none
 summaryOf (Decoded.Refused r) = summary (Refused r) false 0 0 none
-
--- ---- a leg's record
-
--- the values that stand for a record in the leg lists
-pub record LegValues : Type 0 where
-  pub legState : ℕ
-  pub legIterations : ℕ
-  pub legWeight : Float
-
-abbrev pub legValues : ℕ → ℕ → Float → LegValues
-legValues s i w = record { legState = s; legIterations = i; legWeight = w }
-
--- the reference's values of each record
-abbrev pub valuesOf : LegRecord → LegValues
-valuesOf (LegRecord.Converged weight iterations) = legValues 2 iterations weight
-valuesOf (LegRecord.RanOut iterations) = legValues 1 iterations zero⁺
-valuesOf LegRecord.NotExecuted = legValues 0 0 zero⁺
-
--- what a leg's state, iterations and weight say: 2 is converged, 1 ran out, and anything else was not executed
-abbrev pub recordOf : ℕ → ℕ → Float → LegRecord
-recordOf zero iterations weight = LegRecord.NotExecuted
-recordOf (suc zero) iterations weight = LegRecord.RanOut iterations
-recordOf (suc (suc zero)) iterations weight = LegRecord.Converged weight iterations
-recordOf (suc (suc (suc n))) iterations weight = LegRecord.NotExecuted
-
--- `leg_record`: the leg r out of the leg lists; outside one of them it was not executed
-unfoldable pub legRecord : List ℕ → List ℕ → List Float → ℕ → LegRecord
-legRecord legState legIterations legWeight r =
-    cond (ltb r (length legState) && (ltb r (length legIterations) && ltb r (length legWeight)))
-    (recordOf (getD legState r 0) (getD legIterations r 0) (getD legWeight r nan))
-    LegRecord.NotExecuted

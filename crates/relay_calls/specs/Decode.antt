@@ -6,7 +6,6 @@ use mathlib.Core.Option.{Option, none, some}
 use lib.Dec.{leb}
 use lib.Ieee.{Float, lt}
 use lib.ListN.{set, replicate}
-use Rattle.numbers.specs.Floats.{zero⁺}
 use Rattle.numbers.specs.Loops.{spliced}
 use Rattle.refusals.specs.declared.Refusal.{Refusal}
 use Rattle.refusals.specs.declared.Answer.{Answer}
@@ -17,6 +16,8 @@ use Rattle.relay_settings.specs.declared.Settings.{Settings}
 use Rattle.relay_step.specs.Step.{State, iteration}
 use Rattle.relay_step.specs.Leg.{Leg, startLeg, runLeg, satisfied, hardDecision, correctionWeight}
 use Rattle.relay_gammas.specs.Gammas.{gammaOf}
+use Rattle.relay_calls.specs.declared.LegRecord.the-variants as LegRecord
+use Rattle.relay_calls.specs.Records.{valuesOf, recordOfLeg}
 
 -- what one decode is of: a model, its settings with the flat list of gammas, an order of the checks, a syndrome and a seed
 pub record Shot : Type 0 where
@@ -55,7 +56,7 @@ executedLeg x r posterior =
 -- ---- between legs
 
 -- the posterior, the last hard decision, how many legs have converged, the best of them, the iterations and legs so far, and the records of all legs: for leg r
--- its state (2 converged, 1 ran out, 0 not executed), its iterations, its weight, and its correction as a row of the flat list `rows`
+-- the values of its record (`Records`: `valuesOf`), and its correction as a row of the flat list `rows`
 pub record Run : Type 0 where
   pub posterior : List Float
   pub hardBits : List ℕ
@@ -69,11 +70,12 @@ pub record Run : Type 0 where
   pub legWeight : List Float
   pub rows : List ℕ
 
--- before the first leg: the posterior is the priors, and num_legs + 1 records are empty
+-- before the first leg: the posterior is the priors, and num_legs + 1 records say that the leg was not executed
 unfoldable pub startRun : Shot → Run
 startRun x =
     let legs = suc (x .settings .«num_legs») in
     let mechanisms = x .graph .mechanisms in
+    let values = valuesOf LegRecord.NotExecuted in
     record {
       posterior = x .prior;
       hardBits = replicate mechanisms 0;
@@ -82,9 +84,9 @@ startRun x =
       bestCorrection = replicate mechanisms 0;
       totalIterations = 0;
       executedLegs = 0;
-      legState = replicate legs 0;
-      legIterations = replicate legs 0;
-      legWeight = replicate legs zero⁺;
+      legState = replicate legs (values .legState);
+      legIterations = replicate legs (values .legIterations);
+      legWeight = replicate legs (values .legWeight);
       rows = replicate (legs * mechanisms) 0;
     }
 
@@ -100,6 +102,7 @@ recorded x run r l =
     let bits = hardDecision (l .left .posterior) in
     let weight = correctionWeight (x .prior) bits mechanisms in
     let better = l .converged && isNoneOr (run .bestWeight) weight in
+    let values = valuesOf (recordOfLeg (l .converged) weight (l .iterations)) in
     record {
       posterior = l .left .posterior;
       hardBits = bits;
@@ -108,9 +111,9 @@ recorded x run r l =
       bestCorrection = cond better bits (run .bestCorrection);
       totalIterations = run .totalIterations + l .iterations;
       executedLegs = suc r;
-      legState = set (run .legState) r (cond (l .converged) 2 1);
-      legIterations = set (run .legIterations) r (l .iterations);
-      legWeight = set (run .legWeight) r (cond (l .converged) weight zero⁺);
+      legState = set (run .legState) r (values .legState);
+      legIterations = set (run .legIterations) r (values .legIterations);
+      legWeight = set (run .legWeight) r (values .legWeight);
       rows = cond (l .converged) (spliced (run .rows) (r * mechanisms) (r * mechanisms + mechanisms) bits) (run .rows);
     }
 

@@ -26,9 +26,9 @@ use relay_step::step::step;
 fn messages_finite(entries: &[u32], c_to_v: &[f64], v_to_c: &[f64]) -> bool
     requires { ⌜ Keys (length (now «c_to_v»)) (now entries) ⌝ }
     requires { ⌜ length (now «v_to_c») ≡ length (now «c_to_v») ⌝ }
-    ensures { λ r. ⌜
+    ensures { λ r.
         let before = state (now («c_to_v» .entry)) (now («v_to_c» .entry)) [] in
-        r ≡ every (length (now (entries .entry))) (messageFinite before (now (entries .entry))) ⌝ }
+        ⌜ r ≡ every (length (now (entries .entry))) (messageFinite before (now (entries .entry))) ⌝ }
 {
     let mut i = 0;
     while i < entries.len() {
@@ -53,10 +53,10 @@ fn mechanism_finite(
     requires { ⌜ v < length (now posterior) ⌝ }
     requires { ⌜ Walks (length (now posterior)) (length (now «c_to_v»)) (now «var_message») (now «var_offset») ⌝ }
     requires { ⌜ length (now «v_to_c») ≡ length (now «c_to_v») ⌝ }
-    ensures { λ r. ⌜
+    ensures { λ r.
         let g = ofVariables (length (now (posterior .entry))) (now («var_message» .entry)) (now («var_offset» .entry)) in
         let before = state (now («c_to_v» .entry)) (now («v_to_c» .entry)) (now (posterior .entry)) in
-        r ≡ mechanismFinite g before v ⌝ }
+        ⌜ r ≡ mechanismFinite g before v ⌝ }
 {
     let start = at(var_offset, v);
     let end = at(var_offset, v + 1);
@@ -74,10 +74,10 @@ fn step_end(
 ) -> Answer
     requires { ⌜ Walks (length (now posterior)) (length (now «c_to_v»)) (now «var_message») (now «var_offset») ⌝ }
     requires { ⌜ length (now «v_to_c») ≡ length (now «c_to_v») ⌝ }
-    ensures { λ r. ⌜
+    ensures { λ r.
         let g = ofVariables (length (now (posterior .entry))) (now («var_message» .entry)) (now («var_offset» .entry)) in
         let before = state (now («c_to_v» .entry)) (now («v_to_c» .entry)) (now (posterior .entry)) in
-        r ≡ stepEnd g before ⌝ }
+        ⌜ r ≡ stepEnd g before ⌝ }
 {
     let mut v = 0;
     while v < posterior.len() {
@@ -99,15 +99,15 @@ fn ended(
 ) -> Answer
     requires { ⌜ Walks (length (now posterior)) (length (now «c_to_v»)) (now «var_message») (now «var_offset») ⌝ }
     requires { ⌜ length (now «v_to_c») ≡ length (now «c_to_v») ⌝ }
-    ensures end { λ r. ⌜
+    ensures end { λ r.
         let g = ofVariables (length (now (posterior .entry))) (now («var_message» .entry)) (now («var_offset» .entry)) in
         let before = state (now («c_to_v» .entry)) (now («v_to_c» .entry)) (now (posterior .entry)) in
-        r ≡ stepEnd g before ⌝ }
-    ensures left { λ r. ⌜
+        ⌜ r ≡ stepEnd g before ⌝ }
+    ensures left { λ r.
         let before = state (now («c_to_v» .entry)) (now («v_to_c» .entry)) (now (posterior .entry)) in
         let before′ = state (replicate (length (now («c_to_v» .entry))) zero⁺) (replicate (length (now («v_to_c» .entry))) zero⁺)
         (replicate (length (now (posterior .entry))) zero⁺) in
-        state (now («c_to_v» .exit)) (now («v_to_c» .exit)) (now (posterior .exit)) ≡ unlessRefused r before before′ ⌝ }
+        ⌜ state (now («c_to_v» .exit)) (now («v_to_c» .exit)) (now (posterior .exit)) ≡ unlessRefused r before before′ ⌝ }
 {
     let a = step_end(var_message, var_offset, c_to_v, v_to_c, posterior);
     if is_done(a) {
@@ -141,12 +141,12 @@ pub fn stepped(
     requires { ⌜ Keys (length (now syndrome)) (now order) ⌝ }
     requires { ⌜ PerMechanism (length (now priors)) (now gamma) (now bias) (now posterior) ⌝ }
     requires { ⌜ PerEdge (length (now «check_var»)) (now «c_to_v») (now «v_to_c») ⌝ }
-    ensures { λ r. ⌜
+    ensures { λ r.
         let g = walked (length (now (syndrome .entry))) (length (now (priors .entry))) (now («check_var» .entry))
         (now («check_offset» .entry)) (now («var_message» .entry)) (now («var_offset» .entry)) in
         let before = state (now («c_to_v» .entry)) (now («v_to_c» .entry)) (now (posterior .entry)) in
         let after = stepLists (state (now («c_to_v» .exit)) (now («v_to_c» .exit)) (now (posterior .exit))) (now (bias .exit)) in
-        stepOutcome r after
+        ⌜ stepOutcome r after
         ≡ steppedOf (length (now («check_var» .entry))) g
         (iteration schedule g alpha (now (syndrome .entry)) (now (priors .entry)) (now (gamma .entry)) (now (order .entry)) before) ⌝ }
 {

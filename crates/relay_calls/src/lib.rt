@@ -4,7 +4,7 @@ pub mod iterate;
 pub mod tests;
 
 ghost use mathlib.Core.Path.{_≡_};
-ghost use Rattle.relay_calls.specs.Calls.{recordOf};
+ghost use Rattle.relay_calls.specs.Records.{recordOf};
 use refusals::Refusal;
 
 // What a decode answers. The corrections, the posterior and the legs' records are in the lent lists.

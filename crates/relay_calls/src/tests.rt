@@ -65,9 +65,9 @@ fn lists_fit(
     posterior: &[f64],
     bias: &[f64],
 ) -> bool
-    ensures { λ r. ⌜
+    ensures { λ r.
         let before = stepLists (state (now («c_to_v» .entry)) (now («v_to_c» .entry)) (now (posterior .entry))) (now (bias .entry)) in
-        r ≡ stepFits edges (ofVariables mechanisms [] []) (now (gamma .entry)) before ⌝ }
+        ⌜ r ≡ stepFits edges (ofVariables mechanisms [] []) (now (gamma .entry)) before ⌝ }
 {
     let variables = both(
         same_number(posterior.len(), mechanisms),
@@ -96,9 +96,9 @@ fn all_finite(xs: &[f64]) -> bool
 
 // 25: the messages, the posterior and the gammas are finite.
 fn state_finite(gamma: &[f64], c_to_v: &[f64], v_to_c: &[f64], posterior: &[f64]) -> bool
-    ensures { λ r. ⌜
+    ensures { λ r.
         let before = state (now («c_to_v» .entry)) (now («v_to_c» .entry)) (now (posterior .entry)) in
-        r ≡ stateFinite (now (gamma .entry)) before ⌝ }
+        ⌜ r ≡ stateFinite (now (gamma .entry)) before ⌝ }
 {
     both(
         all_finite(c_to_v),
@@ -122,9 +122,9 @@ fn step_fault(
     bias: &[f64],
 ) -> Answer
     requires { ⌜ size .checks ≤ maxChecks ⌝ }
-    ensures { λ r. ⌜
+    ensures { λ r.
         let before = stepLists (state (now («c_to_v» .entry)) (now («v_to_c» .entry)) (now (posterior .entry))) (now (bias .entry)) in
-        r
+        ⌜ r
         ≡ orElse (unlessOf (alphaGood alpha) BadAlpha) (orElse (syndromeFault (size .checks) (now (syndrome .entry))) (orElse
         (unlessOf (stepFits (size .edges) (ofVariables (size .mechanisms) [] []) (now (gamma .entry)) before) LentListLength)
         (orElse (namesFault (size .checks) (now (order .entry))) (unlessOf (stateFinite (now (gamma .entry))
@@ -171,11 +171,11 @@ pub fn fault(
     posterior: &[f64],
     bias: &[f64],
 ) -> Answer
-    ensures { λ r. ⌜
+    ensures { λ r.
         let g = graph (size .checks) (size .mechanisms) (now («check_var» .entry)) (now («check_message» .entry))
         (now («check_offset» .entry)) (now («var_check» .entry)) (now («var_message» .entry)) (now («var_offset» .entry)) in
         let before = stepLists (state (now («c_to_v» .entry)) (now («v_to_c» .entry)) (now (posterior .entry))) (now (bias .entry)) in
-        r
+        ⌜ r
         ≡ stepFault (size .edges) (now (priors .entry)) g alpha (now (gamma .entry)) (now (syndrome .entry)) (now (order .entry)) before ⌝ }
 {
     let a = graph::check_graph(

@@ -50,21 +50,20 @@ fn run_legs(
         LegsLong (suc (t .«num_legs»)) (length (now priors)) (now «leg_state») (now «leg_iterations») (now «leg_weight») (now rows) ⌝ }
     requires { ⌜ PerShot (length (now priors)) (now correction) (now posterior) (now gamma) (now bias) ⌝ }
     requires { ⌜ PerEdge (length (now «check_var»)) (now «c_to_v») (now «v_to_c») ⌝ }
-    requires { ⌜
-        let x = shotOf t (now (gammas)) seed (now (syndrome)) (now (priors)) (now («check_var»)) (now («check_offset»))
+    requires { let x = shotOf t (now (gammas)) seed (now (syndrome)) (now (priors)) (now («check_var»)) (now («check_offset»))
         (now («var_message»)) (now («var_offset»)) (now (order)) in
-        results (now («leg_state»)) (now («leg_iterations»)) (now («leg_weight»)) (now (rows)) (now (correction)) (now (posterior))
+        ⌜ results (now («leg_state»)) (now («leg_iterations»)) (now («leg_weight»)) (now (rows)) (now (correction)) (now (posterior))
         ≡ started x ⌝ }
-    ensures answer { λ r. ⌜
+    ensures answer { λ r.
         let x = shotOf t (now (gammas .entry)) seed (now (syndrome .entry)) (now (priors .entry)) (now («check_var» .entry))
         (now («check_offset» .entry)) (now («var_message» .entry)) (now («var_offset» .entry)) (now (order .entry)) in
         let end = decodeLegs x in
-        r ≡ answerOf end ⌝ }
-    ensures left { λ r. ⌜
+        ⌜ r ≡ answerOf end ⌝ }
+    ensures left { λ r.
         let x = shotOf t (now (gammas .entry)) seed (now (syndrome .entry)) (now (priors .entry)) (now («check_var» .entry))
         (now («check_offset» .entry)) (now («var_message» .entry)) (now («var_offset» .entry)) (now (order .entry)) in
         let end = decodeLegs x in
-        (isRefused r ≡ false
+        ⌜ (isRefused r ≡ false
         → results (now («leg_state» .exit)) (now («leg_iterations» .exit)) (now («leg_weight» .exit)) (now (rows .exit))
         (now (correction .exit)) (now (posterior .exit))
         ≡ resultsOf x end) ⌝ }
@@ -169,13 +168,13 @@ fn end_legs(
     correction: &mut [u8],
     posterior: &mut [f64],
 )
-    ensures { λ _. ⌜
+    ensures { λ _.
         let before = results (now («leg_state» .entry)) (now («leg_iterations» .entry)) (now («leg_weight» .entry)) (now (rows .entry))
         (now (correction .entry)) (now (posterior .entry)) in
         let before′ = results (replicate (length (now («leg_state» .entry))) 0) (replicate (length (now («leg_iterations» .entry))) 0)
         (replicate (length (now («leg_weight» .entry))) zero⁺) (replicate (length (now (rows .entry))) 0)
         (replicate (length (now (correction .entry))) 0) (replicate (length (now (posterior .entry))) zero⁺) in
-        results (now («leg_state» .exit)) (now («leg_iterations» .exit)) (now («leg_weight» .exit)) (now (rows .exit))
+        ⌜ results (now («leg_state» .exit)) (now («leg_iterations» .exit)) (now («leg_weight» .exit)) (now (rows .exit))
         (now (correction .exit)) (now (posterior .exit))
         ≡ cond (isRefused d) before′ before ⌝ }
 {
@@ -216,16 +215,16 @@ fn run_shot(
         LegsLong (suc (t .«num_legs»)) (length (now priors)) (now «leg_state») (now «leg_iterations») (now «leg_weight») (now rows) ⌝ }
     requires { ⌜ PerShot (length (now priors)) (now correction) (now posterior) (now gamma) (now bias) ⌝ }
     requires { ⌜ PerEdge (length (now «check_var»)) (now «c_to_v») (now «v_to_c») ⌝ }
-    ensures answer { λ r. ⌜
+    ensures answer { λ r.
         let x = shotOf t (now (gammas .entry)) seed (now (syndrome .entry)) (now (priors .entry)) (now («check_var» .entry))
         (now («check_offset» .entry)) (now («var_message» .entry)) (now («var_offset» .entry)) (now (order .entry)) in
         let end = decodeLegs x in
-        r ≡ answerOf end ⌝ }
-    ensures left { λ _. ⌜
+        ⌜ r ≡ answerOf end ⌝ }
+    ensures left { λ _.
         let x = shotOf t (now (gammas .entry)) seed (now (syndrome .entry)) (now (priors .entry)) (now («check_var» .entry))
         (now («check_offset» .entry)) (now («var_message» .entry)) (now («var_offset» .entry)) (now (order .entry)) in
         let end = decodeLegs x in
-        results (now («leg_state» .exit)) (now («leg_iterations» .exit)) (now («leg_weight» .exit)) (now (rows .exit))
+        ⌜ results (now («leg_state» .exit)) (now («leg_iterations» .exit)) (now («leg_weight» .exit)) (now (rows .exit))
         (now (correction .exit)) (now (posterior .exit))
         ≡ resultsOf x end ⌝ }
     ensures work { λ _. ⌜
@@ -301,7 +300,7 @@ pub fn decode_fronts(
         LegsFit (suc (t .«num_legs»)) (length (now priors)) (now «leg_state») (now «leg_iterations») (now «leg_weight») (now rows) ⌝ }
     requires { ⌜ PerShot (length (now priors)) (now correction) (now posterior) (now gamma) (now bias) ⌝ }
     requires { ⌜ PerEdge (length (now «check_var»)) (now «c_to_v») (now «v_to_c») ⌝ }
-    ensures { λ r. ⌜
+    ensures { λ r.
         let x = shotOf t (now (gammas .entry)) seed (now (syndrome .entry)) (now (priors .entry)) (now («check_var» .entry))
         (now («check_offset» .entry)) (now («var_message» .entry)) (now («var_offset» .entry)) (now (order .entry)) in
         let before = decodeLists (now («leg_state» .entry)) (now («leg_iterations» .entry)) (now («leg_weight» .entry)) (now (rows .entry))
@@ -311,7 +310,7 @@ pub fn decode_fronts(
         let after = decodeLists (now («leg_state» .exit)) (now («leg_iterations» .exit)) (now («leg_weight» .exit)) (now (rows .exit))
         (now (correction .exit)) (now (posterior .exit)) (now (gamma .exit)) (now (bias .exit)) (now («c_to_v» .exit))
         (now («v_to_c» .exit)) in
-        decodeOutcome r after ≡ afterLegs (length (now («check_var» .entry))) x end before ⌝ }
+        ⌜ decodeOutcome r after ≡ afterLegs (length (now («check_var» .entry))) x end before ⌝ }
 {
     let legs = t.num_legs + 1;
     let cells = legs * priors.len();

@@ -44,7 +44,7 @@ fn decode_few(
         LegsFit (suc (t .«num_legs»)) (length (now priors)) (now «leg_state») (now «leg_iterations») (now «leg_weight») (now rows) ⌝ }
     requires { ⌜ PerShot (length (now priors)) (now correction) (now posterior) (now gamma) (now bias) ⌝ }
     requires { ⌜ PerEdge (length (now «check_var»)) (now «c_to_v») (now «v_to_c») ⌝ }
-    ensures { λ r. ⌜
+    ensures { λ r.
         let x = shotOf t (now (gammas .entry)) seed (now (syndrome .entry)) (now (priors .entry)) (now («check_var» .entry))
         (now («check_offset» .entry)) (now («var_message» .entry)) (now («var_offset» .entry))
         (upto (length (now (syndrome .entry)))) in
@@ -55,7 +55,7 @@ fn decode_few(
         let after = decodeLists (now («leg_state» .exit)) (now («leg_iterations» .exit)) (now («leg_weight» .exit)) (now (rows .exit))
         (now (correction .exit)) (now (posterior .exit)) (now (gamma .exit)) (now (bias .exit)) (now («c_to_v» .exit))
         (now («v_to_c» .exit)) in
-        decodeOutcome r after ≡ afterLegs (length (now («check_var» .entry))) x end before ⌝ }
+        ⌜ decodeOutcome r after ≡ afterLegs (length (now («check_var» .entry))) x end before ⌝ }
 {
     let checks = syndrome.len();
     let mut order = [0u32; 1024];
@@ -114,7 +114,7 @@ fn decode_many(
         LegsFit (suc (t .«num_legs»)) (length (now priors)) (now «leg_state») (now «leg_iterations») (now «leg_weight») (now rows) ⌝ }
     requires { ⌜ PerShot (length (now priors)) (now correction) (now posterior) (now gamma) (now bias) ⌝ }
     requires { ⌜ PerEdge (length (now «check_var»)) (now «c_to_v») (now «v_to_c») ⌝ }
-    ensures { λ r. ⌜
+    ensures { λ r.
         let x = shotOf t (now (gammas .entry)) seed (now (syndrome .entry)) (now (priors .entry)) (now («check_var» .entry))
         (now («check_offset» .entry)) (now («var_message» .entry)) (now («var_offset» .entry))
         (upto (length (now (syndrome .entry)))) in
@@ -125,7 +125,7 @@ fn decode_many(
         let after = decodeLists (now («leg_state» .exit)) (now («leg_iterations» .exit)) (now («leg_weight» .exit)) (now (rows .exit))
         (now (correction .exit)) (now (posterior .exit)) (now (gamma .exit)) (now (bias .exit)) (now («c_to_v» .exit))
         (now («v_to_c» .exit)) in
-        decodeOutcome r after ≡ afterLegs (length (now («check_var» .entry))) x end before ⌝ }
+        ⌜ decodeOutcome r after ≡ afterLegs (length (now («check_var» .entry))) x end before ⌝ }
 {
     let checks = syndrome.len();
     let mut order = [0u32; MAX_CHECKS];
@@ -184,7 +184,7 @@ pub fn decode_counted(
         LegsFit (suc (t .«num_legs»)) (length (now priors)) (now «leg_state») (now «leg_iterations») (now «leg_weight») (now rows) ⌝ }
     requires { ⌜ PerShot (length (now priors)) (now correction) (now posterior) (now gamma) (now bias) ⌝ }
     requires { ⌜ PerEdge (length (now «check_var»)) (now «c_to_v») (now «v_to_c») ⌝ }
-    ensures { λ r. ⌜
+    ensures { λ r.
         let x = shotOf t (now (gammas .entry)) seed (now (syndrome .entry)) (now (priors .entry)) (now («check_var» .entry))
         (now («check_offset» .entry)) (now («var_message» .entry)) (now («var_offset» .entry))
         (upto (length (now (syndrome .entry)))) in
@@ -195,7 +195,7 @@ pub fn decode_counted(
         let after = decodeLists (now («leg_state» .exit)) (now («leg_iterations» .exit)) (now («leg_weight» .exit)) (now (rows .exit))
         (now (correction .exit)) (now (posterior .exit)) (now (gamma .exit)) (now (bias .exit)) (now («c_to_v» .exit))
         (now («v_to_c» .exit)) in
-        decodeOutcome r after ≡ afterLegs (length (now («check_var» .entry))) x end before ⌝ }
+        ⌜ decodeOutcome r after ≡ afterLegs (length (now («check_var» .entry))) x end before ⌝ }
 {
     if syndrome.len() <= 1024 {
         return decode_few(

@@ -115,14 +115,14 @@ pub fn shot_fault(
     c_to_v: &[f64],
     v_to_c: &[f64],
 ) -> Answer
-    ensures { λ r. ⌜
+    ensures { λ r.
         let g = graph (size .checks) (size .mechanisms) (now («check_var» .entry)) (now («check_message» .entry))
         (now («check_offset» .entry)) (now («var_check» .entry)) (now («var_message» .entry)) (now («var_offset» .entry)) in
         let x = shot g (now (priors .entry)) t (now (gammas .entry)) [] (now (syndrome .entry)) 0 in
         let before = decodeLists (now («leg_state» .entry)) (now («leg_iterations» .entry)) (now («leg_weight» .entry)) (now (rows .entry))
         (now (correction .entry)) (now (posterior .entry)) (now (gamma .entry)) (now (bias .entry)) (now («c_to_v» .entry))
         (now («v_to_c» .entry)) in
-        r ≡ shotFault (size .edges) x before ⌝ }
+        ⌜ r ≡ shotFault (size .edges) x before ⌝ }
 {
     let num_legs = t.num_legs;
     let a = graph::check_graph(
@@ -177,9 +177,9 @@ fn order_fault(
     requires { ⌜ checks ≤ maxChecks ⌝ }
     requires { ⌜ Offsets checks (length (now «check_var»)) (now «check_offset») ⌝ }
     requires { ⌜ Keys maxMechanisms (now «check_var») ⌝ }
-    ensures { λ r. ⌜
+    ensures { λ r.
         let g = ofChecks checks (now («check_var» .entry)) (now («check_offset» .entry)) in
-        r ≡ orElse (namesFault checks (now (order .entry))) (exchangeFault schedule g (now (order .entry))) ⌝ }
+        ⌜ r ≡ orElse (namesFault checks (now (order .entry))) (exchangeFault schedule g (now (order .entry))) ⌝ }
 {
     if is_index_order(checks, order) {
         return Answer::Done;
@@ -216,14 +216,14 @@ pub fn decode_fault(
     c_to_v: &[f64],
     v_to_c: &[f64],
 ) -> Answer
-    ensures { λ r. ⌜
+    ensures { λ r.
         let g = graph (size .checks) (size .mechanisms) (now («check_var» .entry)) (now («check_message» .entry))
         (now («check_offset» .entry)) (now («var_check» .entry)) (now («var_message» .entry)) (now («var_offset» .entry)) in
         let x = shot g (now (priors .entry)) t (now (gammas .entry)) (now (order .entry)) (now (syndrome .entry)) 0 in
         let before = decodeLists (now («leg_state» .entry)) (now («leg_iterations» .entry)) (now («leg_weight» .entry)) (now (rows .entry))
         (now (correction .entry)) (now (posterior .entry)) (now (gamma .entry)) (now (bias .entry)) (now («c_to_v» .entry))
         (now («v_to_c» .entry)) in
-        r ≡ decodeFault (size .edges) x before ⌝ }
+        ⌜ r ≡ decodeFault (size .edges) x before ⌝ }
 {
     let schedule = t.schedule;
     let a = shot_fault(

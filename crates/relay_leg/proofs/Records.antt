@@ -8,9 +8,8 @@ use Prim.Native.Nat.{ℕ, zero, suc, _+_, _-_, _*_, _<_, _≤_}
 use native.Mathlib.Nat.{mul-le-mul, mul-le-mul-right, suc-mul}
 use native.Mathlib.Omega.{arith}
 use lib.Ieee.{Float}
-use lib.ListN.{length, getD, take, drop, set, replicate, length-replicate, getD-replicate}
+use lib.ListN.{length, getD, take, drop, replicate, length-replicate, getD-replicate}
 use lib.Seq.{ext-getD}
-use Rattle.numbers.specs.Floats.{zero⁺}
 use Rattle.numbers.specs.Loops.{spliced}
 use Rattle.numbers.proofs.Loops.{length-spliced, spliced-out, spliced-in}
 use Rattle.graph_lists.specs.Messages.{fromVariables, cleared}
@@ -23,6 +22,7 @@ use Rattle.relay_step.specs.Leg.{Leg, leg, startLeg, hardDecision, matches, sat
 use Rattle.relay_calls.specs.Decode.{Shot, iterationLimit, stepOf, executedLeg}
 use Rattle.relay_record.specs.Kept.{shotOf, Reads, Kept, kept, bestAfter, corrected, keptWith, rowAfter, keptAfter, Blank}
 use Rattle.relay_step.proofs.Parts.{Stands, out, within, stands}
+use Rattle.relay_record.proofs.Tallies.{Entered}
 
 -- ---- the limit
 
@@ -93,7 +93,7 @@ module _ (x : Shot) (r : ℕ) (best best′ : Option Float) (num num′ total to
   pub row-turn : (c v : List Float) (b : Bool) (k : ℕ) → leg b k (state c v p′) ≡ l → row ≡ hardDecision p′ → length row ≡ x .graph .mechanisms
       → best′ ≡ bestAfter b best (correctionWeight (x .prior) row (x .graph .mechanisms))
       → (num′ ≡ num + cond b 1 0) × (total′ ≡ total + k)
-      → (ss′ ≡ set ss r (cond b 2 1)) × (is′ ≡ set is r k) × (ws′ ≡ set ws r (cond b (correctionWeight (x .prior) row (x .graph .mechanisms)) zero⁺))
+      → Entered b (correctionWeight (x .prior) row (x .graph .mechanisms)) k r ss is ws ss′ is′ ws′
       → row′ ≡ cond b row (replicate (length row) 0)
       → cor′ ≡ corrected b best (correctionWeight (x .prior) row (x .graph .mechanisms)) row cor
       → kept best′ num′ total′ (suc r) ss′ is′ ws′ row′ cor′ p′ ≡ keptWith x (kept best num total r ss is ws [] cor []) r l (rowAfter x l)

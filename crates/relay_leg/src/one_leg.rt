@@ -34,9 +34,9 @@ fn iteration_limit(t: Settings, leg: usize) -> usize
 fn start_leg(check_var: &[u32], priors: &[f64], c_to_v: &mut [f64], v_to_c: &mut [f64])
     requires { ⌜ Keys (length (now priors)) (now «check_var») ⌝ }
     requires { ⌜ PerEdge (length (now «check_var»)) (now «c_to_v») (now «v_to_c») ⌝ }
-    ensures { λ _. ⌜
+    ensures { λ _.
         let g = walked 0 0 (now («check_var» .entry)) [] [] [] in
-        state (now («c_to_v» .exit)) (now («v_to_c» .exit)) [] ≡ startLeg g (now (priors .entry)) [] ⌝ }
+        ⌜ state (now («c_to_v» .exit)) (now («v_to_c» .exit)) [] ≡ startLeg g (now (priors .entry)) [] ⌝ }
 {
     clear(c_to_v);
     from_variables(check_var, priors, v_to_c);
@@ -68,11 +68,11 @@ fn execute_leg(
     requires { ⌜ leg ≤ t .«num_legs» ⌝ }
     requires { ⌜ LegLists (length (now priors)) (now gamma) (now bias) (now posterior) (now bits) ⌝ }
     requires { ⌜ PerEdge (length (now «check_var»)) (now «c_to_v») (now «v_to_c») ⌝ }
-    ensures ran { λ r. ⌜
+    ensures ran { λ r.
         let x = shotOf t (now (gammas .entry)) seed (now (syndrome .entry)) (now (priors .entry)) (now («check_var» .entry))
         (now («check_offset» .entry)) (now («var_message» .entry)) (now («var_offset» .entry)) (now (order .entry)) in
         let after = state (now («c_to_v» .exit)) (now («v_to_c» .exit)) (now (posterior .exit)) in
-        legOf (r .converged) (r .iterations) after ≡ executedLeg x leg (now (posterior .entry)) ⌝ }
+        ⌜ legOf (r .converged) (r .iterations) after ≡ executedLeg x leg (now (posterior .entry)) ⌝ }
     ensures bits { λ _. ⌜ now (bits .exit) ≡ hardDecision (now (posterior .exit)) ⌝ }
     ensures few { λ r. ⌜ r .iterations ≤ maxCount ⌝ }
 {
@@ -138,13 +138,13 @@ fn leg_in_row(
         × (length (now gamma) ≡ length (now priors))
         × (length (now bias) ≡ length (now priors)) ⌝ }
     requires { ⌜ PerEdge (length (now «check_var»)) (now «c_to_v») (now «v_to_c») ⌝ }
-    ensures turn { λ r. ⌜
+    ensures turn { λ r.
         let x = shotOf t (now (gammas .entry)) seed (now (syndrome .entry)) (now (priors .entry)) (now («check_var» .entry))
         (now («check_offset» .entry)) (now («var_message» .entry)) (now («var_offset» .entry)) (now (order .entry)) in
         let before = kept (bestOf (tally .found) (tally .weight)) (tally .«num_converged») (tally .«total_iterations») leg
         (now («leg_state» .entry)) (now («leg_iterations» .entry)) (now («leg_weight» .entry)) [] (now (correction .entry)) [] in
         let leg′ = executedLeg x leg (now (posterior .entry)) in
-        kept (bestOf (r .found) (r .weight)) (r .«num_converged») (r .«total_iterations») (suc leg) (now («leg_state» .exit))
+        ⌜ kept (bestOf (r .found) (r .weight)) (r .«num_converged») (r .«total_iterations») (suc leg) (now («leg_state» .exit))
         (now («leg_iterations» .exit)) (now («leg_weight» .exit)) (now (row .exit)) (now (correction .exit)) (now (posterior .exit))
         ≡ keptWith x before leg leg′ (rowAfter x leg′) ⌝ }
     ensures few { λ r. ⌜ (r .«num_converged» ≤ tally .«num_converged» + 1) × (r .«total_iterations» ≤ tally .«total_iterations» + 65535) ⌝ }
@@ -215,14 +215,14 @@ pub fn next_leg(
     requires { ⌜ Blank (leg * length (now priors)) (now rows) ⌝ }
     requires { ⌜ PerShot (length (now priors)) (now correction) (now posterior) (now gamma) (now bias) ⌝ }
     requires { ⌜ PerEdge (length (now «check_var»)) (now «c_to_v») (now «v_to_c») ⌝ }
-    ensures turn { λ r. ⌜
+    ensures turn { λ r.
         let x = shotOf t (now (gammas .entry)) seed (now (syndrome .entry)) (now (priors .entry)) (now («check_var» .entry))
         (now («check_offset» .entry)) (now («var_message» .entry)) (now («var_offset» .entry)) (now (order .entry)) in
         let before = kept (bestOf (tally .found) (tally .weight)) (tally .«num_converged») (tally .«total_iterations») leg
         (now («leg_state» .entry)) (now («leg_iterations» .entry)) (now («leg_weight» .entry)) (now (rows .entry))
         (now (correction .entry)) (now (posterior .entry)) in
         let leg′ = executedLeg x leg (now (posterior .entry)) in
-        kept (bestOf (r .found) (r .weight)) (r .«num_converged») (r .«total_iterations») (suc leg) (now («leg_state» .exit))
+        ⌜ kept (bestOf (r .found) (r .weight)) (r .«num_converged») (r .«total_iterations») (suc leg) (now («leg_state» .exit))
         (now («leg_iterations» .exit)) (now («leg_weight» .exit)) (now (rows .exit)) (now (correction .exit)) (now (posterior .exit))
         ≡ keptAfter x before leg leg′ ⌝ }
     ensures blank { λ _. ⌜ Blank (leg * length (now (priors .entry)) + length (now (priors .entry))) (now (rows .exit)) ⌝ }

@@ -135,9 +135,9 @@ pub fn exchange_fault(
     requires { ⌜ Offsets checks (length (now «check_var»)) (now «check_offset») ⌝ }
     requires { ⌜ Keys maxMechanisms (now «check_var») ⌝ }
     requires { ⌜ namesOnce checks (now order) ≡ true ⌝ }
-    ensures { λ r. ⌜
+    ensures { λ r.
         let g = ofChecks checks (now («check_var» .entry)) (now («check_offset» .entry)) in
-        r ≡ exchangeFault schedule g (now (order .entry)) ⌝ }
+        ⌜ r ≡ exchangeFault schedule g (now (order .entry)) ⌝ }
 {
     match schedule {
         Schedule::Flooding => Answer::Done,

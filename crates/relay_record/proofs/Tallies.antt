@@ -8,6 +8,7 @@ use native.Mathlib.Omega.{arith}
 use lib.Ieee.{Float}
 use lib.ListN.{length, set, replicate}
 use Rattle.numbers.specs.Floats.{zero⁺}
+use Rattle.relay_calls.specs.Records.{valuesOf, recordOfLeg}
 use Rattle.relay_calls.specs.Decode.{isNoneOr}
 use Rattle.relay_record.specs.Kept.{bestOf, bestAfter, corrected}
 
@@ -37,6 +38,12 @@ corrected-out : (found : Bool) (x w : Float) (bits old new : List ℕ) → new �
 corrected-out true x w bits old new q = q
 corrected-out false x w bits old new q = q
 
+-- a leg's values, entered in the leg lists
+abbrev pub Entered : Bool → Float → ℕ → ℕ → List ℕ → List ℕ → List Float → List ℕ → List ℕ → List Float → Type 0
+Entered b weight k r ss is ws ss′ is′ ws′ =
+    let values = valuesOf (recordOfLeg b weight k) in
+    (ss′ ≡ set ss r (values .legState)) × (is′ ≡ set is r (values .legIterations)) × (ws′ ≡ set ws r (values .legWeight))
+
 -- ---- a leg that converged, and one that ran out
 
 module _ (b : Bool) (best best′ : Option Float) (num num′ total total′ : ℕ) (ss is : List ℕ) (ws : List Float) (ss′ is′ : List ℕ) (ws′ : List Float) (row cor cor′ : List ℕ) (r k : ℕ) (w weight : Float) where
@@ -45,7 +52,7 @@ module _ (b : Bool) (best best′ : Option Float) (num num′ total total′ : �
       → (num′ ≡ num + 1) × (total′ ≡ total + k) → cor′ ≡ corrected true best w row cor
       → (best′ ≡ bestAfter b best weight)
       × (((num′ ≡ num + cond b 1 0) × (total′ ≡ total + k))
-      × (((ss′ ≡ set ss r (cond b 2 1)) × (is′ ≡ set is r k) × (ws′ ≡ set ws r (cond b weight zero⁺)))
+      × (Entered b weight k r ss is ws ss′ is′ ws′
       × ((row ≡ cond b row (replicate (length row) 0)) × (cor′ ≡ corrected b best weight row cor))))
   record-converged h e s q n o = rw (h, ← e) (q, (n, (s, (refl, o))))
 
@@ -54,6 +61,6 @@ module _ (b found : Bool) (x weight : Float) (num total : ℕ) (ss is : List ℕ
   pub record-out : b ≡ false → (ss′ ≡ set ss r 1) × (is′ ≡ set is r k) × (ws′ ≡ set ws r zero⁺) → row′ ≡ replicate (length row) 0 → cor′ ≡ cond found cor row
       → (bestOf found x ≡ bestAfter b (bestOf found x) weight)
       × (((num ≡ num + cond b 1 0) × (total + k ≡ total + k))
-      × (((ss′ ≡ set ss r (cond b 2 1)) × (is′ ≡ set is r k) × (ws′ ≡ set ws r (cond b weight zero⁺)))
+      × (Entered b weight k r ss is ws ss′ is′ ws′
       × ((row′ ≡ cond b row (replicate (length row) 0)) × (cor′ ≡ corrected b (bestOf found x) weight row cor))))
   record-out h s z q = rw h (refl, ((omega arith, refl), (s, (z, corrected-out found x weight row cor cor′ q))))

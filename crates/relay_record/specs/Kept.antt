@@ -23,6 +23,7 @@ use Rattle.relay_calls.specs.declared.Decoded.{Decoded}
 use Rattle.relay_calls.specs.declared.Decoded.the-variants as Decoded
 use Rattle.relay_settings.specs.Settings.{settingsFault}
 use Rattle.relay_step.specs.Leg.{Leg, hardDecision, correctionWeight}
+use Rattle.relay_calls.specs.Records.{valuesOf, recordOfLeg}
 use Rattle.relay_calls.specs.Decode.{Shot, Run, Ended, decoded, refused, isNoneOr, correctionOf}
 use Rattle.relay_calls.specs.Calls.{DecodeLists, syndromeFault, decodeListsFit, answered}
 
@@ -123,10 +124,11 @@ unfoldable pub keptWith : Shot → Kept → ℕ → Leg → List ℕ → Kept
 keptWith x k r l rows =
     let bits = hardDecision (l .left .posterior) in
     let weight = correctionWeight (x .prior) bits (x .graph .mechanisms) in
+    let values = valuesOf (recordOfLeg (l .converged) weight (l .iterations)) in
     kept (bestAfter (l .converged) (k .best) weight) (k .numConverged + cond (l .converged) 1 0) (k .totalIterations + l .iterations) (suc r)
-    (set (k .legState) r (cond (l .converged) 2 1))
-    (set (k .legIterations) r (l .iterations))
-    (set (k .legWeight) r (cond (l .converged) weight zero⁺))
+    (set (k .legState) r (values .legState))
+    (set (k .legIterations) r (values .legIterations))
+    (set (k .legWeight) r (values .legWeight))
     rows
     (corrected (l .converged) (k .best) weight bits (k .correction))
     (l .left .posterior)

@@ -6,10 +6,10 @@ ghost use mathlib.Core.Bool.{true, _||_, not, cond};
 ghost use Prim.Native.Nat.{_+_, _*_, _<_, _≤_};
 ghost use lib.Dec.{leb};
 ghost use lib.ListN.{length, set, replicate};
-ghost use Rattle.numbers.specs.Floats.{zero⁺};
 ghost use Rattle.refusals.specs.declared.Answer.the-variants.{Done};
 ghost use Rattle.refusals.specs.Tests.{isDone};
 ghost use Rattle.relay_step.specs.Leg.{correctionWeight};
+ghost use Rattle.relay_calls.specs.Records.{valuesOf, recordOfLeg};
 ghost use Rattle.relay_calls.specs.Decode.{isNoneOr};
 ghost use Rattle.relay_record.specs.Kept.{bestOf, bestAfter, corrected, answerBy};
 use bytes::clear_bytes;
@@ -132,12 +132,12 @@ pub fn record_leg(
     ensures counts { λ r. ⌜
         (r .«num_converged» ≡ tally .«num_converged» + cond (l .converged) 1 0)
         × (r .«total_iterations» ≡ tally .«total_iterations» + l .iterations) ⌝ }
-    ensures entries { λ _. ⌜
-        (now («leg_state» .exit) ≡ set (now («leg_state» .entry)) leg (cond (l .converged) 2 1))
-        × (now («leg_iterations» .exit) ≡ set (now («leg_iterations» .entry)) leg (l .iterations))
-        × (now («leg_weight» .exit)
-        ≡ set (now («leg_weight» .entry)) leg
-        (cond (l .converged) (correctionWeight (now (priors .entry)) (now (row .entry)) (length (now (priors .entry)))) zero⁺)) ⌝ }
+    ensures entries { λ _.
+        let weight = correctionWeight (now (priors .entry)) (now (row .entry)) (length (now (priors .entry))) in
+        let values = valuesOf (recordOfLeg (l .converged) weight (l .iterations)) in
+        ⌜ (now («leg_state» .exit) ≡ set (now («leg_state» .entry)) leg (values .legState))
+        × (now («leg_iterations» .exit) ≡ set (now («leg_iterations» .entry)) leg (values .legIterations))
+        × (now («leg_weight» .exit) ≡ set (now («leg_weight» .entry)) leg (values .legWeight)) ⌝ }
     ensures row { λ _. ⌜ now (row .exit) ≡ cond (l .converged) (now (row .entry)) (replicate (length (now (row .entry))) 0) ⌝ }
     ensures correction { λ _. ⌜
         now (correction .exit)

@@ -18,9 +18,9 @@ use graph_messages::start_scan;
 // The message at a place.
 fn scanned(s: Scan, place: usize, message: f64) -> Scan
     requires { ⌜ Ordered (s .min1) (s .min2) ⌝ }
-    ensures scan { λ r. ⌜
+    ensures scan { λ r.
         let before = scanOf (s .«total_sign») (s .min1) (s .min2) (s .least) in
-        scanOf (r .«total_sign») (r .min1) (r .min2) (r .least) ≡ scannedOf before place message ⌝ }
+        ⌜ scanOf (r .«total_sign») (r .min1) (r .min2) (r .least) ≡ scannedOf before place message ⌝ }
     ensures ordered { λ r. ⌜ Ordered (r .min1) (r .min2) ⌝ }
 {
     lowered(

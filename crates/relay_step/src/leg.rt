@@ -55,9 +55,9 @@ fn parity(entries: &[u32], bits: &[u8]) -> u8
 fn matches(c: usize, syndrome: &[u8], check_var: &[u32], check_offset: &[u32], bits: &[u8]) -> bool
     requires { ⌜ c < length (now syndrome) ⌝ }
     requires { ⌜ Walks (length (now syndrome)) (length (now bits)) (now «check_var») (now «check_offset») ⌝ }
-    ensures { λ r. ⌜
+    ensures { λ r.
         let g = ofChecks (length (now (syndrome .entry))) (now («check_var» .entry)) (now («check_offset» .entry)) in
-        r ≡ matchesOf g (now (bits .entry)) (now (syndrome .entry)) c ⌝ }
+        ⌜ r ≡ matchesOf g (now (bits .entry)) (now (syndrome .entry)) c ⌝ }
 {
     let start = at(check_offset, c);
     let end = at(check_offset, c + 1);
@@ -67,9 +67,9 @@ fn matches(c: usize, syndrome: &[u8], check_var: &[u32], check_offset: &[u32], b
 // All parities match.
 fn all_match(syndrome: &[u8], check_var: &[u32], check_offset: &[u32], bits: &[u8]) -> bool
     requires { ⌜ Walks (length (now syndrome)) (length (now bits)) (now «check_var») (now «check_offset») ⌝ }
-    ensures { λ r. ⌜
+    ensures { λ r.
         let g = ofChecks (length (now (syndrome .entry))) (now («check_var» .entry)) (now («check_offset» .entry)) in
-        r ≡ every (length (now (syndrome .entry))) (matchesOf g (now (bits .entry)) (now (syndrome .entry))) ⌝ }
+        ⌜ r ≡ every (length (now (syndrome .entry))) (matchesOf g (now (bits .entry)) (now (syndrome .entry))) ⌝ }
 {
     let mut c = 0;
     while c < syndrome.len() {
@@ -91,9 +91,9 @@ fn satisfied(
 ) -> bool
     requires { ⌜ Walks (length (now syndrome)) (length (now posterior)) (now «check_var») (now «check_offset») ⌝ }
     requires { ⌜ length (now bits) ≡ length (now posterior) ⌝ }
-    ensures test { λ r. ⌜
+    ensures test { λ r.
         let g = ofChecks (length (now (syndrome .entry))) (now («check_var» .entry)) (now («check_offset» .entry)) in
-        r ≡ satisfiedBy g (now (syndrome .entry)) (now (posterior .entry)) ⌝ }
+        ⌜ r ≡ satisfiedBy g (now (syndrome .entry)) (now (posterior .entry)) ⌝ }
     ensures bits { λ _. ⌜ now (bits .exit) ≡ hardDecision (now (posterior .entry)) ⌝ }
 {
     hard_decision(posterior, bits);
@@ -151,13 +151,13 @@ pub fn run_leg(
     requires { ⌜ Keys (length (now syndrome)) (now order) ⌝ }
     requires { ⌜ LegLists (length (now priors)) (now gamma) (now bias) (now posterior) (now bits) ⌝ }
     requires { ⌜ PerEdge (length (now «check_var»)) (now «c_to_v») (now «v_to_c») ⌝ }
-    ensures leg { λ r. ⌜
+    ensures leg { λ r.
         let gChecks = ofChecks (length (now (syndrome .entry))) (now («check_var» .entry)) (now («check_offset» .entry)) in
         let g = walked (length (now (syndrome .entry))) (length (now (priors .entry))) (now («check_var» .entry))
         (now («check_offset» .entry)) (now («var_message» .entry)) (now («var_offset» .entry)) in
         let before = state (now («c_to_v» .entry)) (now («v_to_c» .entry)) (now (posterior .entry)) in
         let after = state (now («c_to_v» .exit)) (now («v_to_c» .exit)) (now (posterior .exit)) in
-        legOf (r .converged) (r .iterations) after
+        ⌜ legOf (r .converged) (r .iterations) after
         ≡ runLeg (iteration schedule g alpha (now (syndrome .entry)) (now (priors .entry)) (now (gamma .entry)) (now (order .entry)))
         (satisfiedBy gChecks (now (syndrome .entry))) limit false 0 before ⌝ }
     ensures bits { λ _. ⌜ (0 < limit → now (bits .exit) ≡ hardDecision (now (posterior .exit))) ⌝ }

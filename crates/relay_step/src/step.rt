@@ -50,10 +50,10 @@ fn update_one(
     requires { ⌜ Offsets (length (now syndrome)) (length (now «check_var»)) (now «check_offset») ⌝ }
     requires { ⌜ RowsRise (length (now syndrome)) (now «check_var») (now «check_offset») ⌝ }
     requires { ⌜ PerEdge (length (now «check_var»)) (now «v_to_c») (now «c_to_v») ⌝ }
-    ensures { λ _. ⌜
+    ensures { λ _.
         let g = ofChecks (length (now (syndrome .entry))) (now («check_var» .entry)) (now («check_offset» .entry)) in
         let before = state (now («c_to_v» .entry)) (now («v_to_c» .entry)) [] in
-        state (now («c_to_v» .exit)) (now («v_to_c» .entry)) [] ≡ updateCheck g alpha (now (syndrome .entry)) before c ⌝ }
+        ⌜ state (now («c_to_v» .exit)) (now («v_to_c» .entry)) [] ≡ updateCheck g alpha (now (syndrome .entry)) before c ⌝ }
 {
     let start = at(check_offset, c);
     let end = at(check_offset, c + 1);
@@ -82,10 +82,11 @@ fn check_pass(
     requires { ⌜ RowsRise (length (now syndrome)) (now «check_var») (now «check_offset») ⌝ }
     requires { ⌜ Keys (length (now syndrome)) (now order) ⌝ }
     requires { ⌜ PerEdge (length (now «check_var»)) (now «v_to_c») (now «c_to_v») ⌝ }
-    ensures { λ _. ⌜
+    ensures { λ _.
         let g = ofChecks (length (now (syndrome .entry))) (now («check_var» .entry)) (now («check_offset» .entry)) in
         let before = state (now («c_to_v» .entry)) (now («v_to_c» .entry)) [] in
-        state (now («c_to_v» .exit)) (now («v_to_c» .entry)) [] ≡ checkPass g alpha (now (syndrome .entry)) (now (order .entry)) before ⌝ }
+        ⌜ state (now («c_to_v» .exit)) (now («v_to_c» .entry)) []
+        ≡ checkPass g alpha (now (syndrome .entry)) (now (order .entry)) before ⌝ }
 {
     let mut i = 0;
     while i < order.len() {
@@ -107,10 +108,10 @@ fn variable_pass(
     requires { ⌜ length (now posterior) ≡ length (now bias) ⌝ }
     requires { ⌜ Walks (length (now bias)) (length (now «c_to_v»)) (now «var_message») (now «var_offset») ⌝ }
     requires { ⌜ length (now «v_to_c») ≡ length (now «c_to_v») ⌝ }
-    ensures { λ _. ⌜
+    ensures { λ _.
         let g = ofVariables (length (now (bias .entry))) (now («var_message» .entry)) (now («var_offset» .entry)) in
         let before = state (now («c_to_v» .entry)) (now («v_to_c» .entry)) (now (posterior .entry)) in
-        state (now («c_to_v» .entry)) (now («v_to_c» .exit)) (now (posterior .exit))
+        ⌜ state (now («c_to_v» .entry)) (now («v_to_c» .exit)) (now (posterior .exit))
         ≡ variablePass g (now (bias .entry)) before (length (now (bias .entry))) ⌝ }
 {
     let mut v = 0;
@@ -141,11 +142,11 @@ fn flooding_iteration(
     requires { ⌜ Keys (length (now syndrome)) (now order) ⌝ }
     requires { ⌜ PerMechanism (length (now priors)) (now gamma) (now bias) (now posterior) ⌝ }
     requires { ⌜ PerEdge (length (now «check_var»)) (now «c_to_v») (now «v_to_c») ⌝ }
-    ensures { λ _. ⌜
+    ensures { λ _.
         let g = walked (length (now (syndrome .entry))) (length (now (priors .entry))) (now («check_var» .entry))
         (now («check_offset» .entry)) (now («var_message» .entry)) (now («var_offset» .entry)) in
         let before = state (now («c_to_v» .entry)) (now («v_to_c» .entry)) (now (posterior .entry)) in
-        state (now («c_to_v» .exit)) (now («v_to_c» .exit)) (now (posterior .exit))
+        ⌜ state (now («c_to_v» .exit)) (now («v_to_c» .exit)) (now (posterior .exit))
         ≡ floodingIteration g alpha (now (syndrome .entry)) (now (priors .entry)) (now (gamma .entry)) (now (order .entry)) before ⌝ }
 {
     check_pass(
@@ -180,11 +181,11 @@ fn serial_check(
     requires { ⌜ Walks (length (now bias)) (length (now «check_var»)) (now «var_message») (now «var_offset») ⌝ }
     requires { ⌜ length (now posterior) ≡ length (now bias) ⌝ }
     requires { ⌜ PerEdge (length (now «check_var»)) (now «c_to_v») (now «v_to_c») ⌝ }
-    ensures { λ _. ⌜
+    ensures { λ _.
         let g = walked (length (now (syndrome .entry))) (length (now (bias .entry))) (now («check_var» .entry))
         (now («check_offset» .entry)) (now («var_message» .entry)) (now («var_offset» .entry)) in
         let before = state (now («c_to_v» .entry)) (now («v_to_c» .entry)) (now (posterior .entry)) in
-        state (now («c_to_v» .exit)) (now («v_to_c» .exit)) (now (posterior .exit))
+        ⌜ state (now («c_to_v» .exit)) (now («v_to_c» .exit)) (now (posterior .exit))
         ≡ serialCheck g alpha (now (syndrome .entry)) (now (bias .entry)) before c ⌝ }
 {
     let start = at(check_offset, c);
@@ -228,11 +229,11 @@ fn serial_pass(
     requires { ⌜ Keys (length (now syndrome)) (now order) ⌝ }
     requires { ⌜ length (now posterior) ≡ length (now bias) ⌝ }
     requires { ⌜ PerEdge (length (now «check_var»)) (now «c_to_v») (now «v_to_c») ⌝ }
-    ensures { λ _. ⌜
+    ensures { λ _.
         let g = walked (length (now (syndrome .entry))) (length (now (bias .entry))) (now («check_var» .entry))
         (now («check_offset» .entry)) (now («var_message» .entry)) (now («var_offset» .entry)) in
         let before = state (now («c_to_v» .entry)) (now («v_to_c» .entry)) (now (posterior .entry)) in
-        state (now («c_to_v» .exit)) (now («v_to_c» .exit)) (now (posterior .exit))
+        ⌜ state (now («c_to_v» .exit)) (now («v_to_c» .exit)) (now (posterior .exit))
         ≡ serialPass g alpha (now (syndrome .entry)) (now (bias .entry)) (now (order .entry)) before ⌝ }
 {
     let mut i = 0;
@@ -276,11 +277,11 @@ fn check_serial_iteration(
     requires { ⌜ Keys (length (now syndrome)) (now order) ⌝ }
     requires { ⌜ PerMechanism (length (now priors)) (now gamma) (now bias) (now posterior) ⌝ }
     requires { ⌜ PerEdge (length (now «check_var»)) (now «c_to_v») (now «v_to_c») ⌝ }
-    ensures { λ _. ⌜
+    ensures { λ _.
         let g = walked (length (now (syndrome .entry))) (length (now (priors .entry))) (now («check_var» .entry))
         (now («check_offset» .entry)) (now («var_message» .entry)) (now («var_offset» .entry)) in
         let before = state (now («c_to_v» .entry)) (now («v_to_c» .entry)) (now (posterior .entry)) in
-        state (now («c_to_v» .exit)) (now («v_to_c» .exit)) (now (posterior .exit))
+        ⌜ state (now («c_to_v» .exit)) (now («v_to_c» .exit)) (now (posterior .exit))
         ≡ checkSerialIteration g alpha (now (syndrome .entry)) (now (priors .entry)) (now (gamma .entry)) (now (order .entry)) before ⌝ }
 {
     compute_bias(priors, gamma, posterior, bias);
@@ -321,11 +322,11 @@ pub fn step(
     requires { ⌜ Keys (length (now syndrome)) (now order) ⌝ }
     requires { ⌜ PerMechanism (length (now priors)) (now gamma) (now bias) (now posterior) ⌝ }
     requires { ⌜ PerEdge (length (now «check_var»)) (now «c_to_v») (now «v_to_c») ⌝ }
-    ensures { λ _. ⌜
+    ensures { λ _.
         let g = walked (length (now (syndrome .entry))) (length (now (priors .entry))) (now («check_var» .entry))
         (now («check_offset» .entry)) (now («var_message» .entry)) (now («var_offset» .entry)) in
         let before = state (now («c_to_v» .entry)) (now («v_to_c» .entry)) (now (posterior .entry)) in
-        state (now («c_to_v» .exit)) (now («v_to_c» .exit)) (now (posterior .exit))
+        ⌜ state (now («c_to_v» .exit)) (now («v_to_c» .exit)) (now (posterior .exit))
         ≡ iteration schedule g alpha (now (syndrome .entry)) (now (priors .entry)) (now (gamma .entry)) (now (order .entry)) before ⌝ }
 {
     match schedule {

@@ -50,10 +50,10 @@ pub(crate) fn update_variable(
     requires { ⌜ (v < length (now bias)) × (length (now posterior) ≡ length (now bias)) ⌝ }
     requires { ⌜ Walks (length (now bias)) (length (now «c_to_v»)) (now «var_message») (now «var_offset») ⌝ }
     requires { ⌜ length (now «v_to_c») ≡ length (now «c_to_v») ⌝ }
-    ensures { λ _. ⌜
+    ensures { λ _.
         let g = ofVariables (length (now (bias .entry))) (now («var_message» .entry)) (now («var_offset» .entry)) in
         let before = state (now («c_to_v» .entry)) (now («v_to_c» .entry)) (now (posterior .entry)) in
-        state (now («c_to_v» .entry)) (now («v_to_c» .exit)) (now (posterior .exit)) ≡ updateVariable g (now (bias .entry)) before v ⌝ }
+        ⌜ state (now («c_to_v» .entry)) (now («v_to_c» .exit)) (now (posterior .exit)) ≡ updateVariable g (now (bias .entry)) before v ⌝ }
 {
     let start = at(var_offset, v);
     let end = at(var_offset, v + 1);
@@ -75,10 +75,10 @@ pub(crate) fn update_variables(
     requires { ⌜ length (now posterior) ≡ length (now bias) ⌝ }
     requires { ⌜ Walks (length (now bias)) (length (now «c_to_v»)) (now «var_message») (now «var_offset») ⌝ }
     requires { ⌜ length (now «v_to_c») ≡ length (now «c_to_v») ⌝ }
-    ensures { λ _. ⌜
+    ensures { λ _.
         let g = ofVariables (length (now (bias .entry))) (now («var_message» .entry)) (now («var_offset» .entry)) in
         let before = state (now («c_to_v» .entry)) (now («v_to_c» .entry)) (now (posterior .entry)) in
-        state (now («c_to_v» .entry)) (now («v_to_c» .exit)) (now (posterior .exit))
+        ⌜ state (now («c_to_v» .entry)) (now («v_to_c» .exit)) (now (posterior .exit))
         ≡ foldl (updateVariable g (now (bias .entry))) before (now (variables .entry)) ⌝ }
 {
     let mut i = 0;

@@ -15,6 +15,7 @@ use Rattle.relay_step.specs.Step as Step
 use Rattle.relay_orders.specs.Order as Order
 use Rattle.relay_step.specs.Leg as Leg
 use Rattle.relay_gammas.specs.Gammas as Gammas
+use Rattle.relay_calls.specs.Records as Records
 use Rattle.relay_calls.specs.Decode as Decode
 use Rattle.relay_calls.specs.Calls as Calls
 use Rattle.runs.specs.Runs.{Table}
@@ -36,8 +37,9 @@ unfolding add sub mul neg lt le eq ofInt
     Order.count Order.once Order.namesOnce Order.shares Order.above Order.late Order.exchanged Order.namesFault Order.exchangeFault
     Leg.startLeg Leg.hardBit Leg.hardDecision Leg.parity Leg.matches Leg.satisfied Leg.cost Leg.correctionWeight
     Gammas.drawnOn Gammas.drawn Gammas.legSeed Gammas.relayGamma Gammas.gammaOf
+    Records.legRecord
     Decode.iterationLimit Decode.stepOf Decode.executedLeg Decode.startRun Decode.recorded Decode.afterLeg Decode.legsFrom Decode.decodeLegs
-    Calls.byteFault Calls.syndromeFault Calls.stepFits Calls.finiteAt Calls.allFinite Calls.stateFinite Calls.stepFault Calls.messageFinite Calls.mechanismFinite Calls.finiteFault Calls.stepEnd Calls.stepped Calls.iterationCall Calls.decodeListsFit Calls.decodeFault Calls.leftBy Calls.zeroed Calls.decodeInOrder Calls.decode Calls.legRecord
+    Calls.byteFault Calls.syndromeFault Calls.stepFits Calls.finiteAt Calls.allFinite Calls.stateFinite Calls.stepFault Calls.messageFinite Calls.mechanismFinite Calls.finiteFault Calls.stepEnd Calls.stepped Calls.iterationCall Calls.decodeListsFit Calls.decodeFault Calls.leftBy Calls.zeroed Calls.decodeInOrder Calls.decode
 runs =
     record {
       r1 = (refl, refl);

@@ -23,6 +23,8 @@ use Rattle.relay_settings.specs.declared.Schedule.{Schedule}
 use Rattle.relay_settings.specs.declared.Schedule.the-variants.{Flooding, CheckSerial}
 use Rattle.relay_settings.specs.declared.GammaSource.the-variants.{Seeded}
 use Rattle.relay_step.specs.Leg.{startLeg}
+use Rattle.relay_calls.specs.declared.Decoded.the-variants as Decoded
+use Rattle.relay_calls.specs.Decode.{shot}
 use Rattle.relay_calls.specs.Calls as Calls
 use Rattle.relay_calls.specs.Calls.{iterationCall, decodeInOrder, stepLists, summary, summaryOf}
 
@@ -106,24 +108,14 @@ settings schedule pre =
 abbrev pub lent : ℕ → ℕ → Calls.DecodeLists
 lent mechanisms edges =
     let floats = replicate mechanisms nine in
-    record {
-      legState = 9 ∷ 9 ∷ [];
-      legIterations = 9 ∷ 9 ∷ [];
-      legWeight = nine ∷ nine ∷ [];
-      rows = replicate (2 * mechanisms) 9;
-      correction = replicate mechanisms 9;
-      posterior = floats;
-      gamma = floats;
-      bias = floats;
-      cToV = replicate edges nine;
-      vToC = replicate edges nine;
-    }
+    let messages = replicate edges nine in
+    Calls.decodeLists (9 ∷ 9 ∷ []) (9 ∷ 9 ∷ []) (nine ∷ nine ∷ []) (replicate (2 * mechanisms) 9) (replicate mechanisms 9) floats floats floats messages messages
 
 -- a decode in the order given
 abbrev pub decodedRun : Graph → List Float → List ℕ → List ℕ → Schedule → ℕ → Calls.DecodeOutcome
 decodedRun g prior syndrome order schedule pre =
     decodeInOrder (length (g .checkVar))
-    (record { graph = g; prior = prior; settings = settings schedule pre; gammas = []; order = order; syndrome = syndrome; seed = 0 })
+    (shot g prior (settings schedule pre) [] order syndrome 0)
     (lent (length prior) (length (g .checkVar)))
 
 -- what a run says of it: the answer, the correction's bits and the posterior
@@ -169,9 +161,16 @@ believes edges p = Beliefs.beliefsOutcome Done (Beliefs.beliefsLists p (replicat
 
 -- ---- the table
 
--- what R3, R4 and R7 say: converged at 2, bits 100, weight 4, posterior -4, 4, 4
-abbrev pub at2 : Shown
-at2 = shown (summary Done true 1 2 (some four)) (1 ∷ 0 ∷ 0 ∷ []) (four⁻ ∷ four ∷ four ∷ [])
+-- the whole outcome of R3, R4 and R7: converged at 2, bits 100, weight 4, posterior -4, 4, 4; leg zero's record and row, and behind them the row that is
+-- not needed, as it was; and zeroed work lists
+abbrev pub at2 : Calls.DecodeOutcome
+at2 =
+    let zeros = replicate 3 zero⁺ in
+    let bits : List ℕ = 1 ∷ 0 ∷ 0 ∷ [] in
+    Calls.decodeOutcome (Decoded.Converged 1 2 four)
+    (Calls.decodeLists (2 ∷ 9 ∷ []) (2 ∷ 9 ∷ []) (four ∷ nine ∷ []) (1 ∷ 0 ∷ 0 ∷ 9 ∷ 9 ∷ 9 ∷ []) bits (four⁻ ∷ four ∷ four ∷ []) zeros zeros
+    (replicate 4 zero⁺)
+    (replicate 4 zero⁺))
 
 -- the runs that docs/REFERENCE.md lists
 pub record Table : Type 0 where
@@ -181,9 +180,9 @@ pub record Table : Type 0 where
   -- Flooding, pre 1: not converged, posterior 0,4,8, bits 000
   pub r2 : show (decodedRun G fours (1 ∷ 0 ∷ []) (0 ∷ 1 ∷ []) Flooding 1) ≡ shown (summary Done false 1 1 none) (0 ∷ 0 ∷ 0 ∷ []) (zero⁺ ∷ four ∷ eight ∷ [])
   -- Flooding, pre 2: converged at 2, bits 100, weight 4, posterior -4,4,4
-  pub r3 : show (decodedRun G fours (1 ∷ 0 ∷ []) (0 ∷ 1 ∷ []) Flooding 2) ≡ at2
-  -- CheckSerial, pre 2: same outcome as R3
-  pub r4 : show (decodedRun G fours (1 ∷ 0 ∷ []) (0 ∷ 1 ∷ []) CheckSerial 2) ≡ at2
+  pub r3 : decodedRun G fours (1 ∷ 0 ∷ []) (0 ∷ 1 ∷ []) Flooding 2 ≡ at2
+  -- CheckSerial, pre 2: same outcome as R3, every list
+  pub r4 : decodedRun G fours (1 ∷ 0 ∷ []) (0 ∷ 1 ∷ []) CheckSerial 2 ≡ at2
   -- first serial iteration, order 0,1: posterior 0,4,4
   pub r5 : shownStep (firstStep CheckSerial (0 ∷ 1 ∷ [])) ≡ shownStepTo (zero⁺ ∷ four ∷ four ∷ [])
   -- first serial iteration, order 1,0: posterior -4,4,8; decode refuses it: 24, check 0, and writes nothing
@@ -192,8 +191,8 @@ pub record Table : Type 0 where
       × (answerNumber (Refused (OrderExchanged 0)) ≡ 24)
       × (answerPlace (Refused (OrderExchanged 0)) ≡ At 0)
       × (decodedRun G fours (1 ∷ 0 ∷ []) (1 ∷ 0 ∷ []) CheckSerial 2 .left ≡ lent 3 4)
-  -- Flooding order 1,0: as R3
-  pub r7 : show (decodedRun G fours (1 ∷ 0 ∷ []) (1 ∷ 0 ∷ []) Flooding 2) ≡ at2
+  -- Flooding order 1,0: as R3, every list
+  pub r7 : decodedRun G fours (1 ∷ 0 ∷ []) (1 ∷ 0 ∷ []) Flooding 2 ≡ at2
   -- min-sum, not serial, one iteration: 0,4,8
   pub r8 : believed G fours (1 ∷ 0 ∷ []) ≡ believes 4 (zero⁺ ∷ four ∷ eight ∷ [])
   -- one check, one mechanism, prior 2, syndrome 1: Relay -28, bit 1; min-sum, one iteration, 2

@@ -57,10 +57,10 @@ fn built(
     var_message: &mut [u32],
     var_offset: &mut [u32],
 ) -> Answer
-    ensures { λ a. ⌜
+    ensures { λ a.
         let g = graph (size .checks) (size .mechanisms) (now («check_var» .entry)) (now («check_message» .entry))
         (now («check_offset» .entry)) (now («var_check» .entry)) (now («var_message» .entry)) (now («var_offset» .entry)) in
-        a
+        ⌜ a
         ≡ builtFrom (size .edges) (now (payload .entry))
         (modelLists (now (priors .entry)) (now («detector_offsets» .entry)) (now (detectors .entry))) g .answer ⌝ }
 {
@@ -162,13 +162,13 @@ fn decoded(
     c_to_v: &mut [f64],
     v_to_c: &mut [f64],
 ) -> Decoded
-    ensures { λ d. ⌜
+    ensures { λ d.
         let g = graph (size .checks) (size .mechanisms) (now («check_var» .entry)) (now («check_message» .entry))
         (now («check_offset» .entry)) (now («var_check» .entry)) (now («var_message» .entry)) (now («var_offset» .entry)) in
         let before = decodeLists (now («leg_state» .entry)) (now («leg_iterations» .entry)) (now («leg_weight» .entry)) (now (rows .entry))
         (now (correction .entry)) (now (posterior .entry)) (now (gamma .entry)) (now (bias .entry)) (now («c_to_v» .entry))
         (now («v_to_c» .entry)) in
-        decoding d (now (correction .exit))
+        ⌜ decoding d (now (correction .exit))
         ≡ found (decodedFrom (size .edges) (now (model .entry)) settings (now (syndrome .entry)) seed
         (modelLists (now (priors .entry)) (now («detector_offsets» .entry)) (now (detectors .entry))) g before) ⌝ }
 {
