@@ -1,17 +1,36 @@
--- One check of a pass, skipped or not, from its part as the code reads it, and one turn of each pass over the checks. Assumes nothing.
-use mathlib.Core.Path.{_≡_, sym, _∙_}
-use mathlib.Core.Bool.{Bool, true, false, not}
-use mathlib.Core.List.{List, foldl}
-use Prim.Native.Nat.{ℕ, _+_}
+-- A part that comes back, one check of a pass, skipped or not, from its part as the code reads it, and one turn of each pass over the checks. Assumes nothing.
+use mathlib.Core.Path.{_≡_, refl, sym, ap, _∙_}
+use mathlib.Core.Bool.{Bool, true, false, not, cond}
+use mathlib.Core.List.{List, _++_, foldl}
+use mathlib.Core.Logic.{⊎-elim}
+use Prim.Native.Nat.{ℕ, _+_, _-_, _≤_}
+use native.Mathlib.Omega.{arith}
 use native.Mathlib.Numerals.{add-one}
 use lib.Dec.{eqb, ltb}
 use lib.Ieee.{Float}
-use lib.ListN.{length, getD}
+use lib.ListN.{length, getD, take, drop, take-append-drop}
+use lib.Seq.{drop-drop}
 use Rattle.numbers.specs.Loops.{part, spliced}
+use Rattle.numbers.proofs.Cases.{either}
 use Rattle.numbers.proofs.Turns.{turns-turn}
 use Rattle.graph_lists.specs.Graph.{Graph}
 use Rattle.graph_messages.specs.Needs.{walked, ofVariables}
 use Rattle.min_sum_pass.specs.MinSum.{Messages, messages, checkMessages, skipped, rawPosterior, updateVariable, updateCheck, parallelCheck, serialCheck, checksTo, serialTo}
+
+-- a part written over itself changes nothing
+same-part : (a e : ℕ) (xs : List Float) → a ≤ e → spliced xs a e (part a e xs) ≡ xs
+same-part a e xs h =
+    let whole : a + (e - a) ≡ e = omega arith in
+    let rest : drop e xs ≡ drop (e - a) (drop a xs) = sym (drop-drop (e - a) a xs ∙ ap (λ (n : ℕ). drop n xs) whole) in
+    ap (λ (l : List Float). take a xs ++ (part a e xs ++ l)) rest
+    ∙ ap (λ (l : List Float). take a xs ++ l) (take-append-drop (e - a) (drop a xs))
+    ∙ take-append-drop a xs
+
+-- a part that comes back as it was, or as what was sent
+pub part-back : (a e : ℕ) (xs sent : List Float) (r : Bool) → a ≤ e
+    → take a xs ++ (cond r (part a e xs) sent ++ drop e xs) ≡ cond r xs (spliced xs a e sent)
+part-back a e xs sent true h = same-part a e xs h
+part-back a e xs sent false h = refl
 
 -- a check, with its part as the code reads it: `few` says that it has too few entries
 module _ (checks mechanisms : ℕ) (cv co vm vo : List ℕ) (scale : Float) (syndrome : List ℕ) (cToV vToC : List Float) (c a e : ℕ) (few : Bool)
@@ -28,30 +47,50 @@ module _ (checks mechanisms : ℕ) (cv co vm vo : List ℕ) (scale : Float) (syn
   sends out w = sym (rw (w, from, to, add-one))
 
   -- a check that is not serial, and is skipped
-  pub parallel-skips : few ≡ true → messages cToV vToC ≡ parallelCheck (walked checks mechanisms cv co vm vo) scale syndrome (messages cToV vToC) c
+  parallel-skips : few ≡ true → messages cToV vToC ≡ parallelCheck (walked checks mechanisms cv co vm vo) scale syndrome (messages cToV vToC) c
   unfolding parallelCheck
   parallel-skips h = rw (skips, h)
 
   -- and that is not
-  pub parallel-sends : (out : List Float) → few ≡ false
+  parallel-sends : (out : List Float) → few ≡ false
       → out ≡ spliced cToV a e (checkMessages scale (not (eqb (getD syndrome c 0) 0)) (part a e vToC))
       → messages out vToC ≡ parallelCheck (walked checks mechanisms cv co vm vo) scale syndrome (messages cToV vToC) c
   unfolding parallelCheck
   parallel-sends out h w = rw (skips, h, sends out w)
 
   -- a serial check that is skipped
-  pub serial-skips : (priors : List Float) → few ≡ true
+  serial-skips : (priors : List Float) → few ≡ true
       → messages cToV vToC ≡ serialCheck (walked checks mechanisms cv co vm vo) scale syndrome priors (messages cToV vToC) c
   unfolding serialCheck
   serial-skips priors h = rw (skips, h)
 
   -- and that is not
-  pub serial-sends : (priors out : List Float) (u : Messages) → few ≡ false
+  serial-sends : (priors out : List Float) (u : Messages) → few ≡ false
       → out ≡ spliced cToV a e (checkMessages scale (not (eqb (getD syndrome c 0) 0)) (part a e vToC))
       → u ≡ foldl (updateVariable (ofVariables mechanisms vm vo) priors) (messages out vToC) (part a e cv)
       → u ≡ serialCheck (walked checks mechanisms cv co vm vo) scale syndrome priors (messages cToV vToC) c
   unfolding serialCheck updateVariable rawPosterior
   serial-sends priors out u h w t = rw (skips, h, sends out w) (t ∙ rw (from, to, add-one))
+
+  -- what the update of a check leaves of the messages to variables
+  abbrev sentBy : List Float
+  sentBy = cond few cToV (spliced cToV a e (checkMessages scale (not (eqb (getD syndrome c 0) 0)) (part a e vToC)))
+
+  -- a check that is not serial
+  pub parallel-is : (out : List Float) → out ≡ sentBy → messages out vToC ≡ parallelCheck (walked checks mechanisms cv co vm vo) scale syndrome (messages cToV vToC) c
+  parallel-is out w =
+      ⊎-elim (λ (h : few ≡ true). ap (λ (l : List Float). messages l vToC) (w ∙ rw h) ∙ parallel-skips h) (λ (h : few ≡ false). parallel-sends out h (w ∙ rw h)) (either few)
+
+  -- a serial check that is skipped
+  pub serial-skipped : (priors out : List Float) → few ≡ true → out ≡ sentBy
+      → messages out vToC ≡ serialCheck (walked checks mechanisms cv co vm vo) scale syndrome priors (messages cToV vToC) c
+  serial-skipped priors out h w = ap (λ (l : List Float). messages l vToC) (w ∙ rw h) ∙ serial-skips priors h
+
+  -- and that is not
+  pub serial-sent : (priors out : List Float) (u : Messages) → few ≡ false → out ≡ sentBy
+      → u ≡ foldl (updateVariable (ofVariables mechanisms vm vo) priors) (messages out vToC) (part a e cv)
+      → u ≡ serialCheck (walked checks mechanisms cv co vm vo) scale syndrome priors (messages cToV vToC) c
+  serial-sent priors out u h w t = serial-sends priors out u h (w ∙ rw h) t
 
 -- one check further
 pub checks-turn : (g : Graph) (scale : Float) (syndrome : List ℕ) (s t u : Messages) (c : ℕ) → t ≡ checksTo g scale syndrome s c

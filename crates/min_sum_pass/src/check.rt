@@ -1,11 +1,13 @@
 // One check, over its own messages: a pass that finds the total sign and the two least magnitudes, and a pass that sends.
 ghost use mathlib.Core.Path.{_≡_};
+ghost use mathlib.Core.Bool.{cond};
 ghost use Prim.Native.Nat.{_≤_};
+ghost use lib.Dec.{ltb};
 ghost use lib.ListN.{length};
 ghost use Rattle.numbers.specs.Floats.{_*ᶠ_};
 ghost use Rattle.numbers.specs.Loops.{part, spliced};
 ghost use Rattle.graph_lists.specs.Messages.{scanOf};
-ghost use Rattle.graph_messages.specs.Needs.{Ordered};
+ghost use Rattle.graph_messages.specs.Needs.{Ordered, PerEdge};
 ghost use Rattle.min_sum_pass.specs.MinSum.{flippedBy, scanned as scannedOf, scan as scanTo, signWithout, sentTo, checkMessages};
 use graph_messages::Scan;
 use graph_messages::lowered;
@@ -79,7 +81,7 @@ fn send(scale: f64, total_sign: f64, minimum: f64, v_to_c: &[f64], c_to_v: &mut 
 
 // All that a check of two entries or more sends, from all that came in: the least at all positions, and the next at the position of the
 // least.
-fn update_check(scale: f64, odd: bool, v_to_c: &[f64], c_to_v: &mut [f64])
+fn send_check(scale: f64, odd: bool, v_to_c: &[f64], c_to_v: &mut [f64])
     requires { ⌜ length (now «c_to_v») ≡ length (now «v_to_c») ⌝ }
     ensures { λ _. ⌜ now («c_to_v» .exit) ≡ checkMessages scale odd (now («v_to_c» .entry)) ⌝ }
 {
@@ -91,19 +93,48 @@ fn update_check(scale: f64, odd: bool, v_to_c: &[f64], c_to_v: &mut [f64])
     }
 }
 
-// That, for the check whose messages lie from `start` to `end`.
+// The update of one check, over its entries and its messages: a check with fewer than two entries is skipped. Whether it was.
+fn update_check(
+    scale: f64,
+    odd: bool,
+    variables: &[u32],
+    v_to_c: &[f64],
+    c_to_v: &mut [f64],
+) -> bool
+    requires { ⌜ PerEdge (length (now variables)) (now «v_to_c») (now «c_to_v») ⌝ }
+    ensures skipped { λ r. ⌜ r ≡ ltb (length (now (variables .entry))) 2 ⌝ }
+    ensures messages { λ r. ⌜ now («c_to_v» .exit) ≡ cond r (now («c_to_v» .entry)) (checkMessages scale odd (now («v_to_c» .entry))) ⌝ }
+{
+    if variables.len() < 2 {
+        return true;
+    }
+    send_check(scale, odd, v_to_c, c_to_v);
+    false
+}
+
+// That, for the check whose entries and messages lie from `start` to `end`.
 pub(crate) fn update_part(
     scale: f64,
     odd: bool,
     start: usize,
     end: usize,
+    check_var: &[u32],
     v_to_c: &[f64],
     c_to_v: &mut [f64],
-)
-    requires { ⌜ (start ≤ end) × (end ≤ length (now «v_to_c»)) × (length (now «c_to_v») ≡ length (now «v_to_c»)) ⌝ }
-    ensures { λ _. ⌜
+) -> bool
+    requires { ⌜ (start ≤ end) × (end ≤ length (now «check_var»)) ⌝ }
+    requires { ⌜ PerEdge (length (now «check_var»)) (now «v_to_c») (now «c_to_v») ⌝ }
+    ensures skipped { λ r. ⌜ r ≡ ltb (length (part start end (now («check_var» .entry)))) 2 ⌝ }
+    ensures messages { λ r. ⌜
         now («c_to_v» .exit)
-        ≡ spliced (now («c_to_v» .entry)) start end (checkMessages scale odd (part start end (now («v_to_c» .entry)))) ⌝ }
+        ≡ cond r (now («c_to_v» .entry))
+        (spliced (now («c_to_v» .entry)) start end (checkMessages scale odd (part start end (now («v_to_c» .entry))))) ⌝ }
 {
-    update_check(scale, odd, &v_to_c[start..end], &mut c_to_v[start..end]);
+    update_check(
+        scale,
+        odd,
+        &check_var[start..end],
+        &v_to_c[start..end],
+        &mut c_to_v[start..end],
+    )
 }

@@ -2,19 +2,11 @@
 ghost use mathlib.Core.Path.{_≡_};
 ghost use mathlib.Core.List.{[]};
 ghost use Prim.Native.Nat.{_<_};
-ghost use lib.Dec.{ltb};
 ghost use lib.ListN.{length};
 ghost use Rattle.graph_lists.specs.Sound.{Offsets};
 ghost use Rattle.graph_messages.specs.Needs.{Walks, walked, ofChecks, ofVariables, PerEdge};
 ghost use Rattle.min_sum_pass.specs.MinSum.{messages, parallelCheck, serialCheck, checksTo, serialTo, variablesTo};
 ghost use Rattle.min_sum_pass.specs.MinSum.{runningAverage as mixedOf, averaged};
-
-// A check with so few entries is skipped.
-fn too_few(entries: &[u32]) -> bool
-    ensures { λ r. ⌜ r ≡ ltb (length (now (entries .entry))) 2 ⌝ }
-{
-    entries.len() < 2
-}
 
 // One check of an iteration that is not serial.
 fn parallel_check(
@@ -36,10 +28,15 @@ fn parallel_check(
 {
     let start = graph_lists::indices::at(check_offset, c);
     let end = graph_lists::indices::at(check_offset, c + 1);
-    if too_few(&check_var[start..end]) {
-        return;
-    }
-    crate::check::update_part(scale, syndrome[c] != 0, start, end, v_to_c, c_to_v);
+    crate::check::update_part(
+        scale,
+        syndrome[c] != 0,
+        start,
+        end,
+        check_var,
+        v_to_c,
+        c_to_v,
+    );
 }
 
 // All checks of an iteration that is not serial.
@@ -160,10 +157,17 @@ fn serial_check(
 {
     let start = graph_lists::indices::at(check_offset, c);
     let end = graph_lists::indices::at(check_offset, c + 1);
-    if too_few(&check_var[start..end]) {
+    if crate::check::update_part(
+        scale,
+        syndrome[c] != 0,
+        start,
+        end,
+        check_var,
+        v_to_c,
+        c_to_v,
+    ) {
         return;
     }
-    crate::check::update_part(scale, syndrome[c] != 0, start, end, v_to_c, c_to_v);
     crate::variable::update_variables(
         &check_var[start..end],
         priors,

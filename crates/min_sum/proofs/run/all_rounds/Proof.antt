@@ -23,8 +23,8 @@ same-length-3 c = search needs
 returns : tie.Need-returns
 returns c = one-round _ _ _ _ _ _ _ _ _ (c .before .before .before .before .before .before .before .before .before .before .if1 .taken) (c .before .before .before .before .before .before .before .before .before .before .before .before .before .copy .ensures) (c .before .before .before .before .before .before .outer-round .ensures)
 
-two-outer-all-rounds-requires : tie.Need-two-outer-all-rounds-requires
-two-outer-all-rounds-requires c κs = let p = c .before .before .before .before .before .before .before .before .before .before .before .before .before .before .before .before .before .pre in (p .0, (p .1 .0, (p .1 .1 .0, p .1 .1 .1, c .before .before .before .before .before .before .copy .kept .1 .0 ∙ p .1 .1 .2)))
+two-outer-rounds-requires : tie.Need-two-outer-rounds-requires
+two-outer-rounds-requires c κs = let p = c .before .before .before .before .before .before .before .before .before .before .before .before .before .before .before .before .before .pre in (p .0, (p .1 .0, (p .1 .1 .0, p .1 .1 .1, c .before .before .before .before .before .before .copy .kept .1 .0 ∙ p .1 .1 .2)))
 
 same-length-4 : tie.Need-same-length-4
 same-length-4 c = search needs
@@ -48,7 +48,7 @@ all-rounds-spec =
     same-length-2
     same-length-3
     returns
-    two-outer-all-rounds-requires
+    two-outer-rounds-requires
     same-length-4
     same-length-5
     same-length-6

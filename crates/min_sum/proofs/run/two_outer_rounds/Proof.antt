@@ -26,7 +26,7 @@ same-length-3 c = search needs
 returns : tie.Need-returns
 returns c = c .before .before .before .before .before .before .outer-round2 .ensures ∙ ap (outerRound _ _ _ _ _ _ _) (c .before .before .before .before .before .before .before .before .before .before .before .before .before .before .before .before .outer-round .ensures)
 
-pub two-outer-all-rounds-spec : {M : Type 1} → statement M
-two-outer-all-rounds-spec =
+pub two-outer-rounds-spec : {M : Type 1} → statement M
+two-outer-rounds-spec =
     tie.close
     (tie.spec outer-round-requires outer-round-requires-2 same-length same-length-2 same-length-3 returns)

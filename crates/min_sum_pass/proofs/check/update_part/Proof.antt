@@ -1,5 +1,8 @@
 -- `min_sum_pass::check::update_part` meets its contract. The part that comes back stands where the part lent stood. Assumes nothing.
 use borrow.Rule.Slice.PartMut.{post-is}
+use Rattle.numbers.specs.Loops.{part}
+use Rattle.min_sum_pass.specs.MinSum.{checkMessages}
+use Rattle.min_sum_pass.proofs.Checks.{part-back}
 use borrow.Author.Needs.{needs}
 use Rattle.min_sum_pass.proofs.check.update_part.Statement.{statement}
 use Rattle.min_sum_pass.proofs.check.update_part.Tie as tie
@@ -28,6 +31,18 @@ part-update-check-start-2 c = search needs
 part-update-check-end-2 : tie.Need-part-update-check-end-2
 part-update-check-end-2 c = search needs
 
+mul-update-check-3 : tie.Need-mul-update-check-3
+mul-update-check-3 c = search needs
+
+sub-update-check-3 : tie.Need-sub-update-check-3
+sub-update-check-3 c = search needs
+
+part-update-check-start-3 : tie.Need-part-update-check-start-3
+part-update-check-start-3 c = search needs
+
+part-update-check-end-3 : tie.Need-part-update-check-end-3
+part-update-check-end-3 c = search needs
+
 update-check-requires : tie.Need-update-check-requires
 update-check-requires c κs = search needs
 
@@ -36,8 +51,10 @@ same-length c = search needs
 
 returns : tie.Need-returns
 returns c =
-    let b = c .before .before .before .before .before .before .before in
-    rw (post-is (b .args .start) (b .args .end) (b .args .c-to-v .now) (b .pre .0), c .before .before .update-check .ensures)
+    let b = c .before .before .before .before .before .before .before .before .before in
+    let u = c .before .before .update-check .ensures in
+    let sent = checkMessages (b .args .scale) (b .args .odd) (part (b .args .start) (b .args .end) (b .args .v-to-c .now)) in
+    (u .0, rw (post-is (b .args .start) (b .args .end) (b .args .c-to-v .now) (b .pre .0 .0), u .1) (part-back (b .args .start) (b .args .end) (b .args .c-to-v .now) sent (c .before .before .update-check .result) (b .pre .0 .0)))
 
 pub update-part-spec : {M : Type 1} → statement M
 update-part-spec =
@@ -51,6 +68,10 @@ update-part-spec =
     sub-update-check-2
     part-update-check-start-2
     part-update-check-end-2
+    mul-update-check-3
+    sub-update-check-3
+    part-update-check-start-3
+    part-update-check-end-3
     update-check-requires
     same-length
     returns)
