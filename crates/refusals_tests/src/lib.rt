@@ -4,6 +4,8 @@ ghost use mathlib.Core.Path.{_≡_};
 ghost use mathlib.Core.Bool.{_&&_};
 ghost use Prim.Native.Nat.{suc};
 ghost use lib.Dec.{eqb, leb};
+ghost use lib.Ieee.{lt};
+ghost use Rattle.numbers.specs.Floats.{zero⁺, isFinite};
 ghost use Rattle.refusals.specs.Tests.{isDone, unless as unlessOf, orElse};
 use refusals::Answer;
 use refusals::Refusal;
@@ -42,6 +44,22 @@ pub fn both(a: bool, b: bool) -> bool
         return b;
     }
     false
+}
+
+// ---- of floats
+
+// x is above zero.
+fn is_positive(x: f64) -> bool
+    ensures { λ r. ⌜ r ≡ lt zero⁺ x ⌝ }
+{
+    0.0 < x
+}
+
+// x is finite and above zero.
+pub fn finite_positive(x: f64) -> bool
+    ensures { λ r. ⌜ r ≡ (isFinite x && lt zero⁺ x) ⌝ }
+{
+    both(numbers::is_finite(x), is_positive(x))
 }
 
 // ---- of refusals

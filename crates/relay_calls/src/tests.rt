@@ -17,12 +17,12 @@ use numbers::is_finite;
 use refusals::Answer;
 use refusals::Refusal;
 use refusals_tests::both;
+use refusals_tests::finite_positive;
 use refusals_tests::is_done;
 use refusals_tests::or_else;
 use refusals_tests::same_number;
 use refusals_tests::unless;
 use relay_orders::names_fault;
-use relay_settings::alpha_good;
 
 // A byte of a syndrome is 0 or 1.
 fn is_bit(b: u8) -> bool
@@ -147,7 +147,7 @@ fn step_fault(
     );
     let lists = or_else(unless(fit, Refusal::LentListLength), names);
     or_else(
-        unless(alpha_good(alpha), Refusal::BadAlpha),
+        unless(finite_positive(alpha), Refusal::BadAlpha),
         or_else(syndrome_fault(size.checks, syndrome), lists),
     )
 }

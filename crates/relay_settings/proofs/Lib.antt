@@ -1,2 +1,3 @@
 -- The laws that stand by themselves, for the proofs of this crate.
 pub mod Products
+pub mod Sizes

@@ -1,13 +1,13 @@
--- Relay's settings: the published operating point, and refusals 10 to 19 of docs/REFERENCE.md in their order. Definitions only. Assumes nothing.
+-- Relay's settings: the published operating point, and their tests, 1 and 10 to 19 of docs/REFERENCE.md in their order. Definitions only. Assumes nothing.
 use Prim.Native.Nat.{ℕ, _*_}
 use mathlib.Core.Bool.{Bool, _&&_, _||_}
 use mathlib.Core.List.{List}
 use lib.Dec.{eqb, leb}
 use lib.Ieee.{Float, nan, binary64, ofBits, lt, le}
 use lib.ListN.{length, getD}
-use Rattle.numbers.specs.Limits.{maxCount}
+use Rattle.numbers.specs.Limits.{maxMechanisms, maxCount}
 use Rattle.numbers.specs.Floats.{_-ᶠ_, zero⁺, one⁺, isFinite}
-use Rattle.refusals.specs.declared.Refusal.the-variants.{BadAlpha, BadGamma0, BadIterations, TooManyLegs, BadLegIterations, BadGammaInterval, BadStop, NoGammaSets, GammaSetsLength, GammaNotFinite}
+use Rattle.refusals.specs.declared.Refusal.the-variants.{SizeAboveLimit, BadAlpha, BadGamma0, BadIterations, TooManyLegs, BadLegIterations, BadGammaInterval, BadStop, NoGammaSets, GammaSetsLength, GammaNotFinite}
 use Rattle.refusals.specs.declared.Answer.{Answer}
 use Rattle.refusals.specs.declared.Answer.the-variants.{Done}
 use Rattle.refusals.specs.Tests.{unless, orElse, firstOf}
@@ -77,3 +77,7 @@ settingsFault t mechanisms gammas =
     (orElse (unless (legIterationsGood (t .«num_legs») (t .«leg_iterations»)) BadLegIterations)
     (orElse (unless (intervalGood (t .«gamma_low») (t .«gamma_high»)) BadGammaInterval)
     (orElse (unless (leb 1 (t .«stop_after_converged»)) BadStop) (sourceFault (t .«gamma_source») (t .«num_legs») mechanisms gammas)))))))
+
+-- `check_settings`: 1, so that a place of 19 is below 2 ^ 32, then 10 to 19
+unfoldable pub checkSettings : Settings → ℕ → List Float → Answer
+checkSettings t mechanisms gammas = orElse (unless (leb mechanisms maxMechanisms) SizeAboveLimit) (settingsFault t mechanisms gammas)

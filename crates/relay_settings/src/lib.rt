@@ -4,18 +4,19 @@ ghost use mathlib.Core.Path.{_≡_};
 ghost use mathlib.Core.Bool.{_||_};
 ghost use Prim.Native.Nat.{_*_};
 ghost use lib.Dec.{leb, eqb};
-ghost use lib.Ieee.{lt, le};
+ghost use lib.Ieee.{le};
 ghost use lib.ListN.{length};
-ghost use Rattle.numbers.specs.Floats.{zero⁺};
 ghost use Rattle.refusals.specs.Tests.{firstOf};
-ghost use Rattle.relay_settings.specs.Settings.{published, alphaGood, preGood, legIterationsGood, intervalGood, setsGood, gammaFault};
+ghost use Rattle.relay_settings.specs.Settings.{published, checkSettings, preGood, legIterationsGood, intervalGood, setsGood, gammaFault};
 ghost use Rattle.relay_settings.specs.Settings.{sourceFault, settingsFault};
 use numbers::is_finite;
 use numbers::limits::MAX_COUNT;
+use numbers::limits::MAX_MECHANISMS;
 use refusals::Answer;
 use refusals::Refusal;
 use refusals_tests::at_most;
 use refusals_tests::both;
+use refusals_tests::finite_positive;
 use refusals_tests::or_else;
 use refusals_tests::unless;
 
@@ -69,13 +70,6 @@ impl Settings {
     }
 }
 
-// x is above zero.
-fn is_positive(x: f64) -> bool
-    ensures { λ r. ⌜ r ≡ lt zero⁺ x ⌝ }
-{
-    0.0 < x
-}
-
 // low is not above high.
 fn in_order(low: f64, high: f64) -> bool
     ensures { λ r. ⌜ r ≡ le low high ⌝ }
@@ -91,13 +85,6 @@ fn some_or_no_legs(n: usize, legs: usize) -> bool
         return true;
     }
     legs == 0
-}
-
-// 10.
-pub fn alpha_good(alpha: f64) -> bool
-    ensures { λ r. ⌜ r ≡ alphaGood alpha ⌝ }
-{
-    both(is_finite(alpha), is_positive(alpha))
 }
 
 // 12.
@@ -184,7 +171,7 @@ fn source_fault(source: GammaSource, legs: usize, mechanisms: usize, gammas: &[f
 }
 
 // `validate_config`: 10 to 19.
-pub fn check_settings(t: Settings, mechanisms: usize, gammas: &[f64]) -> Answer
+fn settings_fault(t: Settings, mechanisms: usize, gammas: &[f64]) -> Answer
     ensures { λ r. ⌜ r ≡ settingsFault t mechanisms (now (gammas .entry)) ⌝ }
 {
     let source = t.gamma_source;
@@ -211,7 +198,17 @@ pub fn check_settings(t: Settings, mechanisms: usize, gammas: &[f64]) -> Answer
         ),
     );
     or_else(
-        unless(alpha_good(t.alpha), Refusal::BadAlpha),
+        unless(finite_positive(t.alpha), Refusal::BadAlpha),
         or_else(unless(is_finite(t.gamma0), Refusal::BadGamma0), counts),
+    )
+}
+
+// 1, then 10 to 19. Without the size a place of 19 could pass 32 bits.
+pub fn check_settings(t: Settings, mechanisms: usize, gammas: &[f64]) -> Answer
+    ensures { λ r. ⌜ r ≡ checkSettings t mechanisms (now (gammas .entry)) ⌝ }
+{
+    or_else(
+        unless(at_most(mechanisms, MAX_MECHANISMS), Refusal::SizeAboveLimit),
+        settings_fault(t, mechanisms, gammas),
     )
 }

@@ -13,7 +13,7 @@ use Rattle.refusals.specs.Tests.{unless, orElse}
 use Rattle.graph_lists.specs.Graph.{Graph, graph}
 use Rattle.graph_lists.specs.Model.{BuildOutcome, buildSparse}
 use Rattle.relay_settings.specs.declared.Settings.{Settings}
-use Rattle.relay_settings.specs.Settings.{settingsFault}
+use Rattle.relay_settings.specs.Settings.{checkSettings}
 use Rattle.relay_calls.specs.declared.Decoded.{Decoded}
 use Rattle.relay_calls.specs.declared.Decoded.the-variants as Decoded
 use Rattle.relay_calls.specs.Calls as Calls
@@ -75,7 +75,7 @@ modelFault p =
 
 -- settings: 10 to 16; their source is seeded
 unfoldable pub settingsAnswer : List ℕ → Answer
-settingsAnswer p = settingsFault (settingsRead p) 0 []
+settingsAnswer p = checkSettings (settingsRead p) 0 []
 
 -- `decode` of a shot over a model's payload, by way of the lists lent
 unfoldable pub decodedFrom : ℕ → List ℕ → Settings → List ℕ → ℕ → ModelLists → Graph → Calls.DecodeLists → Calls.DecodeOutcome

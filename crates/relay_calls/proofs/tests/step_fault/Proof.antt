@@ -1,5 +1,6 @@
 -- `relay_calls::tests::step_fault` meets its contract. Each test is the definition's, and so is their order.
 -- Assumes nothing.
+use Rattle.relay_settings.specs.Settings.{alphaGood}
 use borrow.Author.Needs.{needs}
 use Rattle.relay_calls.proofs.tests.step_fault.Statement.{statement}
 use Rattle.relay_calls.proofs.tests.step_fault.Tie as tie
@@ -25,8 +26,8 @@ unless-requires-2 c κs = search needs
 or-else-requires-2 : tie.Need-or-else-requires-2
 or-else-requires-2 c κs = search needs
 
-alpha-good-requires : tie.Need-alpha-good-requires
-alpha-good-requires c κs = search needs
+finite-positive-requires : tie.Need-finite-positive-requires
+finite-positive-requires c κs = search needs
 
 unless-requires-3 : tie.Need-unless-requires-3
 unless-requires-3 c κs = search needs
@@ -41,7 +42,8 @@ or-else-requires-4 : tie.Need-or-else-requires-4
 or-else-requires-4 c κs = search needs
 
 returns : tie.Need-returns
-returns c = rw (c .or-else4 .ensures, c .before .or-else3 .ensures, c .before .before .syndrome-fault .ensures, c .before .before .before .unless3 .ensures, c .before .before .before .before .alpha-good .ensures, c .before .before .before .before .before .or-else2 .ensures, c .before .before .before .before .before .before .unless2 .ensures, c .before .before .before .before .before .before .before .or-else .ensures, c .before .before .before .before .before .before .before .before .unless .ensures, c .before .before .before .before .before .before .before .before .before .names-fault .ensures, c .before .before .before .before .before .before .before .before .before .before .state-finite .ensures, c .before .before .before .before .before .before .before .before .before .before .before .lists-fit .ensures)
+unfolding alphaGood
+returns c = rw (c .or-else4 .ensures, c .before .or-else3 .ensures, c .before .before .syndrome-fault .ensures, c .before .before .before .unless3 .ensures, c .before .before .before .before .finite-positive .ensures, c .before .before .before .before .before .or-else2 .ensures, c .before .before .before .before .before .before .unless2 .ensures, c .before .before .before .before .before .before .before .or-else .ensures, c .before .before .before .before .before .before .before .before .unless .ensures, c .before .before .before .before .before .before .before .before .before .names-fault .ensures, c .before .before .before .before .before .before .before .before .before .before .state-finite .ensures, c .before .before .before .before .before .before .before .before .before .before .before .lists-fit .ensures)
 
 pub step-fault-spec : {M : Type 1} → statement M
 step-fault-spec =
@@ -54,7 +56,7 @@ step-fault-spec =
     or-else-requires
     unless-requires-2
     or-else-requires-2
-    alpha-good-requires
+    finite-positive-requires
     unless-requires-3
     syndrome-fault-requires
     or-else-requires-3

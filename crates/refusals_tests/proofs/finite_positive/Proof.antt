@@ -1,8 +1,7 @@
--- `relay_settings::alpha_good` meets its contract. It answers by the two tests of the definition. Assumes nothing.
-use Rattle.relay_settings.specs.Settings.{alphaGood}
+-- `refusals_tests::finite_positive` meets its contract. It answers by the two tests. Assumes nothing.
 use borrow.Author.Needs.{needs}
-use Rattle.relay_settings.proofs.alpha_good.Statement.{statement}
-use Rattle.relay_settings.proofs.alpha_good.Tie as tie
+use Rattle.refusals_tests.proofs.finite_positive.Statement.{statement}
+use Rattle.refusals_tests.proofs.finite_positive.Tie as tie
 
 is-finite-requires : tie.Need-is-finite-requires
 is-finite-requires c κs = search needs
@@ -14,9 +13,8 @@ both-requires : tie.Need-both-requires
 both-requires c κs = search needs
 
 returns : tie.Need-returns
-unfolding alphaGood
 returns c = cc
 
-pub alpha-good-spec : {M : Type 1} → statement M
-alpha-good-spec =
+pub finite-positive-spec : {M : Type 1} → statement M
+finite-positive-spec =
     tie.close (tie.spec is-finite-requires is-positive-requires both-requires returns)
