@@ -44,7 +44,7 @@ saturation = fin false 15 (pos 1)
 
 -- ---- what is asked of one float
 
--- `x.abs()`
+-- `x.abs()`. A NaN is one value here, so that this says nothing of its bits
 unfoldable pub abs : Float → Float
 abs nan = nan
 abs (inf s) = inf false

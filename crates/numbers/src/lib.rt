@@ -1,5 +1,6 @@
-// What the decoder reckons with, for users and all crates above: a float's magnitude and its signs, bit for bit as the Rust's; the
-// product modulo 2^64 and the generator SplitMix64, with the gamma of a draw. No function asks anything of its caller.
+// Inner: what the decoder reckons with: the limits; a float's magnitude and its signs, bit for bit as the Rust's, but for a NaN, whose bits
+// are nobody's: `abs` clears its sign bit, and `magnitude` gives it back as it is; the product modulo 2^64 and the generator SplitMix64, with
+// the gamma of a draw. No function asks anything of its caller.
 pub mod limits;
 
 ghost use mathlib.Core.Path.{_≡_};
@@ -10,7 +11,7 @@ ghost use Rattle.numbers.specs.Draw.{product, advanced, mixed, unit as u
 
 // ---- floats
 
-// `x.abs()`: the bits without the sign's. A comparison rules out a NaN, whose bits are nobody's, and no branch waits on the sign.
+// `x.abs()`: the bits without the sign's, and a NaN as it is. A comparison rules it out, and no branch waits on the sign.
 pub fn magnitude(x: f64) -> f64
     ensures { λ r. ⌜ r ≡ abs x ⌝ }
 {

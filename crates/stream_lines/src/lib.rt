@@ -1,4 +1,4 @@
-// The lines that `shots` writes, for users. Each is written at the front of a lent array, and its length is the answer.
+// Inner: the lines that `shots` writes. Each is written at the front of a lent array, and its length is the answer.
 ghost use mathlib.Core.Path.{_≡_};
 ghost use mathlib.Core.List.{[], _∷_, map};
 ghost use Prim.Native.Nat.{_+_, _<_, _≤_};

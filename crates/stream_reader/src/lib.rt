@@ -1,5 +1,5 @@
-// The record stream, for users: judged record by record. It is read byte by byte, in pieces of any size: what a record says is kept in a
-// small struct, its payload in a lent list, and no record's length makes the reading fail or stop. Every call takes every input.
+// Inner: the record stream, judged record by record. It is read byte by byte, in pieces of any size: what a record says is kept in a small
+// struct, its payload in a lent list, and no record's length makes the reading fail or stop. Every call takes every input.
 mod step;
 
 ghost use mathlib.Core.Path.{_≡_};
