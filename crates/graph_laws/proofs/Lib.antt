@@ -1,0 +1,2 @@
+-- Theorems of the graph's calls.
+pub mod Theorems

@@ -1,0 +1,1 @@
+// Theorems of Relay's calls, and no code: see proofs/Theorems.antt.
