@@ -5,6 +5,7 @@ use mathlib.Core.Bool.{Bool, true, false}
 use mathlib.Core.List.{List}
 use mathlib.Core.Logic.{⊎-elim}
 use native.Mathlib.Omega.{arith}
+use lib.Dec.{leb}
 use lib.Ieee.{Float, nan}
 use lib.ListN.{length, getD, drop, set, replicate, length-set, length-replicate, length-append, getD-replicate, List·getD-append}
 use lib.Seq.{getD-set-same, getD-set-other}
@@ -23,7 +24,7 @@ use Rattle.relay_laws.specs.Legs.{runAfter, legAt, recordAt}
 -- ---- records out of values
 
 -- values are read back
-values-read : (r : LegRecord) → recordOf (valuesOf r .legState) (valuesOf r .legIterations) (valuesOf r .legWeight) ≡ r
+pub values-read : (r : LegRecord) → recordOf (valuesOf r .legState) (valuesOf r .legIterations) (valuesOf r .legWeight) ≡ r
 values-read (LegRecord.Converged weight iterations) = refl
 values-read (LegRecord.RanOut iterations) = refl
 values-read LegRecord.NotExecuted = refl
@@ -151,7 +152,10 @@ module _ (x : Shot) where
   legs-finished : (n r : ℕ) (run : Run) → r + n ≡ many → legsFrom x n (running (runAfter x r)) r ≡ decoded run → Finished run
   unfolding legsFrom afterLeg runAfter
   legs-finished zero r run h e = let s : runAfter x r ≡ run = cc in same-finished run (runAfter x r) s (after-finished r (omega arith))
-  legs-finished (suc n) r run h e = judged-finished n r _ _ run (omega arith) (λ q. legs-finished n (suc r) run (omega arith) q) e
+  legs-finished (suc n) r run h e =
+      let new = runAfter x (suc r) in
+      judged-finished n r (posteriorFault (x .graph) (new .posterior)) (leb (x .settings .«stop_after_converged») (new .numConverged)) run (omega arith)
+      (λ q. legs-finished n (suc r) run (omega arith) q) e
 
   -- all legs
   pub decode-finished : (run : Run) → decodeLegs x ≡ decoded run → Finished run

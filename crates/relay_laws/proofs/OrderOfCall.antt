@@ -95,12 +95,12 @@ module _ (edges : ℕ) (x : Shot) (l : DecodeLists) (others : OthersPass edges x
   -- a refusal of theirs is the answer
   answer-refused : (r : Refusal) → orElse names exchange ≡ Refused r → given ≡ Decoded.Refused r
   unfolding decodeInOrder
-  answer-refused r e = rw (tests-are ∙ e)
+  answer-refused r e = ap (λ (a : Answer). afterDecodeTests a (afterLegs edges x (decodeLegs x) l) l .answer) (tests-are ∙ e)
 
   -- past them the legs answer
   answer-passed : orElse names exchange ≡ Done → given ≡ afterLegs edges x (decodeLegs x) l .answer
   unfolding decodeInOrder
-  answer-passed e = rw (tests-are ∙ e)
+  answer-passed e = ap (λ (a : Answer). afterDecodeTests a (afterLegs edges x (decodeLegs x) l) l .answer) (tests-are ∙ e)
 
   -- which is no refusal, or 30
   legs-answer : (e : Ended) → Ends e → (refusedWith (afterLegs edges x e l .answer) ≡ 0) ⊎ (refusedWith (afterLegs edges x e l .answer) ≡ 30)

@@ -22,7 +22,7 @@ use Rattle.relay_calls.specs.Calls.{DecodeLists, DecodeOutcome, decodeOutcome, 
 use Rattle.relay_laws.specs.Legs.{runAfter, recordAt}
 use Rattle.relay_laws.specs.Orders.{OrderGood, refusedWith, OthersPass}
 use Rattle.relay_laws.proofs.OrderOfCall.{order-taken, exchange-placed}
-use Rattle.relay_laws.proofs.LegLists.{Entry, entry-over, Held, held-all, Finished, decode-finished}
+use Rattle.relay_laws.proofs.LegLists.{values-read, entry-over, Held, held-all, Finished, decode-finished}
 
 -- ---- demand 3 of the call
 
@@ -48,9 +48,7 @@ decode-is-index-order edges x l a b p q h k = let e = h ∙ sym k in (ap (λ (o 
 
 -- "In the lent leg lists these are 2, 1, 0": a record is read back from its values
 pub values-back : (r : LegRecord) → recordOf (valuesOf r .legState) (valuesOf r .legIterations) (valuesOf r .legWeight) ≡ r
-values-back (LegRecord.Converged weight iterations) = refl
-values-back (LegRecord.RanOut iterations) = refl
-values-back LegRecord.NotExecuted = refl
+values-back = values-read
 
 -- how many legs an answer says
 answered-legs : (run : Run) (w : Option Float) → summaryOf (answered run w) .executedLegs ≡ run .executedLegs
