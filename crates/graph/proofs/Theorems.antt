@@ -177,7 +177,8 @@ checked-built edges priors g h =
     let t = graph-told edges priors g h in
     let n : length (g .checkVar) ≡ edges = t .long .check-var in
     ap (λ (k : ℕ). buildSparse k priors (g .varOffset) (g .varCheck) g) (sym n)
-    ∙ built-from g g (ownIncidence g) priors (is-graph-told g (t .is-graph)) (t .few .checks-few) (t .few .mechanisms-few) (omega (arith, n, t .few .edges-few)) (record { many = t .priors-many; good = t .priors-good })
+    ∙ built-from g g (ownIncidence g) priors (is-graph-told g (t .is-graph)) (t .few .checks-few) (t .few .mechanisms-few) (omega (arith, n, t .few .edges-few))
+    (record { many = t .priors-many; good = t .priors-good })
     (rw n (t .fits))
 
 -- ---- one result
@@ -196,7 +197,8 @@ pub sparse-once : (edges : ℕ) (priors : List Float) (off dets : List ℕ) (old
 sparse-once edges priors off dets old a b g h p q = outcomes a b g h (coincide _ _ _ p q)
 
 -- Two that the contract of `build_dense` allows.
-pub dense-once : (priors : List Float) (matrix : List ℕ) (old : Graph) (a b : Answer) (g h : Graph) → buildOutcome a g ≡ buildDense priors matrix old → buildOutcome b h ≡ buildDense priors matrix old → (a ≡ b) × (g ≡ h)
+pub dense-once : (priors : List Float) (matrix : List ℕ) (old : Graph)
+    (a b : Answer) (g h : Graph) → buildOutcome a g ≡ buildDense priors matrix old → buildOutcome b h ≡ buildDense priors matrix old → (a ≡ b) × (g ≡ h)
 dense-once priors matrix old a b g h p q = outcomes a b g h (coincide _ _ _ p q)
 
 -- Two that the contract of `count_edges` allows.

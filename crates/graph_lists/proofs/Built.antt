@@ -95,7 +95,9 @@ module _ (checks mechanisms : ℕ) (inc : ℕ → ℕ → Bool) where
             let x = entry r (u .0) h (u .1) in
             let y = entry r (v .0) h (v .1) in
             let z : u .0 ≡ v .0 =
-            sym (x .counts) ∙ ap (λ (k : ℕ). length (passing k (inc r))) (ap (λ (k : ℕ). getD (entries checks mechanisms inc) k 0) (sym (u .2)) ∙ e ∙ ap (λ (k : ℕ). getD (entries checks mechanisms inc) k 0) (v .2)) ∙ y .counts in
+            sym (x .counts) ∙ ap (λ (k : ℕ). length (passing k (inc r)))
+            (ap (λ (k : ℕ). getD (entries checks mechanisms inc) k 0)
+            (sym (u .2)) ∙ e ∙ ap (λ (k : ℕ). getD (entries checks mechanisms inc) k 0) (v .2)) ∙ y .counts in
             omega (arith, u .2, v .2);
       }
 
@@ -107,7 +109,8 @@ module _ (checks mechanisms : ℕ) (inc : ℕ → ℕ → Bool) where
       let n : q < length (mechanismsOf mechanisms inc c) = passing-counts (inc c) m mechanisms l t in
       let a = offsets-at checks c (mechanismsOf mechanisms inc) (omega arith) in
       let b = offsets-at checks (suc c) (mechanismsOf mechanisms inc) h in
-      among-yes checks (offsets checks (mechanismsOf mechanisms inc)) (entries checks mechanisms inc) graph-offsets m c (start (mechanismsOf mechanisms inc) c + q) h (omega (arith, a)) (omega (arith, b, start-suc (mechanismsOf mechanisms inc) c))
+      among-yes checks (offsets checks (mechanismsOf mechanisms inc)) (entries checks mechanisms inc) graph-offsets m c
+      (start (mechanismsOf mechanisms inc) c + q) h (omega (arith, a)) (omega (arith, b, start-suc (mechanismsOf mechanisms inc) c))
       (joined-at (mechanismsOf mechanisms inc) c checks q h n ∙ passing-at (inc c) m mechanisms l t)
 
   -- what stands in its part is a mechanism of the check
@@ -155,7 +158,8 @@ module _ (checks mechanisms : ℕ) (inc : ℕ → ℕ → Bool) where
 
   -- the same, with the numbers
   pub finished : (checkVar checkMessage checkOffset varCheck varMessage varOffset : List ℕ) → checkVar ≡ entries checks mechanisms inc → checkOffset ≡ offsets checks (mechanismsOf mechanisms inc)
-      → Finished checks mechanisms checkVar checkMessage checkOffset varCheck varMessage varOffset → graph checks mechanisms checkVar checkMessage checkOffset varCheck varMessage varOffset ≡ graphOf checks mechanisms inc
+      → Finished checks mechanisms checkVar checkMessage checkOffset varCheck varMessage varOffset → graph checks mechanisms checkVar checkMessage checkOffset
+      varCheck varMessage varOffset ≡ graphOf checks mechanisms inc
   finished checkVar checkMessage checkOffset varCheck varMessage varOffset em eo f =
       second-pass checkOffset checkVar checkMessage varOffset varCheck varMessage em eo (f .numbers ∙ ap (λ (x : List ℕ). upto (length x)) em) (f .pass)
 

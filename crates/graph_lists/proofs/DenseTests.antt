@@ -54,7 +54,8 @@ module _ (checks mechanisms edges : ℕ) (priors : List Float) (bytes : ℕ) (fi
   pub dense-5 : (a : Answer) → countsGood checks mechanisms ≡ true → denseFits checks mechanisms (length priors) bytes ≡ true → edgesGood edges ≡ true → fit ≡ true
       → a ≡ firstOf (length priors) (priorFault priors) → a ≡ denseFault checks mechanisms edges priors bytes fit
   unfolding denseFault orElse unless
-  dense-5 a h k l m e = rw (h, k, l, m) (e ∙ ap (λ (n : ℕ). firstOf n (priorFault priors)) (eqb-true (length priors) mechanisms (and-both (eqb bytes (checks * mechanisms)) (eqb (length priors) mechanisms) k .1)))
+  dense-5 a h k l m e = rw (h, k, l, m) (e ∙ ap (λ (n : ℕ). firstOf n
+      (priorFault priors)) (eqb-true (length priors) mechanisms (and-both (eqb bytes (checks * mechanisms)) (eqb (length priors) mechanisms) k .1)))
 
   -- what they tell where none refuses
   pub record DenseTold : Type 0 where

@@ -104,12 +104,14 @@ module _ (inc : ℕ → ℕ → Bool) (priors : List Float) (old : Graph) (hc : 
   passed-all =
       sparse-4 (old .checks) (old .mechanisms) _ priors _ _ true Done
       (sizes-few (old .checks) (old .mechanisms) (length (entries (old .checks) (old .mechanisms) inc)) hc hm he)
-      (lengths-fit (old .mechanisms) (length (entries (old .checks) (old .mechanisms) inc)) _ _ _ true (p .many) (length-offsets (old .mechanisms) _) (sym (graph-length (old .checks) (old .mechanisms) inc)) refl)
+      (lengths-fit (old .mechanisms) (length (entries (old .checks) (old .mechanisms) inc)) _ _ _ true (p .many) (length-offsets (old .mechanisms) _) (sym
+      (graph-length (old .checks) (old .mechanisms) inc)) refl)
       cut
       (sym (first-none _ (old .mechanisms) none))
 
   -- and the model builds the graph
-  pub some-model : buildSparse (length (entries (old .checks) (old .mechanisms) inc)) priors (offsets (old .mechanisms) (checksOf (old .checks) inc)) (joined (old .mechanisms) (checksOf (old .checks) inc)) old
+  pub some-model : buildSparse (length (entries (old .checks) (old .mechanisms) inc)) priors (offsets (old .mechanisms) (checksOf (old .checks) inc)) (joined
+      (old .mechanisms) (checksOf (old .checks) inc)) old
       ≡ buildOutcome Done (graphOf (old .checks) (old .mechanisms) inc)
   some-model =
       sym (sparse-done _ priors _ _ Done true old (sym fit) passed-all _ refl refl)
@@ -134,4 +136,6 @@ graph-checked checks mechanisms edges inc priors hc hm he n p =
     let g : Graph = graphOf checks mechanisms inc in
     let fits : (eqb (length priors) mechanisms && graphFits edges (graphOf checks mechanisms inc)) ≡ true =
     rw (eq-eqb (length priors) mechanisms (p .many), long-fits edges (graphOf checks mechanisms inc) (all-long checks mechanisms edges (graphOf checks mechanisms inc) inc n refl)) in
-    sym (fault-none edges priors (graphOf checks mechanisms inc) Done (sizes-few checks mechanisms edges hc hm he) fits (sym (good-none mechanisms priors p)) refl (is-graph-some checks mechanisms (graphOf checks mechanisms inc) inc refl))
+    sym (fault-none edges priors (graphOf checks mechanisms inc) Done
+    (sizes-few checks mechanisms edges hc hm he) fits (sym (good-none mechanisms priors p)) refl
+    (is-graph-some checks mechanisms (graphOf checks mechanisms inc) inc refl))

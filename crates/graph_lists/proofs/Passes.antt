@@ -72,7 +72,8 @@ module _ (edges : ℕ) (g : Graph) (f : Long edges g) (t : Passes edges g) where
   -- a variable has as many messages as checks
   pub lengths-agree : (v : ℕ) → v < (g .mechanisms) → length (row (g .varOffset) v (g .varMessage)) ≡ length (row (g .varOffset) v (g .varCheck))
   lengths-agree v h =
-      row-length (g .mechanisms) edges (g .varOffset) (g .varMessage) (t .var-cut) (f .var-message) v h ∙ sym (row-length (g .mechanisms) edges (g .varOffset) (g .varCheck) (t .var-cut) (f .var-check) v h)
+      row-length (g .mechanisms) edges (g .varOffset) (g .varMessage) (t .var-cut) (f .var-message) v h ∙ sym (row-length (g .mechanisms) edges (g .varOffset)
+      (g .varCheck) (t .var-cut) (f .var-check) v h)
 
   -- the messages of a variable rise, and it stands at each
   pub messages-rise : (v : ℕ) → v < (g .mechanisms) → Rising (length (g .checkVar)) (row (g .varOffset) v (g .varMessage))
@@ -152,14 +153,21 @@ module _ (edges : ℕ) (g : Graph) (f : Long edges g) (t : Passes edges g) where
           let v : ℕ = rowOf (g .varOffset) (g .mechanisms) i in
           let q : ℕ = i - getD (g .varOffset) v 0 in
           let e : getD (g .varOffset) v 0 + q ≡ i = omega (arith, r .from) in
-          let k : q < length (row (g .varOffset) v (g .varCheck)) = omega (arith, r .from, r .to, row-length (g .mechanisms) edges (g .varOffset) (g .varCheck) (t .var-cut) (f .var-check) v (r .below)) in
+          let k : q < length (row (g .varOffset) v (g .varCheck)) = omega (
+            arith,
+            r .from,
+            r .to,
+            row-length (g .mechanisms) edges (g .varOffset) (g .varCheck)
+                (t .var-cut) (f .var-check) v (r .below),
+          ) in
           let a : getD (row (g .varOffset) v (g .varCheck)) q 0 ≡ getD (g .varCheck) i 0 =
           row-at (g .mechanisms) edges (g .varOffset) (g .varCheck) (t .var-cut) (f .var-check) v q (r .below) k ∙ ap (λ (x : ℕ). getD (g .varCheck) x 0) e in
           let b : getD (row (g .varOffset) v (g .varMessage)) q 0 ≡ getD (g .varMessage) i 0 =
           row-at (g .mechanisms) edges (g .varOffset) (g .varMessage) (t .var-cut) (f .var-message) v q (r .below) (rw (lengths-agree v (r .below)) k) ∙ ap (λ (x : ℕ). getD (g .varMessage) x 0) e in
           let w = t .var-meets v q (r .below) k in
           sym a
-          ∙ sym (row-of (g .checks) _ (g .checkOffset) cut (getD (row (g .varOffset) v (g .varCheck)) q 0) (getD (row (g .varOffset) v (g .varMessage)) q 0) (t .var-rises v (r .below) .below q k) (w .from) (w .to))
+          ∙ sym (row-of (g .checks) _ (g .checkOffset) cut (getD (row
+          (g .varOffset) v (g .varCheck)) q 0) (getD (row (g .varOffset) v (g .varMessage)) q 0) (t .var-rises v (r .below) .below q k) (w .from) (w .to))
           ∙ ap (rowOf (g .checkOffset) (g .checks)) b
           ∙ sym (map-at (rowOf (g .checkOffset) (g .checks)) (g .varMessage) i (omega (arith, f .var-check, f .var-message)))
 
@@ -207,7 +215,8 @@ module _ (checks mechanisms : ℕ) (inc : ℕ → ℕ → Bool) where
           rw (row-at checks _ _ (entries checks mechanisms inc) o refl c i h l, a) (entry checks mechanisms inc c i h k)
 
       higher : (i j : ℕ) → i < j → j < length (row (offsets checks (mechanismsOf mechanisms inc)) c (entries checks mechanisms inc))
-          → getD (row (offsets checks (mechanismsOf mechanisms inc)) c (entries checks mechanisms inc)) i 0 < getD (row (offsets checks (mechanismsOf mechanisms inc)) c (entries checks mechanisms inc)) j 0
+          → getD (row (offsets checks (mechanismsOf mechanisms inc)) c
+          (entries checks mechanisms inc)) i 0 < getD (row (offsets checks (mechanismsOf mechanisms inc)) c (entries checks mechanisms inc)) j 0
       higher i j l m =
           let x = has i (omega arith) in
           let y = has j m in

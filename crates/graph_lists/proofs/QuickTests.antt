@@ -74,8 +74,11 @@ var-told : (g : Graph) (v : ℕ) → varGood g v ≡ true
 unfolding varGood entriesGood entryGood
 var-told g v h =
     let cs = row (g .varOffset) v (g .varCheck) in
-    let w = and-both _ _ h in
-    (rises-told (g .checks) cs (w .0), λ i l. met-told (g .checkOffset) (g .checkVar) v _ _ (every-at (length cs) (entryGood (g .checkOffset) (g .checkVar) v cs (row (g .varOffset) v (g .varMessage))) (w .1) i l))
+    let w = and-both _ _ h in (
+      rises-told (g .checks) cs (w .0),
+      λ i l. met-told (g .checkOffset) (g .checkVar) v _ _ (every-at (length cs) (entryGood (g .checkOffset) (g .checkVar) v cs
+          (row (g .varOffset) v (g .varMessage))) (w .1) i l),
+    )
 
 -- lists that pass the quick test have what it asks
 test-told : (edges : ℕ) (g : Graph) → Long edges g → graphTest edges g ≡ true → Passes edges g
@@ -116,7 +119,8 @@ var-good : (g : Graph) (v : ℕ) → Rising (g .checks) (row (g .varOffset) v (g
     → varGood g v ≡ true
 unfolding varGood entriesGood
 var-good g v r w =
-    rw (rises-test (g .checks) (row (g .varOffset) v (g .varCheck)) r) (every-true _ _ (λ i l. entry-good (g .checkOffset) (g .checkVar) v (row (g .varOffset) v (g .varCheck)) (row (g .varOffset) v (g .varMessage)) i (w i l)))
+    rw (rises-test (g .checks) (row (g .varOffset) v (g .varCheck)) r) (every-true _ _ (λ i l. entry-good (g .checkOffset) (g .checkVar) v (row (g .varOffset) v
+    (g .varCheck)) (row (g .varOffset) v (g .varMessage)) i (w i l)))
 
 -- how many edges a graph has
 own-length : (checks mechanisms : ℕ) (inc : ℕ → ℕ → Bool) → length (graphOf checks mechanisms inc .checkVar) ≡ length (entries checks mechanisms inc)

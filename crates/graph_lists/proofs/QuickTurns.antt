@@ -80,7 +80,8 @@ unfolding entriesGood
 entries-rest checks co cv v cs ms r h e = rw h e
 
 -- a check's part, cut out by the code
-pub check-is : (mechanisms : ℕ) (co cv : List ℕ) (c a e : ℕ) (r : Bool) → a ≡ getD co c 0 → e ≡ getD co (c + 1) 0 → r ≡ risesBelow mechanisms (take (e - a) (drop a cv)) → r ≡ checkGood mechanisms co cv c
+pub check-is : (mechanisms : ℕ) (co cv : List ℕ) (c a e : ℕ) (r : Bool) → a ≡ getD co c 0 → e ≡ getD co (c + 1) 0 → r ≡ risesBelow mechanisms (take (e - a)
+    (drop a cv)) → r ≡ checkGood mechanisms co cv c
 unfolding checkGood
 check-is mechanisms co cv c a e r p q h = let w : e ≡ getD co (suc c) 0 = rw add-one at q in rw (← p, ← w) h
 
@@ -108,19 +109,22 @@ module _ (edges : ℕ) (g : Graph) (f : Long edges g) where
   whole-2 a b = rw (a, b) at (test-is edges g f)
 
   -- a number fails
-  pub whole-3 : offsetsGood (g .checks) edges (g .checkOffset) ≡ true → every (g .checks) (checkGood (g .mechanisms) (g .checkOffset) (g .checkVar)) ≡ true → every edges (ownNumber (g .checkMessage)) ≡ false
+  pub whole-3 : offsetsGood (g .checks) edges (g .checkOffset) ≡ true → every
+      (g .checks) (checkGood (g .mechanisms) (g .checkOffset) (g .checkVar)) ≡ true → every edges (ownNumber (g .checkMessage)) ≡ false
       → false ≡ isGraph g
   unfolding graphTest
   whole-3 a b c = rw (a, b, c) at (test-is edges g f)
 
   -- the variable offsets fail
-  pub whole-4 : offsetsGood (g .checks) edges (g .checkOffset) ≡ true → every (g .checks) (checkGood (g .mechanisms) (g .checkOffset) (g .checkVar)) ≡ true → every edges (ownNumber (g .checkMessage)) ≡ true
+  pub whole-4 : offsetsGood (g .checks) edges (g .checkOffset) ≡ true → every
+      (g .checks) (checkGood (g .mechanisms) (g .checkOffset) (g .checkVar)) ≡ true → every edges (ownNumber (g .checkMessage)) ≡ true
       → offsetsGood (g .mechanisms) edges (g .varOffset) ≡ false → false ≡ isGraph g
   unfolding graphTest
   whole-4 a b c d = rw (a, b, c, d) at (test-is edges g f)
 
   -- the variables decide
-  pub whole-5 : (r : Bool) → offsetsGood (g .checks) edges (g .checkOffset) ≡ true → every (g .checks) (checkGood (g .mechanisms) (g .checkOffset) (g .checkVar)) ≡ true → every edges (ownNumber (g .checkMessage)) ≡ true
+  pub whole-5 : (r : Bool) → offsetsGood (g .checks) edges (g .checkOffset) ≡ true → every
+      (g .checks) (checkGood (g .mechanisms) (g .checkOffset) (g .checkVar)) ≡ true → every edges (ownNumber (g .checkMessage)) ≡ true
       → offsetsGood (g .mechanisms) edges (g .varOffset) ≡ true → r ≡ every (g .mechanisms) (varGood g) → r ≡ isGraph g
   unfolding graphTest
   whole-5 r a b c d e = e ∙ rw (a, b, c, d) at (test-is edges g f)

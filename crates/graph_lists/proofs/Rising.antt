@@ -91,7 +91,12 @@ module _ (p : ℕ → Bool) (n : ℕ) (us : List ℕ) (r : Rising n us) (passes 
     pub all-full : us ≡ passing n p
     all-full =
         let s = split n (omega arith) in
-        full (⊎-elim (λ l. absurd (omega (arith, s .high (length (passing n p)) (omega arith) l, r .below (length (passing n p)) l))) (λ l. omega (arith, s .within)) (less-or-not (length (passing n p)) (length us)))
+        full (⊎-elim (λ l. absurd (omega (
+          arith,
+          s .high (length (passing n p))
+              (omega arith) l,
+          r .below (length (passing n p)) l,
+        ))) (λ l. omega (arith, s .within)) (less-or-not (length (passing n p)) (length us)))
 
 -- ---- a list that is cut into parts
 

@@ -20,7 +20,8 @@ pub graph-same : (k n : ℕ) (a b c d e f a′ b′ c′ d′ e′ f′ : List �
 graph-same k n a b c d e f a′ b′ c′ d′ e′ f′ p q r s t u = rw (p, q, r, s, t, u)
 
 -- incidences that agree give a check the same mechanisms
-mechanisms-same : (checks mechanisms : ℕ) (i j : ℕ → ℕ → Bool) → ((c m : ℕ) → c < checks → m < mechanisms → i c m ≡ j c m) → (c : ℕ) → c < checks → mechanismsOf mechanisms i c ≡ mechanismsOf mechanisms j c
+mechanisms-same : (checks mechanisms : ℕ) (i j : ℕ → ℕ → Bool) → ((c m : ℕ) → c < checks → m < mechanisms → i c m ≡ j c m) →
+    (c : ℕ) → c < checks → mechanismsOf mechanisms i c ≡ mechanismsOf mechanisms j c
 unfolding mechanismsOf
 mechanisms-same checks mechanisms i j e c h = passing-same mechanisms (i c) (j c) (λ m l. e c m h l)
 
@@ -30,7 +31,8 @@ unfolding checksOf flipped
 checks-same checks mechanisms i j e m h = passing-same checks _ _ (λ c l. e c m l h)
 
 -- so the same check entries
-entries-same : (checks mechanisms : ℕ) (i j : ℕ → ℕ → Bool) → ((c : ℕ) → c < checks → mechanismsOf mechanisms i c ≡ mechanismsOf mechanisms j c) → entries checks mechanisms i ≡ entries checks mechanisms j
+entries-same : (checks mechanisms : ℕ) (i j : ℕ → ℕ → Bool) → ((c : ℕ) → c < checks → mechanismsOf mechanisms i c ≡ mechanismsOf mechanisms j c) → entries
+    checks mechanisms i ≡ entries checks mechanisms j
 unfolding entries
 entries-same checks mechanisms i j e = joined-same checks _ _ e
 

@@ -13,5 +13,11 @@ pub one-outcome : (edges : ℕ) (priors : List Float) (g : Graph) (syndrome : Li
     (p q : BeliefsLists) → beliefsOutcome a p ≡ beliefs edges priors g syndrome iterations scale serial l → beliefsOutcome b q ≡ beliefs edges priors g syndrome iterations scale serial l
     → (a ≡ b) × (p .posterior ≡ q .posterior) × (p .ewaPosterior ≡ q .ewaPosterior) × (p .cToV ≡ q .cToV) × (p .vToC ≡ q .vToC)
 one-outcome edges priors g syndrome iterations scale serial l a b p q h k =
-    let e = h ∙ sym k in
-    (ap (λ (o : BeliefsOutcome). o .answer) e, ap (λ (o : BeliefsOutcome). o .left .posterior) e, ap (λ (o : BeliefsOutcome). o .left .ewaPosterior) e, ap (λ (o : BeliefsOutcome). o .left .cToV) e, ap (λ (o : BeliefsOutcome). o .left .vToC) e)
+    let e = h ∙ sym k in (
+      ap (λ (o : BeliefsOutcome). o .answer) e,
+      ap (λ (o : BeliefsOutcome). o .left .posterior) e,
+      ap
+          (λ (o : BeliefsOutcome). o .left .ewaPosterior) e,
+      ap (λ (o : BeliefsOutcome). o .left .cToV) e,
+      ap (λ (o : BeliefsOutcome). o .left .vToC) e,
+    )

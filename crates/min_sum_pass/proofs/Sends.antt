@@ -36,7 +36,8 @@ module _ (scale sign min1 min2 : Float) (least : ℕ) (messages : List Float) (n
       → set (sentTo scale (scanOf sign min1 min1 0) messages n) least x ≡ sentTo scale (scanOf sign min1 min2 least) messages n
   unfolding sentTo
   least-put x h e =
-      rw (e ∙ there) (but-one n (λ i. sentAt scale (scanOf sign min1 min2 least) i (getD messages i nan)) (λ i. sentAt scale (scanOf sign min1 min1 0) i (getD messages i nan)) least nan h (λ i k q. elsewhere i q))
+      rw (e ∙ there) (but-one n (λ i. sentAt scale (scanOf sign min1 min2 least) i
+      (getD messages i nan)) (λ i. sentAt scale (scanOf sign min1 min1 0) i (getD messages i nan)) least nan h (λ i k q. elsewhere i q))
 
   -- and where it is nobody's
   least-nowhere : n ≤ least → sentTo scale (scanOf sign min1 min1 0) messages n ≡ sentTo scale (scanOf sign min1 min2 least) messages n

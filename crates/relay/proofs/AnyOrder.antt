@@ -36,7 +36,8 @@ module _ (edges : ℕ) (x : Shot) (l : DecodeLists) (names : namesFault (x .grap
   passed-sound h = passes-sound (x .graph) (graph-told edges (x .prior) (x .graph) (or-done _ _ h .0) .is-graph)
 
   -- whatever the tests say
-  whole-same : (a : Answer) → decodeFault edges x l ≡ a → afterDecodeTests a (afterLegs edges x (decodeLegs x) l) l ≡ afterDecodeTests a (afterLegs edges (inIndexOrder x) (decodeLegs (inIndexOrder x)) l) l
+  whole-same : (a : Answer) → decodeFault edges x l ≡ a → afterDecodeTests a (afterLegs edges x (decodeLegs x) l) l ≡ afterDecodeTests a (afterLegs edges
+      (inIndexOrder x) (decodeLegs (inIndexOrder x)) l) l
   whole-same Done h =
       ap (λ e. afterLegs edges x e l) (decode-same x (passed-sound h) (names-told (x .graph .checks) (x .order) names) free) ∙ left-same (decodeLegs (inIndexOrder x))
   whole-same (Refused r) h = refl

@@ -203,7 +203,8 @@ module _ (g : Graph) (sound : Sound g) (alpha : Float) (syndrome : List ℕ) (bi
   unfolding updateCheck
   swap-checks a b h k s z =
       state-is
-      (spliced-swap (s .cToV) nan (start a) (start (suc a)) (start b) (start (suc b)) (new s a) (new s b) (sound .check-parts .rises a (omega arith)) (off-rises a b h k) (sound .check-parts .rises b k)
+      (spliced-swap (s .cToV) nan (start a) (start (suc a)) (start b) (start
+      (suc b)) (new s a) (new s b) (sound .check-parts .rises a (omega arith)) (off-rises a b h k) (sound .check-parts .rises b k)
       (omega (arith, part-ends b k, z .out)) (new-length a (omega arith) s z) (new-length b k s z))
       refl
       refl
@@ -249,10 +250,12 @@ module _ (g : Graph) (sound : Sound g) (alpha : Float) (syndrome : List ℕ) (bi
       go (v ∷ us) (cons k ks) (cons l ls) = cons (λ s z. (swap-mixed c v h k l s z, keep-variable v s z)) (go us ks ls)
 
   -- a variable, after others
-  variable-past : (w : ℕ) → w < g .mechanisms → (vs : List ℕ) → All (λ v. v < g .mechanisms) vs → All (λ v. v ≡ w → ⊥) vs → (s : State) → Sized g s → foldl variable (variable s w) vs ≡ variable (foldl variable s vs) w
+  variable-past : (w : ℕ) → w < g .mechanisms → (vs : List ℕ) → All
+      (λ v. v < g .mechanisms) vs → All (λ v. v ≡ w → ⊥) vs → (s : State) → Sized g s → foldl variable (variable s w) vs ≡ variable (foldl variable s vs) w
   variable-past w h vs b t = past (Sized g) variable (λ s. variable s w) (go vs b t)
     where
-      go : (us : List ℕ) → All (λ v. v < g .mechanisms) us → All (λ v. v ≡ w → ⊥) us → All (λ v. (s : State) → Sized g s → (variable (variable s w) v ≡ variable (variable s v) w) × Sized g (variable s v)) us
+      go : (us : List ℕ) → All (λ v. v < g .mechanisms) us → All (λ v. v ≡ w → ⊥) us → All (λ v. (s : State) → Sized g s → (variable (variable s w) v ≡ variable
+          (variable s v) w) × Sized g (variable s v)) us
       go [] nil nil = nil
       go (v ∷ us) (cons k ks) (cons l ls) = cons (λ s z. (sym (swap-variables v w k h l s), keep-variable v s z)) (go us ks ls)
 

@@ -31,8 +31,14 @@ pub one-step : (edges : ℕ) (prior : List Float) (g : Graph) (schedule : Schedu
     → stepOutcome b q ≡ iterationCall edges prior g schedule alpha gamma syndrome order l
     → (a ≡ b) × (p .now .cToV ≡ q .now .cToV) × (p .now .vToC ≡ q .now .vToC) × (p .now .posterior ≡ q .now .posterior) × (p .bias ≡ q .bias)
 one-step edges prior g schedule alpha gamma syndrome order l a b p q h k =
-    let e = h ∙ sym k in
-    (ap (λ (o : StepOutcome). o .answer) e, ap (λ (o : StepOutcome). o .left .now .cToV) e, ap (λ (o : StepOutcome). o .left .now .vToC) e, ap (λ (o : StepOutcome). o .left .now .posterior) e, ap (λ (o : StepOutcome). o .left .bias) e)
+    let e = h ∙ sym k in (
+      ap (λ (o : StepOutcome). o .answer) e,
+      ap (λ (o : StepOutcome). o .left .now .cToV) e,
+      ap
+          (λ (o : StepOutcome). o .left .now .vToC) e,
+      ap (λ (o : StepOutcome). o .left .now .posterior) e,
+      ap (λ (o : StepOutcome). o .left .bias) e,
+    )
 
 -- and so do two records that the contract of `leg_record` allows
 pub one-record : (legState legIterations : List ℕ) (legWeight : List Float) (r : ℕ) (x y : LegRecord) → x ≡ legRecord legState legIterations legWeight r

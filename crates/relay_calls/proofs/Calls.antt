@@ -178,7 +178,8 @@ module _ (edges checks mechanisms : ℕ) (cv cm co vc vm vo : List ℕ) (prior :
     -- one that is not
     pub iteration-ran : (a : Answer) (b : Bool) (o : StepOutcome) → a ≡ stepFault edges prior (graph checks mechanisms cv cm co vc vm vo) alpha gamma syndrome order l
         → b ≡ isDone a → not b ≡ false
-        → o ≡ stepped (length cv) (walked (length syndrome) (length prior) cv co vm vo) (iteration schedule (walked (length syndrome) (length prior) cv co vm vo) alpha syndrome prior gamma order (l .now))
+        → o ≡ stepped (length cv) (walked (length syndrome) (length prior) cv co vm vo)
+        (iteration schedule (walked (length syndrome) (length prior) cv co vm vo) alpha syndrome prior gamma order (l .now))
         → o ≡ iterationCall edges prior (graph checks mechanisms cv cm co vc vm vo) schedule alpha gamma syndrome order l
     unfolding iterationCall
     iteration-ran a b o e d h q =

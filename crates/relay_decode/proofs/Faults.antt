@@ -74,11 +74,19 @@ module _ (edges : ℕ) (x : Shot) (l : DecodeLists) where
   unfolding decodeFault shotFault
   fault-joined = sym (or-joined _ _ _ ∙ ap (orElse _) (or-joined _ _ _ ∙ ap (orElse _) (or-joined _ _ _)))
 
-  module _ (records work : Bool) (er : records ≡ (leb (suc (x .settings .«num_legs»)) (length (l .legState)) && (leb (suc (x .settings .«num_legs»)) (length (l .legIterations)) && (leb (suc (x .settings .«num_legs»)) (length (l .legWeight)) && leb (suc (x .settings .«num_legs») * x .graph .mechanisms) (length (l .rows)))))) (ew : work ≡ (eqb (length (l .correction)) (x .graph .mechanisms) && (eqb (length (l .posterior)) (x .graph .mechanisms) && (eqb (length (l .gamma)) (x .graph .mechanisms) && (eqb (length (l .bias)) (x .graph .mechanisms) && (eqb (length (l .cToV)) edges && eqb (length (l .vToC)) edges)))))) where
+  module _ (records work : Bool) (er : records ≡ (leb (suc (x .settings .«num_legs»))
+      (length (l .legState)) && (leb (suc (x .settings .«num_legs»)) (length
+      (l .legIterations)) && (leb (suc (x .settings .«num_legs»)) (length (l .legWeight)) && leb (suc (x .settings .«num_legs») * x .graph .mechanisms) (length
+      (l .rows)))))) (ew : work ≡ (eqb (length (l .correction)) (x .graph .mechanisms) &&
+      (eqb (length (l .posterior)) (x .graph .mechanisms) && (eqb (length
+      (l .gamma)) (x .graph .mechanisms) && (eqb (length (l .bias))
+      (x .graph .mechanisms) && (eqb (length (l .cToV)) edges && eqb (length (l .vToC)) edges)))))) where
     -- the legs' lists, then the others
     fits-is : (records && work) ≡ decodeListsFit edges x l
     unfolding decodeListsFit
-    fits-is = rw (er, ew) (fits-joined (leb (suc (x .settings .«num_legs»)) (length (l .legState))) (leb (suc (x .settings .«num_legs»)) (length (l .legIterations))) (leb (suc (x .settings .«num_legs»)) (length (l .legWeight))) (leb (suc (x .settings .«num_legs») * x .graph .mechanisms) (length (l .rows))) _)
+    fits-is = rw (er, ew) (fits-joined (leb (suc (x .settings .«num_legs»))
+        (length (l .legState))) (leb (suc (x .settings .«num_legs»)) (length (l .legIterations))) (leb (suc (x .settings .«num_legs»)) (length (l .legWeight)))
+        (leb (suc (x .settings .«num_legs») * x .graph .mechanisms) (length (l .rows))) _)
 
     -- 20, 21 and 22
     pub lists-fault : (f : Bool) (s u r : Answer) → f ≡ (records && work) → s ≡ syndromeFault (x .graph .checks) (x .syndrome) → u ≡ unless f LentListLength → r ≡ orElse s u
@@ -155,7 +163,8 @@ legs-few t m flat a b e d h = settings-told t m flat (sym e ∙ done-is a (sym d
 pub record Passed (edges checks mechanisms : ℕ) (t : Settings) (flat : List Float) (syndrome : List ℕ) (prior : List Float) (cv co vm vo order : List ℕ) (l : DecodeLists) : Type 0 where
   pub reads : Reads t flat syndrome prior cv co vm vo order
   pub legs-fit :
-      (suc (t .«num_legs») ≤ length (l .legState)) × (suc (t .«num_legs») ≤ length (l .legIterations)) × (suc (t .«num_legs») ≤ length (l .legWeight)) × (suc (t .«num_legs») * length prior ≤ length (l .rows))
+      (suc (t .«num_legs») ≤ length (l .legState)) × (suc (t .«num_legs») ≤ length
+      (l .legIterations)) × (suc (t .«num_legs») ≤ length (l .legWeight)) × (suc (t .«num_legs») * length prior ≤ length (l .rows))
   pub work-fits : (length (l .correction) ≡ length prior) × (length (l .posterior) ≡ length prior) × (length (l .gamma) ≡ length prior) × (length (l .bias) ≡ length prior)
   pub messages-fit : (length (l .cToV) ≡ length cv) × (length (l .vToC) ≡ length cv)
   pub edges-many : length cv ≡ edges

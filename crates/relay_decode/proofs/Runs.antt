@@ -115,7 +115,8 @@ module _ (x : Shot) where
           is = same;
         }
 
-    module _ (s : Turned r k′) (a : Answer) (b : Bool) (e : a ≡ posteriorFault (x .graph) (k′ .posterior)) (d : b ≡ (not (isDone a) || leb (x .settings .«stop_after_converged») (k′ .numConverged))) where
+    module _ (s : Turned r k′) (a : Answer) (b : Bool) (e : a ≡ posteriorFault
+        (x .graph) (k′ .posterior)) (d : b ≡ (not (isDone a) || leb (x .settings .«stop_after_converged») (k′ .numConverged))) where
       -- the verdict, by what the test said
       abbrev verdict : Answer → Progress
       verdict z = legJudged z (leb (x .settings .«stop_after_converged») (k′ .numConverged)) (s .run)

@@ -32,16 +32,21 @@ pub end-kept : (d : Decoded) (b : Bool) (z r : Results) → b ≡ isRefused d �
 end-kept d b z r e h = rw (sym e ∙ not-true b h)
 
 -- 30: they are zeroed
-pub end-zeroed : (d : Decoded) (b : Bool) (r : Results) (ss is : List ℕ) (ws : List Float) (rows cor : List ℕ) (p : List Float) (ss′ is′ : List ℕ) (ws′ : List Float) (rows′ cor′ : List ℕ) (p′ : List Float)
+pub end-zeroed : (d : Decoded) (b : Bool) (r : Results) (ss is : List ℕ)
+    (ws : List Float) (rows cor : List ℕ) (p : List Float) (ss′ is′ : List ℕ) (ws′ : List Float) (rows′ cor′ : List ℕ) (p′ : List Float)
     → b ≡ isRefused d → not b ≡ false
     → (ss′ ≡ replicate (length ss) 0) × (is′ ≡ replicate (length is) 0) × (ws′ ≡ replicate (length ws) zero⁺) × (rows′ ≡ replicate (length rows) 0) × (cor′ ≡ replicate (length cor) 0)
     → p′ ≡ replicate (length p) zero⁺
-    → results ss′ is′ ws′ rows′ cor′ p′ ≡ cond (isRefused d) (results (replicate (length ss) 0) (replicate (length is) 0) (replicate (length ws) zero⁺) (replicate (length rows) 0) (replicate (length cor) 0) (replicate (length p) zero⁺)) r
+    → results ss′ is′ ws′ rows′ cor′ p′ ≡ cond (isRefused d) (results (replicate (length ss) 0) (replicate (length is) 0) (replicate (length ws) zero⁺)
+    (replicate (length rows) 0) (replicate (length cor) 0) (replicate (length p) zero⁺)) r
 end-zeroed d b r ss is ws rows cor p ss′ is′ ws′ rows′ cor′ p′ e h z q = rw (sym e ∙ not-false b h, z .0, z .1, z .2, z .3, z .4, q)
 
 -- ---- the start and the end of the legs
 
-module _ (x : Shot) (ss is : List ℕ) (ws : List Float) (rows cor : List ℕ) (p : List Float) (hs : length ss ≡ suc (x .settings .«num_legs»)) (hi : length is ≡ suc (x .settings .«num_legs»)) (hw : length ws ≡ suc (x .settings .«num_legs»)) (hr : length rows ≡ suc (x .settings .«num_legs») * x .graph .mechanisms) (hc : length cor ≡ x .graph .mechanisms) where
+module _ (x : Shot) (ss is : List ℕ) (ws : List Float) (rows cor : List ℕ)
+    (p : List Float) (hs : length ss ≡ suc (x .settings .«num_legs»))
+    (hi : length is ≡ suc (x .settings .«num_legs»)) (hw : length ws ≡ suc
+    (x .settings .«num_legs»)) (hr : length rows ≡ suc (x .settings .«num_legs») * x .graph .mechanisms) (hc : length cor ≡ x .graph .mechanisms) where
   -- cleared records, and the posterior at the priors
   pub starts-at : (ss′ is′ : List ℕ) (ws′ : List Float) (rows′ cor′ : List ℕ) (p′ : List Float)
       → (ss′ ≡ replicate (length ss) 0) × (is′ ≡ replicate (length is) 0) × (ws′ ≡ replicate (length ws) zero⁺) × (rows′ ≡ replicate (length rows) 0) × (cor′ ≡ replicate (length cor) 0)
@@ -50,7 +55,8 @@ module _ (x : Shot) (ss is : List ℕ) (ws : List Float) (rows cor : List ℕ) (
 
   -- what the lists hold after the end
   pub ends-at : (e : Ended) (d : Decoded) (r′ : Results) → length p ≡ x .graph .mechanisms → d ≡ answerOf e → (isRefused d ≡ false → results ss is ws rows cor p ≡ resultsOf x e)
-      → r′ ≡ cond (isRefused d) (results (replicate (length ss) 0) (replicate (length is) 0) (replicate (length ws) zero⁺) (replicate (length rows) 0) (replicate (length cor) 0) (replicate (length p) zero⁺)) (results ss is ws rows cor p)
+      → r′ ≡ cond (isRefused d) (results (replicate (length ss) 0) (replicate (length is) 0) (replicate (length ws) zero⁺) (replicate (length rows) 0)
+      (replicate (length cor) 0) (replicate (length p) zero⁺)) (results ss is ws rows cor p)
       → r′ ≡ resultsOf x e
   ends-at e d r′ hp q f z = go e q (either (isRefused d)) f
     where
@@ -66,7 +72,19 @@ module _ (x : Shot) (edges : ℕ) (l : DecodeLists) (ss is : List ℕ) (ws : Lis
   pub shot-is : (e : Ended) (d : Decoded) → d ≡ answerOf e → results ss is ws rows cor p ≡ resultsOf x e
       → (t1 ≡ drop (length ss) (l .legState)) × (t2 ≡ drop (length is) (l .legIterations)) × (t3 ≡ drop (length ws) (l .legWeight)) × (t4 ≡ drop (length rows) (l .rows))
       → (gamma ≡ replicate (x .graph .mechanisms) zero⁺) × (bias ≡ replicate (x .graph .mechanisms) zero⁺) × (c ≡ replicate edges zero⁺) × (v ≡ replicate edges zero⁺)
-      → decodeOutcome d (record { legState = ss ++ t1; legIterations = is ++ t2; legWeight = ws ++ t3; rows = rows ++ t4; correction = cor; posterior = p; gamma = gamma; bias = bias; cToV = c; vToC = v })
+      → decodeOutcome d (record {
+        legState = ss ++ t1;
+        legIterations = is ++ t2;
+        legWeight = ws ++ t3;
+        rows = rows ++ t4;
+        correction = cor;
+        posterior = p;
+        gamma
+            = gamma;
+        bias = bias;
+        cToV = c;
+        vToC = v;
+      })
       ≡ afterLegs edges x e l
   unfolding leftBy zeroed
   shot-is (decoded run) d q h t w =

@@ -57,5 +57,7 @@ module _ (t : Settings) (flat : List Float) (seed : ℕ) (syndrome : List ℕ) (
       → o ≡ afterLegs n (shotOf t flat seed syndrome prior cv co vm vo order) (decodeLegs (shotOf t flat seed syndrome prior cv co vm vo order)) l
       → o ≡ afterLegs edges (whole checks mechanisms) (decodeLegs (whole checks mechanisms)) l
   legs-read-four edges n checks mechanisms l o p q s e =
-      let counted : afterLegs n (few (length syndrome) (length prior)) (decodeLegs (few (length syndrome) (length prior))) l ≡ afterLegs edges (few checks mechanisms) (decodeLegs (few checks mechanisms)) l = rw (p, q, s) in
+      let counted : afterLegs n (few (length syndrome) (length prior))
+      (decodeLegs (few (length syndrome) (length prior))) l ≡ afterLegs edges
+      (few checks mechanisms) (decodeLegs (few checks mechanisms)) l = rw (p, q, s) in
       e ∙ counted ∙ ap (λ f. afterLegs edges (few checks mechanisms) f l) (decode-whole checks mechanisms) ∙ left-whole checks mechanisms edges l (decodeLegs (whole checks mechanisms))

@@ -78,12 +78,14 @@ module _ (t : Settings) (flat : List Float) (seed : ℕ) (syndrome : List ℕ) (
   -- it is the definition's leg, and takes no more iterations than its limit
   pub executed-is : (r limit : ℕ) (gamma c v p : List Float) (l : Leg) → gamma ≡ gammaOf t flat (length prior) seed r
       → state c v [] ≡ startLeg (walked 0 0 cv [] [] []) prior [] → limit ≡ iterationLimit t r
-      → l ≡ runLeg (iteration (t .schedule) (walked (length syndrome) (length prior) cv co vm vo) (t .alpha) syndrome prior gamma order) (satisfied (ofChecks (length syndrome) cv co) syndrome) limit false 0 (state c v p)
+      → l ≡ runLeg (iteration (t .schedule) (walked (length syndrome) (length prior) cv co vm vo) (t .alpha) syndrome prior gamma order) (satisfied (ofChecks
+      (length syndrome) cv co) syndrome) limit false 0 (state c v p)
       → (l ≡ executedLeg (shotOf t flat seed syndrome prior cv co vm vo order) r p) × (l .iterations ≤ iterationLimit t r)
   unfolding executedLeg stepOf startLeg cleared fromVariables satisfied matches
   executed-is r limit gamma c v p l g s e q =
       let u : state c v p ≡ startLeg (walked (length syndrome) (length prior) cv co vm vo) prior p = ap (λ (z : State). state (z .cToV) (z .vToC) p) s in
-      let few = leg-few (iteration (t .schedule) (walked (length syndrome) (length prior) cv co vm vo) (t .alpha) syndrome prior gamma order) (satisfied (ofChecks (length syndrome) cv co) syndrome) limit false 0 (state c v p) in
+      let few = leg-few (iteration (t .schedule) (walked (length syndrome) (length prior) cv co vm vo) (t .alpha) syndrome prior gamma order) (satisfied
+      (ofChecks (length syndrome) cv co) syndrome) limit false 0 (state c v p) in
       (q ∙ rw (g, e, u), omega (arith, ap (λ (y : Leg). y .iterations) q, few, e))
 
 -- ---- what a leg adds
@@ -135,7 +137,8 @@ module _ (rows : List ℕ) (m r : ℕ) (z : Blank (r * m) rows) (h : r * m + m �
             ∙ z .blank i (omega arith));
       }
 
-  module _ (x : Shot) (mechanisms : x .graph .mechanisms ≡ m) (best best′ : Option Float) (num num′ total total′ : ℕ) (ss ss′ is is′ : List ℕ) (ws ws′ : List Float) (row tail cor cor′ : List ℕ) (p p′ : List Float) (l : Leg) where
+  module _ (x : Shot) (mechanisms : x .graph .mechanisms ≡ m) (best best′ : Option Float)
+      (num num′ total total′ : ℕ) (ss ss′ is is′ : List ℕ) (ws ws′ : List Float) (row tail cor cor′ : List ℕ) (p p′ : List Float) (l : Leg) where
     -- the leg's row back in its place
     pub rows-turn : kept best′ num′ total′ (suc r) ss′ is′ ws′ row cor′ p′ ≡ keptWith x (kept best num total r ss is ws [] cor []) r l (rowAfter x l)
         → tail ≡ drop (r * m + m) rows
@@ -145,7 +148,8 @@ module _ (rows : List ℕ) (m r : ℕ) (z : Blank (r * m) rows) (h : r * m + m �
         let own : row ≡ cond (l .converged) (hardDecision (l .left .posterior)) (replicate m 0) = rw (← mechanisms) (ap (λ (k : Kept). k .rows) e) in
         let back : take (r * m) rows ++ (row ++ tail) ≡ cond (l .converged) (spliced rows (r * m) (r * m + m) (hardDecision (l .left .posterior))) rows =
         rw (d, own) (row-spliced (l .converged) (hardDecision (l .left .posterior))) in
-        ap (λ (k : Kept). kept (k .best) (k .numConverged) (k .totalIterations) (k .executedLegs) (k .legState) (k .legIterations) (k .legWeight) (take (r * m) rows ++ (row ++ tail)) (k .correction) (k .posterior)) e
+        ap (λ (k : Kept). kept (k .best) (k .numConverged) (k .totalIterations)
+        (k .executedLegs) (k .legState) (k .legIterations) (k .legWeight) (take (r * m) rows ++ (row ++ tail)) (k .correction) (k .posterior)) e
         ∙ rw (back, mechanisms)
 
 -- how far the counts go

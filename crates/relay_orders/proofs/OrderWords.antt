@@ -126,7 +126,13 @@ module _ (g : Graph) (order : List ℕ) where
       go : (i : ℕ) → i < j → (ltb (getD order j 0) (getD (take j order) i 0) && shares entries (getD order j 0) (getD (take j order) i 0)) ≡ false
       go i l =
           rw (getD-take j order i 0 l)
-          (test (ltb (getD order j 0) (getD order i 0)) (shares entries (getD order j 0) (getD order i 0)) (λ p q. omega (arith, ltb-true (getD order j 0) (getD order i 0) p, f i l (shares-sym entries (getD order i 0) (getD order j 0) ∙ q))))
+          (test (ltb (getD order j 0) (getD order i 0)) (shares entries
+          (getD order j 0) (getD order i 0)) (λ p q. omega (
+            arith,
+            ltb-true (getD order j 0) (getD order i 0) p,
+            f i l (shares-sym entries (getD order i 0)
+                (getD order j 0) ∙ q),
+          )))
 
   -- and the other way
   not-late : (j : ℕ) → j < length order → Late j ≡ false → (i : ℕ) → i < j → shares entries (getD order i 0) (getD order j 0) ≡ true → getD order i 0 ≤ getD order j 0

@@ -46,7 +46,8 @@ Entered b weight k r ss is ws ss′ is′ ws′ =
 
 -- ---- a leg that converged, and one that ran out
 
-module _ (b : Bool) (best best′ : Option Float) (num num′ total total′ : ℕ) (ss is : List ℕ) (ws : List Float) (ss′ is′ : List ℕ) (ws′ : List Float) (row cor cor′ : List ℕ) (r k : ℕ) (w weight : Float) where
+module _ (b : Bool) (best best′ : Option Float) (num num′ total total′ : ℕ)
+    (ss is : List ℕ) (ws : List Float) (ss′ is′ : List ℕ) (ws′ : List Float) (row cor cor′ : List ℕ) (r k : ℕ) (w weight : Float) where
   -- what the code wrote of one that converged is what a leg adds
   pub record-converged : b ≡ true → w ≡ weight → (ss′ ≡ set ss r 2) × (is′ ≡ set is r k) × (ws′ ≡ set ws r w) → best′ ≡ bestAfter true best w
       → (num′ ≡ num + 1) × (total′ ≡ total + k) → cor′ ≡ corrected true best w row cor

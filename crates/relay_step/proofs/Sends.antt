@@ -40,7 +40,8 @@ module _ (odd : Bool) (variables : List ℕ) (messages : List Float) where
       record {
         variable = f .variable;
         is = rw (f .is, sym e, h);
-        whose = rw h (⊎-elim (λ (w : (s .holder < n) × (f .variable ≡ getD variables (s .holder) 0)). inl (omega (arith, w .0), w .1)) (λ (w : s .min1 ≡ s .min2). inr (same w (rw w at h))) (f .whose));
+        whose = rw h (⊎-elim (λ (w : (s .holder < n) × (f .variable ≡ getD variables
+            (s .holder) 0)). inl (omega (arith, w .0), w .1)) (λ (w : s .min1 ≡ s .min2). inr (same w (rw w at h))) (f .whose));
       }
     where
       same : s .min1 ≡ s .min2 → lt (abs x) (s .min2) ≡ false → s .min1 ≡ cond (lt (abs x) (s .min2)) (abs x) (s .min2)
@@ -67,12 +68,17 @@ module _ (alpha sign min1 min2 : Float) (variables : List ℕ) (messages : List 
     (whose : ((least < length messages) × (variable ≡ getD variables least 0)) ⊎ (min1 ≡ min2)) where
   -- the next minimum is for the least's place
   own : cond (eqb (getD variables least 0) variable) min2 min1 ≡ min2
-  own = ⊎-elim (λ (w : (least < length messages) × (variable ≡ getD variables least 0)). rw (eq-eqb (getD variables least 0) variable (sym (w .1)))) (λ (w : min1 ≡ min2). either-way (eqb (getD variables least 0) variable) min1 min2 w ∙ w) whose
+  own = ⊎-elim (λ (w : (least < length messages) × (variable ≡ getD variables least 0)). rw
+      (eq-eqb (getD variables least 0) variable (sym (w .1)))) (λ (w : min1 ≡ min2). either-way (eqb (getD variables least 0) variable) min1 min2 w ∙ w) whose
 
   -- and the least for all others
   others : (i : ℕ) → i < length messages → (i ≡ least → ⊥) → cond (eqb (getD variables i 0) variable) min2 min1 ≡ min1
   others i h n =
-      ⊎-elim (λ (w : (least < length messages) × (variable ≡ getD variables least 0)). rw (w .1, rise-apart variables i least r (omega arith) (omega (arith, w .0)) n)) (λ (w : min1 ≡ min2). either-way (eqb (getD variables i 0) variable) min1 min2 w) whose
+      ⊎-elim (λ (w : (least < length messages) × (variable ≡ getD variables least 0)). rw (
+        w .1,
+        rise-apart variables i least r (omega arith) (omega
+            (arith, w .0)) n,
+      )) (λ (w : min1 ≡ min2). either-way (eqb (getD variables i 0) variable) min1 min2 w) whose
 
   -- what a sign chooses
   chosen : (x minus plus : Float) (b : Bool) → lt x zero⁺ ≡ b → minus ≡ alpha *ᶠ (sign *ᶠ one⁻) *ᶠ saturated min1 → plus ≡ alpha *ᶠ (sign *ᶠ one⁺) *ᶠ saturated min1
@@ -94,7 +100,8 @@ module _ (alpha sign min1 min2 : Float) (variables : List ℕ) (messages : List 
     unfolding bySigns sentTo sent
     least-put x h e =
         let w : x ≡ sent alpha (scanOf sign min1 min2 variable) (getD variables least 0) (getD messages least nan) = e ∙ rw own in
-        rw w (but-one (length messages) (λ i. sent alpha (scanOf sign min1 min2 variable) (getD variables i 0) (getD messages i nan)) (λ i. cond (lt (getD messages i nan) zero⁺) minus plus) least nan h elsewhere)
+        rw w (but-one (length messages) (λ i. sent alpha (scanOf sign min1 min2 variable)
+        (getD variables i 0) (getD messages i nan)) (λ i. cond (lt (getD messages i nan) zero⁺) minus plus) least nan h elsewhere)
 
     -- and where there is none
     least-nowhere : length messages ≤ least → bySigns minus plus messages (length messages) ≡ sentTo alpha (scanOf sign min1 min2 variable) variables messages (length messages)

@@ -24,9 +24,11 @@ told : (c : tie.Else1)
 told c = dense-told _ _ _ _ _ _ (sym (c .before .before .dense-fault .ensures) ∙ done-is _ (was-true _ _ (c .before .is-done .ensures) (c .if1 .left)))
 
 -- and of the graph lists
-long : (c : tie.Else1) → Long (c .before .before .before .before .count-edges .result) (lists (c .before .before .before .before .before .before .before .before .before .before .before .before .before))
+long : (c : tie.Else1) → Long (c .before .before .before .before .count-edges .result)
+    (lists (c .before .before .before .before .before .before .before .before .before .before .before .before .before))
 unfolding graphFits
-long c = long-told _ (lists (c .before .before .before .before .before .before .before .before .before .before .before .before .before)) (sym (c .before .before .before .lists-fit .ensures) ∙ told c .fits)
+long c = long-told _ (lists (c .before .before .before .before .before .before .before .before .before .before .before .before .before))
+    (sym (c .before .before .before .lists-fit .ensures) ∙ told c .fits)
 
 count-edges-requires : tie.Need-count-edges-requires
 count-edges-requires c κs = search needs
@@ -42,7 +44,9 @@ is-done-requires c κs = search needs
 
 returns : tie.Need-returns
 unfolding graphFits
-returns c = dense-refused _ _ _ _ _ (lists (c .before .before .before .before .before .before .before .before .before .before .before .before .before)) (c .before .before .before .before .count-edges .ensures) (c .before .before .before .lists-fit .ensures) (c .before .before .dense-fault .ensures) (was-false _ _ (c .before .is-done .ensures) (c .if1 .taken))
+returns c = dense-refused _ _ _ _ _ (lists (c .before .before .before .before .before .before .before .before .before .before .before .before .before))
+    (c .before .before .before .before .count-edges .ensures) (c .before .before .before .lists-fit .ensures) (c .before .before .dense-fault .ensures)
+    (was-false _ _ (c .before .is-done .ensures) (c .if1 .taken))
 
 from-matrix-requires : tie.Need-from-matrix-requires
 from-matrix-requires c κs =
@@ -76,7 +80,16 @@ same-length-6 c = search needs
 
 returns-2 : tie.Need-returns-2
 unfolding graphFits
-returns-2 c = dense-done _ _ _ _ _ (lists (c .before .before .before .before .before .before .before .before .before .before .before .before .before .before .before .before .before .before .before .before .before .before .before .before .before .before .before .before .before .before .before .before)) (c .before .before .before .before .before .before .before .before .before .before .before .before .before .before .before .before .before .before .before .before .before .before .before .count-edges .ensures) (c .before .before .before .before .before .before .before .before .before .before .before .before .before .before .before .before .before .before .before .before .before .before .lists-fit .ensures) (c .before .before .before .before .before .before .before .before .before .before .before .before .before .before .before .before .before .before .before .before .before .dense-fault .ensures) _ (was-true _ _ (c .before .before .before .before .before .before .before .before .before .before .before .before .before .before .before .before .before .before .before .before .is-done .ensures) (c .before .before .before .before .before .before .before .before .before .before .before .before .before .before .before .before .before .before .before .if1 .left)) (c .before .before .before .before .before .before .before .before .before .before .before .before .from-matrix .ensures)
+returns-2 c = dense-done _ _ _ _ _ (lists (c .before .before .before .before .before .before .before .before .before .before .before .before .before .before
+    .before .before .before .before .before .before .before .before .before .before .before .before .before .before .before .before .before .before))
+    (c .before .before .before .before .before .before .before .before .before .before .before .before .before .before .before .before .before .before .before
+    .before .before .before .before .count-edges .ensures) (c .before .before .before .before .before .before .before .before .before .before .before .before
+    .before .before .before .before .before .before .before .before .before .before .lists-fit .ensures)
+    (c .before .before .before .before .before .before .before .before .before .before .before .before .before .before .before .before .before .before .before
+    .before .before .dense-fault .ensures) _ (was-true _ _ (c .before .before .before .before .before .before .before .before .before .before .before .before
+    .before .before .before .before .before .before .before .before .is-done .ensures)
+    (c .before .before .before .before .before .before .before .before .before .before .before .before .before .before .before .before .before .before .before
+    .if1 .left)) (c .before .before .before .before .before .before .before .before .before .before .before .before .from-matrix .ensures)
 
 pub build-dense-spec : {M : Type 1} → statement M
 build-dense-spec =

@@ -40,7 +40,8 @@ loop-again c =
     (omega arith, ⊎-elim (λ w. w .1 ∙ count-more xs (l .i) (l .edges) h (w .0 .taken) (l .inv .1)) (λ w. w .1 ∙ count-same-turn xs (l .i) (l .edges) h (w .0 .left) (l .inv .1)) (c .if1 .came))
 
 returns : tie.Need-returns Inv-loop μ-loop
-returns c = let e : c .before .loop .i ≡ length (c .before .before .args .matrix .now) = omega arith in c .before .loop .inv .1 ∙ ap countEdges (take-all (c .before .loop .i) (c .before .before .args .matrix .now) (omega arith))
+returns c = let e : c .before .loop .i ≡ length (c .before .before .args .matrix .now) = omega arith in c .before .loop .inv .1 ∙ ap countEdges
+    (take-all (c .before .loop .i) (c .before .before .args .matrix .now) (omega arith))
 
 pub count-edges-spec : {M : Type 1} → statement M
 count-edges-spec =

@@ -37,7 +37,12 @@ loop-less : tie.Need-loop-less Inv-loop μ-loop
 loop-less c = omega arith
 
 loop-again : tie.Need-loop-again Inv-loop μ-loop
-loop-again c = (omega arith, simp length-set (omega arith), copy-turn _ (c .before .before .loop .to) (c .before .before .loop .i) nan (c .before .loop-test .taken) (omega arith) (c .before .before .loop .inv .2))
+loop-again c = (
+  omega arith,
+  simp length-set (omega arith),
+  copy-turn _
+      (c .before .before .loop .to) (c .before .before .loop .i) nan (c .before .loop-test .taken) (omega arith) (c .before .before .loop .inv .2),
+)
 
 same-length : tie.Need-same-length Inv-loop μ-loop
 same-length c = omega arith

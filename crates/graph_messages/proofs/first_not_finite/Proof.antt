@@ -37,7 +37,9 @@ returns : tie.Need-returns Inv-loop μ-loop
 unfolding valueFault
 returns c =
     let l = c .before .before .before .before .before .loop in
-    first-refuse (valueFault (c .before .before .before .before .before .before .before .args .values .now)) (l .v) _ _ _ (c .before .before .before .before .loop-test .taken) (l .inv .1) (c .before .before .value-fault .ensures) (c .before .is-done .ensures) (c .if1 .taken)
+    first-refuse (valueFault (c .before .before .before .before .before .before .before .args .values .now))
+    (l .v) _ _ _ (c .before .before .before .before .loop-test .taken) (l .inv .1) (c .before .before .value-fault .ensures) (c .before .is-done .ensures)
+    (c .if1 .taken)
 
 add-v : tie.Need-add-v Inv-loop μ-loop
 add-v c = omega arith
@@ -48,8 +50,11 @@ loop-less c = omega arith
 loop-again : tie.Need-loop-again Inv-loop μ-loop
 unfolding valueFault
 loop-again c =
-    let l = c .before .before .before .before .before .loop in
-    (omega arith, first-go (valueFault (c .before .before .before .before .before .before .before .args .values .now)) (l .v) _ _ (l .inv .1) (c .before .before .value-fault .ensures) (c .before .is-done .ensures) (c .if1 .left))
+    let l = c .before .before .before .before .before .loop in (
+      omega arith,
+      first-go (valueFault (c .before .before .before .before .before .before .before .args .values .now))
+          (l .v) _ _ (l .inv .1) (c .before .before .value-fault .ensures) (c .before .is-done .ensures) (c .if1 .left),
+    )
 
 returns-2 : tie.Need-returns-2 Inv-loop μ-loop
 returns-2 c =

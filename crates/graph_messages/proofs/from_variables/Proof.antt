@@ -46,8 +46,12 @@ loop-less c = omega arith
 
 loop-again : tie.Need-loop-again Inv-loop μ-loop
 loop-again c =
-    let l = c .before .before .before .loop in
-    (omega arith, simp length-set (omega arith), from-turn (c .before .before .before .before .before .before .before .args .values .now) (l .v-to-c) _ (l .i) _ (c .before .before .loop-test .taken) (omega arith) (c .before .at .ensures) (l .inv .2))
+    let l = c .before .before .before .loop in (
+      omega arith,
+      simp length-set (omega arith),
+      from-turn (c .before .before .before .before .before .before .before .args .values .now) (l .v-to-c) _ (l .i) _
+          (c .before .before .loop-test .taken) (omega arith) (c .before .at .ensures) (l .inv .2),
+    )
 
 same-length : tie.Need-same-length Inv-loop μ-loop
 same-length c = omega arith

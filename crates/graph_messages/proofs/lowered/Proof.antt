@@ -19,7 +19,12 @@ least-of-requires c κs = search needs
 
 returns : tie.Need-returns
 unfolding lowered
-returns c = (rw (c .least-of .ensures, c .before .next-least .ensures, c .before .before .lesser .ensures, c .before .before .before .magnitude .ensures), rw (c .before .next-least .ensures, c .before .before .lesser .ensures, c .before .before .before .magnitude .ensures) (ordered-next _ _ _ (c .before .before .before .before .pre)))
+returns c = (
+  rw (c .least-of .ensures, c .before .next-least .ensures, c .before .before .lesser .ensures, c .before .before .before .magnitude .ensures),
+  rw
+      (c .before .next-least .ensures, c .before .before .lesser .ensures, c .before .before .before .magnitude .ensures)
+      (ordered-next _ _ _ (c .before .before .before .before .pre)),
+)
 
 pub lowered-spec : {M : Type 1} → statement M
 lowered-spec =

@@ -18,7 +18,8 @@ counts : (c : tie.Else1) → let s = c .before .before .before .args .s in count
 counts c = was-true _ _ (c .before .counts-good .ensures) (c .if1 .left)
 
 -- what the second asks
-lengths : (c : tie.After-both) → let a = c .before .before .before .before .before .before .before .args in c .both .result ≡ (eqb (a .bytes) (a .s .checks * a .s .mechanisms) && eqb (length (a .priors .now)) (a .s .mechanisms))
+lengths : (c : tie.After-both) → let a = c .before .before .before .before .before .before .before .args in c .both .result ≡
+    (eqb (a .bytes) (a .s .checks * a .s .mechanisms) && eqb (length (a .priors .now)) (a .s .mechanisms))
 lengths c = cc
 
 counts-good-requires : tie.Need-counts-good-requires
@@ -46,16 +47,22 @@ edges-good-requires : tie.Need-edges-good-requires
 edges-good-requires c κs = search needs
 
 returns-3 : tie.Need-returns-3
-returns-3 c = dense-3 _ _ _ _ _ _ (counts (c .before .before .before .before .before .before .before)) (was-true _ _ (lengths (c .before .before .before)) (c .before .before .if2 .left)) (was-false _ _ (c .before .edges-good .ensures) (c .if3 .taken))
+returns-3 c = dense-3 _ _ _ _ _ _ (counts (c .before .before .before .before .before .before .before))
+    (was-true _ _ (lengths (c .before .before .before)) (c .before .before .if2 .left)) (was-false _ _ (c .before .edges-good .ensures) (c .if3 .taken))
 
 returns-4 : tie.Need-returns-4
-returns-4 c = dense-4 _ _ _ _ _ _ (counts (c .before .before .before .before .before .before .before .before)) (was-true _ _ (lengths (c .before .before .before .before)) (c .before .before .before .if2 .left)) (was-true _ _ (c .before .before .edges-good .ensures) (c .before .if3 .left)) (not-true _ (c .if4 .taken))
+returns-4 c = dense-4 _ _ _ _ _ _ (counts (c .before .before .before .before .before .before .before .before))
+    (was-true _ _ (lengths (c .before .before .before .before)) (c .before .before .before .if2 .left)) (was-true _ _ (c .before .before .edges-good .ensures)
+    (c .before .if3 .left)) (not-true _ (c .if4 .taken))
 
 priors-fault-requires : tie.Need-priors-fault-requires
 priors-fault-requires c κs = search needs
 
 returns-5 : tie.Need-returns-5
-returns-5 c = dense-5 _ _ _ _ _ _ _ (counts (c .before .before .before .before .before .before .before .before .before)) (was-true _ _ (lengths (c .before .before .before .before .before)) (c .before .before .before .before .if2 .left)) (was-true _ _ (c .before .before .before .edges-good .ensures) (c .before .before .if3 .left)) (not-false _ (c .before .if4 .left)) (c .priors-fault .ensures)
+returns-5 c = dense-5 _ _ _ _ _ _ _ (counts (c .before .before .before .before .before .before .before .before .before))
+    (was-true _ _ (lengths (c .before .before .before .before .before))
+    (c .before .before .before .before .if2 .left)) (was-true _ _ (c .before .before .before .edges-good .ensures) (c .before .before .if3 .left)) (not-false _
+    (c .before .if4 .left)) (c .priors-fault .ensures)
 
 pub dense-fault-spec : {M : Type 1} → statement M
 dense-fault-spec =

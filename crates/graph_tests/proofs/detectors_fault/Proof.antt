@@ -28,7 +28,9 @@ is-done-requires : tie.Need-is-done-requires Inv-loop μ-loop
 is-done-requires c κs = search needs
 
 returns : tie.Need-returns Inv-loop μ-loop
-returns c = first-refuse _ (c .before .before .before .before .loop .i) _ _ _ (c .before .before .before .loop-test .taken) (c .before .before .before .before .loop .inv .1) (c .before .before .detector-fault .ensures) (c .before .is-done .ensures) (c .if1 .taken)
+returns c = first-refuse _ (c .before .before .before .before .loop .i) _ _ _
+    (c .before .before .before .loop-test .taken) (c .before .before .before .before .loop .inv .1)
+    (c .before .before .detector-fault .ensures) (c .before .is-done .ensures) (c .if1 .taken)
 
 add-i : tie.Need-add-i Inv-loop μ-loop
 add-i c = omega arith
@@ -37,7 +39,11 @@ loop-less : tie.Need-loop-less Inv-loop μ-loop
 loop-less c = omega arith
 
 loop-again : tie.Need-loop-again Inv-loop μ-loop
-loop-again c = (omega arith, first-go _ (c .before .before .before .before .loop .i) _ _ (c .before .before .before .before .loop .inv .1) (c .before .before .detector-fault .ensures) (c .before .is-done .ensures) (c .if1 .left))
+loop-again c = (
+  omega arith,
+  first-go _ (c .before .before .before .before .loop .i) _ _
+      (c .before .before .before .before .loop .inv .1) (c .before .before .detector-fault .ensures) (c .before .is-done .ensures) (c .if1 .left),
+)
 
 returns-2 : tie.Need-returns-2 Inv-loop μ-loop
 returns-2 c = let e : c .before .loop .i ≡ length (c .before .before .before .args .ds .now) = omega arith in sym (rw e at (c .before .loop .inv .1))

@@ -21,7 +21,8 @@ abbrev μ-loop : tie.MeasureT-loop
 
 -- a mechanism's part lies within the detectors
 bounds : (c : tie.After-at2 Inv-loop μ-loop) → (c .before .at .result ≤ c .at2 .result) × (c .at2 .result ≤ length (c .before .before .before .before .before .before .before .args .dets .now))
-bounds c = cut-bounds _ _ _ (c .before .before .before .loop .m) _ _ (c .before .before .before .before .before .before .before .pre .0) (c .before .before .loop-test .taken) (c .before .at .ensures) (c .at2 .ensures)
+bounds c = cut-bounds _ _ _ (c .before .before .before .loop .m) _ _
+    (c .before .before .before .before .before .before .before .pre .0) (c .before .before .loop-test .taken) (c .before .at .ensures) (c .at2 .ensures)
 
 loop-holds : tie.Need-loop-holds Inv-loop μ-loop
 unfolding firstOf
@@ -62,8 +63,16 @@ is-done-requires c κs = search needs
 
 returns : tie.Need-returns Inv-loop μ-loop
 returns c =
-    first-refuse (mechanismFault (c .before .before .before .before .before .before .before .before .before .before .before .before .args .checks) (c .before .before .before .before .before .before .before .before .before .before .before .before .args .priors .now) (c .before .before .before .before .before .before .before .before .before .before .before .before .args .off .now) (c .before .before .before .before .before .before .before .before .before .before .before .before .args .dets .now)) (c .before .before .before .before .before .before .before .before .loop .m) _ _ _ (c .before .before .before .before .before .before .before .loop-test .taken) (c .before .before .before .before .before .before .before .before .loop .inv .1)
-    (mech-at _ _ _ _ (c .before .before .before .before .before .before .before .before .loop .m) _ _ _ (c .before .before .before .before .before .before .at .ensures) (c .before .before .before .before .before .at2 .ensures) (c .before .before .mechanism-fault .ensures)) (c .before .is-done .ensures) (c .if1 .taken)
+    first-refuse (mechanismFault (c .before .before .before .before .before .before .before .before .before .before .before .before .args .checks)
+    (c .before .before .before .before .before .before .before .before .before .before .before .before .args .priors .now)
+    (c .before .before .before .before .before .before .before .before .before .before .before .before .args .off .now)
+    (c .before .before .before .before .before .before .before .before .before .before .before .before .args .dets .now))
+    (c .before .before .before .before .before .before .before .before .loop .m) _ _ _
+    (c .before .before .before .before .before .before .before .loop-test .taken)
+    (c .before .before .before .before .before .before .before .before .loop .inv .1)
+    (mech-at _ _ _ _ (c .before .before .before .before .before .before .before .before .loop .m) _ _ _
+    (c .before .before .before .before .before .before .at .ensures)
+    (c .before .before .before .before .before .at2 .ensures) (c .before .before .mechanism-fault .ensures)) (c .before .is-done .ensures) (c .if1 .taken)
 
 add-m : tie.Need-add-m Inv-loop μ-loop
 add-m c = omega arith
@@ -74,8 +83,15 @@ loop-less c = omega arith
 loop-again : tie.Need-loop-again Inv-loop μ-loop
 loop-again c = (
   omega arith,
-  first-go (mechanismFault (c .before .before .before .before .before .before .before .before .before .before .before .before .args .checks) (c .before .before .before .before .before .before .before .before .before .before .before .before .args .priors .now) (c .before .before .before .before .before .before .before .before .before .before .before .before .args .off .now) (c .before .before .before .before .before .before .before .before .before .before .before .before .args .dets .now)) (c .before .before .before .before .before .before .before .before .loop .m) _ _ (c .before .before .before .before .before .before .before .before .loop .inv .1)
-      (mech-at _ _ _ _ (c .before .before .before .before .before .before .before .before .loop .m) _ _ _ (c .before .before .before .before .before .before .at .ensures) (c .before .before .before .before .before .at2 .ensures) (c .before .before .mechanism-fault .ensures)) (c .before .is-done .ensures) (c .if1 .left),
+  first-go (mechanismFault (c .before .before .before .before .before .before .before .before .before .before .before .before .args .checks)
+      (c .before .before .before .before .before .before .before .before .before .before .before .before .args .priors .now)
+      (c .before .before .before .before .before .before .before .before .before .before .before .before .args .off .now)
+      (c .before .before .before .before .before .before .before .before .before .before .before .before .args .dets .now))
+      (c .before .before .before .before .before .before .before .before .loop .m) _ _
+      (c .before .before .before .before .before .before .before .before .loop .inv .1)
+      (mech-at _ _ _ _ (c .before .before .before .before .before .before .before .before .loop .m) _ _ _
+      (c .before .before .before .before .before .before .at .ensures)
+      (c .before .before .before .before .before .at2 .ensures) (c .before .before .mechanism-fault .ensures)) (c .before .is-done .ensures) (c .if1 .left),
 )
 
 returns-2 : tie.Need-returns-2 Inv-loop μ-loop

@@ -34,7 +34,9 @@ prior-good-requires c κs = search needs
 
 returns : tie.Need-returns Inv-loop μ-loop
 unfolding priorFault
-returns c = unless-refuse (λ k. priorGood (getD (c .before .before .before .before .before .before .args .priors .now) k nan)) BadPrior (c .before .before .before .before .loop .m) _ _ (c .before .before .before .loop-test .taken) (c .before .before .before .before .loop .inv .1) (c .before .prior-good .ensures) (c .if1 .taken)
+returns c = unless-refuse (λ k. priorGood (getD (c .before .before .before .before .before .before .args .priors .now) k nan)) BadPrior
+    (c .before .before .before .before .loop .m) _ _ (c .before .before .before .loop-test .taken)
+    (c .before .before .before .before .loop .inv .1) (c .before .prior-good .ensures) (c .if1 .taken)
 
 add-m : tie.Need-add-m Inv-loop μ-loop
 add-m c = omega arith
@@ -44,7 +46,11 @@ loop-less c = omega arith
 
 loop-again : tie.Need-loop-again Inv-loop μ-loop
 unfolding priorFault
-loop-again c = (omega arith, unless-go (λ k. priorGood (getD (c .before .before .before .before .before .before .args .priors .now) k nan)) BadPrior (c .before .before .before .before .loop .m) _ (c .before .before .before .before .loop .inv .1) (c .before .prior-good .ensures) (c .if1 .left))
+loop-again c = (
+  omega arith,
+  unless-go (λ k. priorGood (getD (c .before .before .before .before .before .before .args .priors .now) k nan)) BadPrior
+      (c .before .before .before .before .loop .m) _ (c .before .before .before .before .loop .inv .1) (c .before .prior-good .ensures) (c .if1 .left),
+)
 
 returns-2 : tie.Need-returns-2 Inv-loop μ-loop
 returns-2 c = let e : c .before .loop .m ≡ length (c .before .before .before .args .priors .now) = omega arith in sym (rw e at (c .before .loop .inv .1))

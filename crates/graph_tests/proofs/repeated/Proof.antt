@@ -23,7 +23,9 @@ at-requires : tie.Need-at-requires Inv-loop μ-loop
 at-requires c κs = omega arith
 
 returns : tie.Need-returns Inv-loop μ-loop
-returns c = sym (repeat-found (c .before .before .before .before .before .args .ds .now) (c .before .before .before .before .before .args .i) (c .before .before .before .loop .j) _ _ (c .before .before .loop-test .taken) (c .before .before .before .before .before .pre) (c .before .at .ensures) (c .if1 .taken))
+returns c = sym (repeat-found (c .before .before .before .before .before .args .ds .now)
+    (c .before .before .before .before .before .args .i) (c .before .before .before .loop .j) _ _
+    (c .before .before .loop-test .taken) (c .before .before .before .before .before .pre) (c .before .at .ensures) (c .if1 .taken))
 
 add-j : tie.Need-add-j Inv-loop μ-loop
 add-j c = omega arith
@@ -32,7 +34,11 @@ loop-less : tie.Need-loop-less Inv-loop μ-loop
 loop-less c = omega arith
 
 loop-again : tie.Need-loop-again Inv-loop μ-loop
-loop-again c = (omega arith, repeat-turn (c .before .before .before .before .before .args .ds .now) (c .before .before .before .loop .j) _ _ (omega arith) (c .before .at .ensures) (c .before .before .before .loop .inv .1) (c .if1 .left))
+loop-again c = (
+  omega arith,
+  repeat-turn (c .before .before .before .before .before .args .ds .now)
+      (c .before .before .before .loop .j) _ _ (omega arith) (c .before .at .ensures) (c .before .before .before .loop .inv .1) (c .if1 .left),
+)
 
 returns-2 : tie.Need-returns-2 Inv-loop μ-loop
 returns-2 c = let e : c .before .loop .j ≡ c .before .before .before .args .i = omega arith in sym (rw e at (c .before .loop .inv .1))

@@ -29,7 +29,9 @@ at-requires-2 : tie.Need-at-requires-2 Inv-loop μ-loop
 at-requires-2 c κs = omega arith
 
 returns : tie.Need-returns Inv-loop μ-loop
-returns c = sym (every-stop (rising (c .before .before .before .before .before .before .args .off .now)) (c .before .before .before .before .loop .r) _ (c .before .before .before .loop-test .taken) (rising-no _ _ _ _ (c .before .before .at .ensures) (c .before .at2 .ensures) (c .if1 .taken)))
+returns c = sym (every-stop (rising (c .before .before .before .before .before .before .args .off .now))
+    (c .before .before .before .before .loop .r) _ (c .before .before .before .loop-test .taken)
+    (rising-no _ _ _ _ (c .before .before .at .ensures) (c .before .at2 .ensures) (c .if1 .taken)))
 
 add-r : tie.Need-add-r Inv-loop μ-loop
 add-r c = omega arith
@@ -38,7 +40,12 @@ loop-less : tie.Need-loop-less Inv-loop μ-loop
 loop-less c = omega arith
 
 loop-again : tie.Need-loop-again Inv-loop μ-loop
-loop-again c = (omega arith, every-turn (rising (c .before .before .before .before .before .before .args .off .now)) (c .before .before .before .before .loop .r) (c .before .before .before .before .loop .inv .1) (rising-yes _ _ _ _ (c .before .before .at .ensures) (c .before .at2 .ensures) (c .if1 .left)))
+loop-again c = (
+  omega arith,
+  every-turn (rising (c .before .before .before .before .before .before .args .off .now))
+      (c .before .before .before .before .loop .r) (c .before .before .before .before .loop .inv .1)
+      (rising-yes _ _ _ _ (c .before .before .at .ensures) (c .before .at2 .ensures) (c .if1 .left)),
+)
 
 returns-2 : tie.Need-returns-2 Inv-loop μ-loop
 returns-2 c = let e : c .before .loop .r ≡ c .before .before .before .args .rows = omega arith in sym (rw e at (c .before .loop .inv .1))

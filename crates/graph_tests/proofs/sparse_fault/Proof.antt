@@ -11,11 +11,13 @@ use Rattle.graph_tests.proofs.sparse_fault.Statement.{statement}
 use Rattle.graph_tests.proofs.sparse_fault.Tie as tie
 
 -- what the second test's flag says
-fit : (c : tie.After-both) → let a = c .before .before .before .before .before .before .before .args in c .both .result ≡ (sparseFits (a .s .mechanisms) (a .s .edges) (length (a .priors .now)) (length (a .off .now)) (length (a .dets .now)) && a .fit)
+fit : (c : tie.After-both) → let a = c .before .before .before .before .before .before .before .args in c .both .result ≡
+    (sparseFits (a .s .mechanisms) (a .s .edges) (length (a .priors .now)) (length (a .off .now)) (length (a .dets .now)) && a .fit)
 fit c = c .both .ensures ∙ ap (λ (b : Bool). b && c .before .before .before .before .before .before .before .args .fit) (c .before .model-fits .ensures)
 
 -- the lengths that it tells
-lengths : (c : tie.Else2) → let a = c .before .before .before .before .before .before .before .before .args in Lengths (a .s .checks) (a .s .mechanisms) (a .s .edges) (a .priors .now) (a .off .now) (a .dets .now) (a .fit)
+lengths : (c : tie.Else2) → let a = c .before .before .before .before .before .before .before .before .args in Lengths
+    (a .s .checks) (a .s .mechanisms) (a .s .edges) (a .priors .now) (a .off .now) (a .dets .now) (a .fit)
 lengths c = lengths-told _ _ _ _ _ _ _ (was-true _ _ (fit (c .before)) (c .if2 .left))
 
 sizes-good-requires : tie.Need-sizes-good-requires
@@ -37,14 +39,19 @@ offsets-good-requires : tie.Need-offsets-good-requires
 offsets-good-requires c κs = lengths c .off-many
 
 returns-3 : tie.Need-returns-3
-returns-3 c = sparse-3 _ _ _ _ _ _ _ (was-true _ _ (c .before .before .before .before .before .before .sizes-good .ensures) (c .before .before .before .before .before .if1 .left)) (was-true _ _ (fit (c .before .before .before)) (c .before .before .if2 .left)) (was-false _ _ (c .before .offsets-good .ensures) (c .if3 .taken))
+returns-3 c = sparse-3 _ _ _ _ _ _ _ (was-true _ _ (c .before .before .before .before .before .before .sizes-good .ensures)
+    (c .before .before .before .before .before .if1 .left)) (was-true _ _
+    (fit (c .before .before .before)) (c .before .before .if2 .left)) (was-false _ _ (c .before .offsets-good .ensures) (c .if3 .taken))
 
 mechanisms-fault-requires : tie.Need-mechanisms-fault-requires
 mechanisms-fault-requires c κs = (offsets-told _ _ _ (lengths (c .before .before) .off-many) (was-true _ _ (c .before .offsets-good .ensures) (c .if3 .left)), lengths (c .before .before) .priors-many)
 
 returns-4 : tie.Need-returns-4
 returns-4 c =
-    sparse-4 _ _ _ _ _ _ _ _ (was-true _ _ (c .before .before .before .before .before .before .before .sizes-good .ensures) (c .before .before .before .before .before .before .if1 .left)) (was-true _ _ (fit (c .before .before .before .before)) (c .before .before .before .if2 .left)) (was-true _ _ (c .before .before .offsets-good .ensures) (c .before .if3 .left))
+    sparse-4 _ _ _ _ _ _ _ _ (was-true _ _ (c .before .before .before .before .before .before .before .sizes-good .ensures)
+    (c .before .before .before .before .before .before .if1 .left))
+    (was-true _ _ (fit (c .before .before .before .before)) (c .before .before .before .if2 .left)) (was-true _ _ (c .before .before .offsets-good .ensures)
+    (c .before .if3 .left))
     (c .mechanisms-fault .ensures)
 
 pub sparse-fault-spec : {M : Type 1} → statement M

@@ -17,8 +17,42 @@ enum-told c = search needs
 
 decode-fronts-requires : tie.Need-decode-fronts-requires
 decode-fronts-requires c κs =
-    let a = c .before .before .before .before .before .before .before .before .before .before .before .before .before .before .before .before .before .before .before .before .before .before .before .before .before .before .before .before .before .before .before .before .before .before .before .before .before .before .before .before .before .before .before .args in
-    let w = in-order-told (a .size .edges) (a .size .checks) (a .size .mechanisms) (a .settings) (a .gammas .now) (a .seed) (a .syndrome .now) (a .priors .now) (a .check-var .now) (a .check-message .now) (a .check-offset .now) (a .var-check .now) (a .var-message .now) (a .var-offset .now) (a .order .now) (record { legState = a .leg-state .now; legIterations = a .leg-iterations .now; legWeight = a .leg-weight .now; rows = a .rows .now; correction = a .correction .now; posterior = a .posterior .now; gamma = a .gamma .now; bias = a .bias .now; cToV = a .c-to-v .now; vToC = a .v-to-c .now }) _ (c .before .before .before .before .before .before .before .before .before .before .before .before .decode-fault .ensures ∙ fault-seed (a .size .edges) (a .size .checks) (a .size .mechanisms) (a .settings) (a .gammas .now) (a .seed) (a .syndrome .now) (a .priors .now) (a .check-var .now) (a .check-message .now) (a .check-offset .now) (a .var-check .now) (a .var-message .now) (a .var-offset .now) (a .order .now) (record { legState = a .leg-state .now; legIterations = a .leg-iterations .now; legWeight = a .leg-weight .now; rows = a .rows .now; correction = a .correction .now; posterior = a .posterior .now; gamma = a .gamma .now; bias = a .bias .now; cToV = a .c-to-v .now; vToC = a .v-to-c .now })) (c .before .before .before .before .before .before .before .before .before .before .enum-told .given .1) in
+    let a = c .before .before .before .before .before .before .before .before .before .before .before .before .before .before .before .before .before .before
+    .before .before .before .before .before .before .before .before .before .before .before .before .before .before .before .before .before .before .before
+    .before .before .before .before .before .before .args in
+    let w = in-order-told (a .size .edges) (a .size .checks) (a .size .mechanisms) (a .settings) (a .gammas .now) (a .seed) (a .syndrome .now) (a .priors .now)
+    (a .check-var .now) (a .check-message .now) (a .check-offset .now) (a .var-check .now) (a .var-message .now) (a .var-offset .now) (a .order .now)
+    (record {
+      legState = a .leg-state .now;
+      legIterations = a .leg-iterations .now;
+      legWeight = a .leg-weight .now;
+      rows = a .rows .now;
+      correction = a
+          .correction .now;
+      posterior = a .posterior .now;
+      gamma = a .gamma .now;
+      bias = a .bias .now;
+      cToV = a .c-to-v .now;
+      vToC = a .v-to-c .now;
+    }) _
+    (c .before .before .before .before .before .before .before .before .before .before .before .before .decode-fault .ensures ∙ fault-seed (a .size .edges)
+    (a .size .checks) (a .size .mechanisms) (a .settings)
+    (a .gammas .now) (a .seed) (a .syndrome .now) (a .priors .now)
+    (a .check-var .now) (a .check-message .now) (a .check-offset .now) (a .var-check .now) (a .var-message .now) (a .var-offset .now) (a .order .now)
+    (record {
+      legState = a .leg-state .now;
+      legIterations = a .leg-iterations .now;
+      legWeight = a .leg-weight .now;
+      rows = a .rows .now;
+      correction = a
+          .correction .now;
+      posterior = a .posterior .now;
+      gamma = a .gamma .now;
+      bias = a .bias .now;
+      cToV = a .c-to-v .now;
+      vToC = a .v-to-c .now;
+    }))
+    (c .before .before .before .before .before .before .before .before .before .before .enum-told .given .1) in
     (w .reads, (w .legs-fit, (w .work-fits, w .messages-fit)))
 
 same-length : tie.Need-same-length
@@ -53,8 +87,41 @@ same-length-10 c = search needs
 
 returns : tie.Need-returns
 returns c =
-    let a = c .before .before .before .before .before .before .before .before .before .before .before .before .before .before .before .before .before .before .before .before .before .before .before .before .before .before .before .before .before .before .before .before .before .before .args in
-    in-order-refused (a .size .edges) (a .size .checks) (a .size .mechanisms) (a .settings) (a .gammas .now) (a .seed) (a .syndrome .now) (a .priors .now) (a .check-var .now) (a .check-message .now) (a .check-offset .now) (a .var-check .now) (a .var-message .now) (a .var-offset .now) (a .order .now) (record { legState = a .leg-state .now; legIterations = a .leg-iterations .now; legWeight = a .leg-weight .now; rows = a .rows .now; correction = a .correction .now; posterior = a .posterior .now; gamma = a .gamma .now; bias = a .bias .now; cToV = a .c-to-v .now; vToC = a .v-to-c .now }) _ _ (c .before .before .before .decode-fault .ensures ∙ fault-seed (a .size .edges) (a .size .checks) (a .size .mechanisms) (a .settings) (a .gammas .now) (a .seed) (a .syndrome .now) (a .priors .now) (a .check-var .now) (a .check-message .now) (a .check-offset .now) (a .var-check .now) (a .var-message .now) (a .var-offset .now) (a .order .now) (record { legState = a .leg-state .now; legIterations = a .leg-iterations .now; legWeight = a .leg-weight .now; rows = a .rows .now; correction = a .correction .now; posterior = a .posterior .now; gamma = a .gamma .now; bias = a .bias .now; cToV = a .c-to-v .now; vToC = a .v-to-c .now })) (c .before .a .given .1)
+    let a = c .before .before .before .before .before .before .before .before .before .before .before .before .before .before .before .before .before .before
+    .before .before .before .before .before .before .before .before .before .before .before .before .before .before .before .before .args in
+    in-order-refused (a .size .edges) (a .size .checks) (a .size .mechanisms)
+    (a .settings) (a .gammas .now) (a .seed) (a .syndrome .now)
+    (a .priors .now) (a .check-var .now) (a .check-message .now)
+    (a .check-offset .now) (a .var-check .now) (a .var-message .now)
+    (a .var-offset .now) (a .order .now) (record {
+      legState = a .leg-state .now;
+      legIterations = a .leg-iterations .now;
+      legWeight = a .leg-weight .now;
+      rows = a .rows .now;
+      correction = a .correction .now;
+      posterior = a .posterior .now;
+      gamma = a .gamma .now;
+      bias = a .bias .now;
+      cToV = a .c-to-v .now;
+      vToC = a .v-to-c .now;
+    }) _ _ (c .before .before .before .decode-fault .ensures ∙ fault-seed
+    (a .size .edges) (a .size .checks) (a .size .mechanisms) (a .settings)
+    (a .gammas .now) (a .seed) (a .syndrome .now) (a .priors .now)
+    (a .check-var .now) (a .check-message .now) (a .check-offset .now) (a .var-check .now) (a .var-message .now) (a .var-offset .now) (a .order .now)
+    (record {
+      legState = a .leg-state .now;
+      legIterations = a .leg-iterations .now;
+      legWeight = a .leg-weight .now;
+      rows = a .rows .now;
+      correction = a
+          .correction .now;
+      posterior = a .posterior .now;
+      gamma = a .gamma .now;
+      bias = a .bias .now;
+      cToV = a .c-to-v .now;
+      vToC = a .v-to-c .now;
+    }))
+    (c .before .a .given .1)
 
 same-length-11 : tie.Need-same-length-11
 same-length-11 c = search needs
@@ -88,8 +155,45 @@ same-length-20 c = search needs
 
 returns-2 : tie.Need-returns-2
 returns-2 c =
-    let a = c .before .before .before .before .before .before .before .before .before .before .before .before .before .before .before .before .before .before .before .before .before .before .before .before .before .before .before .before .before .before .before .before .before .before .before .before .before .before .before .before .before .before .before .before .before .before .before .before .before .before .before .before .before .before .before .before .before .before .before .before .before .before .before .before .args in
-    in-order-ran (a .size .edges) (a .size .checks) (a .size .mechanisms) (a .settings) (a .gammas .now) (a .seed) (a .syndrome .now) (a .priors .now) (a .check-var .now) (a .check-message .now) (a .check-offset .now) (a .var-check .now) (a .var-message .now) (a .var-offset .now) (a .order .now) (record { legState = a .leg-state .now; legIterations = a .leg-iterations .now; legWeight = a .leg-weight .now; rows = a .rows .now; correction = a .correction .now; posterior = a .posterior .now; gamma = a .gamma .now; bias = a .bias .now; cToV = a .c-to-v .now; vToC = a .v-to-c .now }) _ _ (c .before .before .before .before .before .before .before .before .before .before .before .before .before .before .before .before .before .before .before .before .before .before .before .before .before .before .before .before .before .before .before .before .before .decode-fault .ensures ∙ fault-seed (a .size .edges) (a .size .checks) (a .size .mechanisms) (a .settings) (a .gammas .now) (a .seed) (a .syndrome .now) (a .priors .now) (a .check-var .now) (a .check-message .now) (a .check-offset .now) (a .var-check .now) (a .var-message .now) (a .var-offset .now) (a .order .now) (record { legState = a .leg-state .now; legIterations = a .leg-iterations .now; legWeight = a .leg-weight .now; rows = a .rows .now; correction = a .correction .now; posterior = a .posterior .now; gamma = a .gamma .now; bias = a .bias .now; cToV = a .c-to-v .now; vToC = a .v-to-c .now })) (c .before .before .before .before .before .before .before .before .before .before .before .before .before .before .before .before .before .before .before .before .before .before .before .before .before .before .before .before .before .before .before .enum-told .given .1) (c .before .before .before .before .before .before .before .before .before .before .before .before .before .before .before .before .before .before .before .before .decode-fronts .ensures)
+    let a = c .before .before .before .before .before .before .before .before .before .before .before .before .before .before .before .before .before .before
+    .before .before .before .before .before .before .before .before .before .before .before .before .before .before .before .before .before .before .before
+    .before .before .before .before .before .before .before .before .before .before .before .before .before .before .before .before .before .before .before
+    .before .before .before .before .before .before .before .before .args in
+    in-order-ran (a .size .edges) (a .size .checks) (a .size .mechanisms)
+    (a .settings) (a .gammas .now) (a .seed) (a .syndrome .now)
+    (a .priors .now) (a .check-var .now) (a .check-message .now)
+    (a .check-offset .now) (a .var-check .now) (a .var-message .now)
+    (a .var-offset .now) (a .order .now) (record {
+      legState = a .leg-state .now;
+      legIterations = a .leg-iterations .now;
+      legWeight = a .leg-weight .now;
+      rows = a .rows .now;
+      correction = a .correction .now;
+      posterior = a .posterior .now;
+      gamma = a .gamma .now;
+      bias = a .bias .now;
+      cToV = a .c-to-v .now;
+      vToC = a .v-to-c .now;
+    }) _ _ (c .before .before .before .before .before .before .before .before .before .before .before .before .before .before .before
+    .before .before .before .before .before .before .before .before .before .before .before .before .before .before .before .before .before .before
+    .decode-fault .ensures ∙ fault-seed (a .size .edges) (a .size .checks) (a .size .mechanisms) (a .settings) (a .gammas .now) (a .seed) (a .syndrome .now)
+    (a .priors .now) (a .check-var .now) (a .check-message .now)
+    (a .check-offset .now) (a .var-check .now) (a .var-message .now)
+    (a .var-offset .now) (a .order .now) (record {
+      legState = a .leg-state .now;
+      legIterations = a .leg-iterations .now;
+      legWeight = a .leg-weight .now;
+      rows = a .rows .now;
+      correction = a .correction .now;
+      posterior = a .posterior .now;
+      gamma = a .gamma .now;
+      bias = a .bias .now;
+      cToV = a .c-to-v .now;
+      vToC = a .v-to-c .now;
+    })) (c .before .before .before .before .before .before .before .before .before .before .before .before .before .before .before
+    .before .before .before .before .before .before .before .before .before .before .before .before .before .before .before .before .enum-told .given .1)
+    (c .before .before .before .before .before .before .before .before .before .before .before .before .before .before .before .before .before .before
+    .before .before .decode-fronts .ensures)
 
 pub decode-in-order-spec : {M : Type 1} → statement M
 decode-in-order-spec =

@@ -30,7 +30,9 @@ record-of-requires : tie.Need-record-of-requires
 record-of-requires c κs = search needs
 
 returns-4 : tie.Need-returns-4
-returns-4 c = record-read _ _ _ _ _ _ (c .before .before .before .before .before .before .if1 .left) (c .before .before .before .before .before .if2 .left) (c .before .before .before .before .if3 .left) (c .before .before .at .ensures) (c .record-of .ensures)
+returns-4 c = record-read _ _ _ _ _ _ (c .before .before .before .before .before .before .if1 .left)
+    (c .before .before .before .before .before .if2 .left) (c .before .before .before .before .if3 .left)
+    (c .before .before .at .ensures) (c .record-of .ensures)
 
 pub leg-record-spec : {M : Type 1} → statement M
 leg-record-spec =

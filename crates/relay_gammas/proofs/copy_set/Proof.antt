@@ -40,7 +40,9 @@ same-length : tie.Need-same-length
 same-length c = search needs
 
 returns : tie.Need-returns
-returns c = set-is _ _ (c .before .before .before .before .before .before .before .before .args .sets) (length (c .before .before .before .before .before .before .before .before .args .gamma .now)) _ _ (c .before .before .before .before .before .set-of .ensures) (c .before .before .copy .ensures)
+returns c = set-is _ _ (c .before .before .before .before .before .before .before .before .args .sets)
+    (length (c .before .before .before .before .before .before .before .before .args .gamma .now)) _ _
+    (c .before .before .before .before .before .set-of .ensures) (c .before .before .copy .ensures)
 
 pub copy-set-spec : {M : Type 1} → statement M
 copy-set-spec =

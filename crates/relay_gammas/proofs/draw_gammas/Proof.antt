@@ -11,7 +11,8 @@ use Rattle.relay_gammas.proofs.draw_gammas.Statement.{statement}
 use Rattle.relay_gammas.proofs.draw_gammas.Tie as tie
 
 abbrev Inv-loop : tie.InvT-loop
-Inv-loop low high seed gamma₀ generator₀ v₀ gamma generator v = (v ≤ length gamma) × (length gamma ≡ length gamma₀) × (generator .state ≡ drawn low high seed v .state) × (take v gamma ≡ drawn low high seed v .gammas)
+Inv-loop low high seed gamma₀ generator₀ v₀ gamma generator v = (v ≤ length gamma) ×
+    (length gamma ≡ length gamma₀) × (generator .state ≡ drawn low high seed v .state) × (take v gamma ≡ drawn low high seed v .gammas)
 
 abbrev μ-loop : tie.MeasureT-loop
 μ-loop low high seed gamma₀ generator₀ v₀ gamma generator v = length gamma - v
@@ -44,8 +45,14 @@ loop-less c = simp length-set (omega arith)
 loop-again : tie.Need-loop-again Inv-loop μ-loop
 loop-again c =
     let l = c .before .before .before .before .loop in
-    let d = c .before .before .draw .ensures in
-    (simp length-set (omega arith), simp length-set (omega arith), draw-state _ _ _ (l .v) _ (l .inv .2) _ (d .1), draw-turn _ _ _ (l .v) _ (l .inv .2) (l .gamma) _ _ (c .before .before .before .loop-test .taken) (l .inv .3) (d .0) (c .before .gamma .ensures))
+    let d = c .before .before .draw .ensures in (
+      simp length-set (omega arith),
+      simp length-set (omega arith),
+      draw-state _ _ _
+          (l .v) _ (l .inv .2) _ (d .1),
+      draw-turn _ _ _ (l .v) _ (l .inv .2)
+          (l .gamma) _ _ (c .before .before .before .loop-test .taken) (l .inv .3) (d .0) (c .before .gamma .ensures),
+    )
 
 same-length : tie.Need-same-length Inv-loop μ-loop
 same-length c = omega arith

@@ -10,7 +10,8 @@ enum-known-source : tie.Need-enum-known-source
 enum-known-source c = search needs
 
 copy-set-requires : tie.Need-copy-set-requires
-copy-set-requires c κs = let w = c .before .before .before .before .before .before .pre .1 _ (c .before .before .source .given .1) in (c .before .before .before .before .before .before .pre .0 .0, w .0, w .1)
+copy-set-requires c κs = let w = c .before .before .before .before .before .before .pre .1 _
+    (c .before .before .source .given .1) in (c .before .before .before .before .before .before .pre .0 .0, w .0, w .1)
 
 enum-told : tie.Need-enum-told
 enum-told c = search needs
@@ -32,7 +33,8 @@ same-length-2 : tie.Need-same-length-2
 same-length-2 c = search needs
 
 returns-2 : tie.Need-returns-2
-returns-2 c = rw (c .before .before .before .before .enum-told .given .1) (seeded-is _ _ _ _ _ _ (c .before .before .before .before .before .before .before .before .args .leg) (c .before .before .draw-gammas .ensures))
+returns-2 c = rw (c .before .before .before .before .enum-told .given .1)
+    (seeded-is _ _ _ _ _ _ (c .before .before .before .before .before .before .before .before .args .leg) (c .before .before .draw-gammas .ensures))
 
 pub relay-gamma-spec : {M : Type 1} → statement M
 relay-gamma-spec =

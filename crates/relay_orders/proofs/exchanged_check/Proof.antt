@@ -1,4 +1,5 @@
--- `relay_orders::exchanged_check` meets its contract. The invariant: nothing is exchanged among the names so far, and `last` has the highest of them for each mechanism. So the marks of a check's mechanisms tell whether it is late. Assumes nothing.
+-- `relay_orders::exchanged_check` meets its contract. The invariant: nothing is exchanged among the names so far, and `last` has the highest of them for each
+-- mechanism. So the marks of a check's mechanisms tell whether it is late. Assumes nothing.
 use mathlib.Core.Path.{_≡_, refl, _∙_, ap}
 use mathlib.Core.List.{[]}
 use Prim.Native.Nat.{ℕ, _≤_, _<_, _-_}
@@ -78,7 +79,9 @@ returns c =
     let p = o .before .before .before in
     let k = p .before .before in
     let l = k .before .before .loop in
-    test-found (start k .args .check-offset .now) (start k .args .check-var .now) (start k .args .order .now) (l .last) (l .i) _ _ _ _ (k .before .loop-test .taken) (k .at .ensures) (p .before .at2 .ensures) (p .at3 .ensures) refl (l .inv .2) _ (o .is-overtaken .ensures) (entries p) (c .if1 .taken)
+    test-found (start k .args .check-offset .now) (start k .args .check-var .now)
+    (start k .args .order .now) (l .last) (l .i) _ _ _ _ (k .before .loop-test .taken)
+    (k .at .ensures) (p .before .at2 .ensures) (p .at3 .ensures) refl (l .inv .2) _ (o .is-overtaken .ensures) (entries p) (c .if1 .taken)
     ∙ l .inv .3
 
 mul-mark : tie.Need-mul-mark Inv-loop μ-loop
@@ -111,8 +114,12 @@ loop-again c =
     let l = k .before .before .loop in (
       omega arith,
       ap length (c .mark .ensures) ∙ length-marked _ _ _ ∙ l .inv .1,
-      test-tells (start k .args .check-offset .now) (start k .args .check-var .now) (start k .args .order .now) (l .last) (l .i) _ _ _ _ (k .before .loop-test .taken) (k .at .ensures) (p .before .at2 .ensures) (p .at3 .ensures) refl (l .inv .2) _ (o .is-overtaken .ensures) (e .if1 .left) (l .inv .1) _ (c .mark .ensures),
-      test-goes-on (start k .args .check-offset .now) (start k .args .check-var .now) (start k .args .order .now) (l .last) (l .i) _ _ _ _ (k .before .loop-test .taken) (k .at .ensures) (p .before .at2 .ensures) (p .at3 .ensures) refl (l .inv .2) _ (o .is-overtaken .ensures) (entries p) (e .if1 .left) ∙ l .inv .3,
+      test-tells (start k .args .check-offset .now) (start k .args .check-var .now)
+          (start k .args .order .now) (l .last) (l .i) _ _ _ _ (k .before .loop-test .taken) (k .at .ensures) (p .before .at2 .ensures) (p .at3 .ensures) refl
+          (l .inv .2) _ (o .is-overtaken .ensures) (e .if1 .left) (l .inv .1) _ (c .mark .ensures),
+      test-goes-on (start k .args .check-offset .now) (start k .args .check-var .now)
+          (start k .args .order .now) (l .last) (l .i) _ _ _ _ (k .before .loop-test .taken) (k .at .ensures) (p .before .at2 .ensures) (p .at3 .ensures) refl
+          (l .inv .2) _ (o .is-overtaken .ensures) (entries p) (e .if1 .left) ∙ l .inv .3,
     )
 
 returns-2 : tie.Need-returns-2 Inv-loop μ-loop

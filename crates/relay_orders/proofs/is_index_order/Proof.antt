@@ -34,7 +34,11 @@ loop-less : tie.Need-loop-less Inv-loop μ-loop
 loop-less c = omega arith
 
 loop-again : tie.Need-loop-again Inv-loop μ-loop
-loop-again c = (omega arith, below-more (λ k. getD (c .before .before .before .before .before .before .args .order .now) k 0 ≡ k) _ (c .before .before .before .loop .inv .1) (sym (c .before .at .ensures) ∙ c .if2 .left))
+loop-again c = (
+  omega arith,
+  below-more (λ k. getD (c .before .before .before .before .before .before .args .order .now) k 0 ≡ k) _
+      (c .before .before .before .loop .inv .1) (sym (c .before .at .ensures) ∙ c .if2 .left),
+)
 
 returns-3 : tie.Need-returns-3 Inv-loop μ-loop
 returns-3 c = λ e. is-table _ _ _ (c .before .before .if1 .left) (λ k h. c .before .loop .inv .1 k (omega arith))

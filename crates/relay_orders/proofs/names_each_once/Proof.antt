@@ -1,4 +1,5 @@
--- `relay_orders::names_each_once` meets its contract. The invariant: of the names so far none is beyond the checks and none stands twice, and `seen` counts them. Each way out says what the test says: another length, a name that is no check, a name twice, or each once. Assumes nothing.
+-- `relay_orders::names_each_once` meets its contract. The invariant: of the names so far none is beyond the checks and none stands twice, and `seen` counts
+-- them. Each way out says what the test says: another length, a name that is no check, a name twice, or each once. Assumes nothing.
 use mathlib.Core.Path.{_≡_, sym}
 use Prim.Native.Nat.{ℕ, _≤_, _-_}
 use native.Mathlib.Omega.{arith}

@@ -33,8 +33,15 @@ same-length-5 c = search needs
 
 returns : tie.Need-returns
 returns c =
-    let a = c .before .before .before .before .before .before .before .before .before .before .before .before .before .before .before .before .before .before .before .before .before .before .before .before .args in
-    record-converged (a .l .converged) (bestOf (a .tally .found) (a .tally .weight)) _ _ _ _ _ (a .leg-state .now) (a .leg-iterations .now) (a .leg-weight .now) _ _ _ (a .row .now) (a .correction .now) _ (a .leg) _ _ _ (c .before .before .before .before .before .before .before .before .before .before .before .before .before .before .before .before .before .if1 .taken) (c .before .before .before .before .before .before .before .before .before .before .before .before .before .before .before .correction-weight .ensures) (c .before .before .before .before .before .before .before .before .before .before .before .write-leg .ensures) (c .before .before .keep-least .ensures .0) (c .before .before .keep-least .ensures .1 .0) (c .before .before .keep-least .ensures .1 .1)
+    let a = c .before .before .before .before .before .before .before .before .before .before .before .before .before .before .before .before .before .before
+    .before .before .before .before .before .before .args in
+    record-converged (a .l .converged) (bestOf (a .tally .found) (a .tally .weight)) _ _ _ _ _
+    (a .leg-state .now) (a .leg-iterations .now) (a .leg-weight .now) _ _ _
+    (a .row .now) (a .correction .now) _ (a .leg) _ _ _ (c .before .before .before .before .before .before .before .before .before .before .before .before
+    .before .before .before .before .before .if1 .taken) (c .before .before .before .before .before .before .before .before .before .before .before .before
+    .before .before .before .correction-weight .ensures) (c .before .before .before .before .before .before .before .before .before .before .before
+    .write-leg .ensures) (c .before .before .keep-least .ensures .0)
+    (c .before .before .keep-least .ensures .1 .0) (c .before .before .keep-least .ensures .1 .1)
 
 write-leg-requires-2 : tie.Need-write-leg-requires-2
 write-leg-requires-2 c κs = search needs
@@ -66,8 +73,16 @@ same-length-10 c = search needs
 returns-2 : tie.Need-returns-2
 unfolding ofBits
 returns-2 c =
-    let a = c .before .before .before .before .before .before .before .before .before .before .before .before .before .before .before .before .before .before .before .before .before .before .before .before .before .before .before .before .args in
-    record-out (a .l .converged) (a .tally .found) (a .tally .weight) _ (a .tally .«num_converged») (a .tally .«total_iterations») (a .leg-state .now) (a .leg-iterations .now) (a .leg-weight .now) _ _ _ (a .row .now) _ (a .correction .now) _ (a .leg) (a .l .iterations) (c .before .before .before .before .before .before .before .before .before .before .before .before .before .before .before .before .before .before .before .before .before .if1 .left) (c .before .before .before .before .before .before .before .before .before .before .before .before .before .before .before .before .before .write-leg2 .ensures) (c .before .before .before .before .clear-bytes .ensures) (c .before .before .before .before .before .before .before .before .keep-last .ensures)
+    let a = c .before .before .before .before .before .before .before .before .before .before .before .before .before .before .before .before .before .before
+    .before .before .before .before .before .before .before .before .before .before .args in
+    record-out (a .l .converged) (a .tally .found) (a .tally .weight) _
+    (a .tally .«num_converged») (a .tally .«total_iterations») (a .leg-state .now)
+    (a .leg-iterations .now) (a .leg-weight .now) _ _ _ (a .row .now) _
+    (a .correction .now) _ (a .leg) (a .l .iterations) (c .before .before .before .before .before .before .before .before .before .before .before .before
+    .before .before .before .before .before .before .before .before .before .if1 .left)
+    (c .before .before .before .before .before .before .before .before .before .before .before .before .before .before .before .before .before .write-leg2
+    .ensures) (c .before .before .before .before .clear-bytes .ensures)
+    (c .before .before .before .before .before .before .before .before .keep-last .ensures)
 
 pub record-leg-spec : {M : Type 1} → statement M
 record-leg-spec =

@@ -35,7 +35,9 @@ is-finite-requires c κs = search needs
 
 returns : tie.Need-returns Inv-loop μ-loop
 unfolding gammaFault
-returns c = unless-refuse (λ k. isFinite (getD (c .before .before .before .before .before .before .args .gammas .now) k nan)) GammaNotFinite (c .before .before .before .before .loop .i) _ _ (c .before .before .before .loop-test .taken) (c .before .before .before .before .loop .inv .1) (c .before .is-finite .ensures) (c .if1 .taken)
+returns c = unless-refuse (λ k. isFinite (getD (c .before .before .before .before .before .before .args .gammas .now) k nan)) GammaNotFinite
+    (c .before .before .before .before .loop .i) _ _ (c .before .before .before .loop-test .taken)
+    (c .before .before .before .before .loop .inv .1) (c .before .is-finite .ensures) (c .if1 .taken)
 
 add-i : tie.Need-add-i Inv-loop μ-loop
 add-i c = omega arith
@@ -45,7 +47,11 @@ loop-less c = omega arith
 
 loop-again : tie.Need-loop-again Inv-loop μ-loop
 unfolding gammaFault
-loop-again c = (omega arith, unless-go (λ k. isFinite (getD (c .before .before .before .before .before .before .args .gammas .now) k nan)) GammaNotFinite (c .before .before .before .before .loop .i) _ (c .before .before .before .before .loop .inv .1) (c .before .is-finite .ensures) (c .if1 .left))
+loop-again c = (
+  omega arith,
+  unless-go (λ k. isFinite (getD (c .before .before .before .before .before .before .args .gammas .now) k nan)) GammaNotFinite
+      (c .before .before .before .before .loop .i) _ (c .before .before .before .before .loop .inv .1) (c .before .is-finite .ensures) (c .if1 .left),
+)
 
 returns-2 : tie.Need-returns-2 Inv-loop μ-loop
 returns-2 c = let e : c .before .loop .i ≡ length (c .before .before .before .args .gammas .now) = omega (arith, c .before .loop .inv .0, c .loop-test .left) in sym (rw e at (c .before .loop .inv .1))

@@ -72,7 +72,44 @@ or-else-requires-7 c κs = search needs
 
 returns : tie.Need-returns
 unfolding settingsFault alphaGood
-returns c = rw (c .or-else7 .ensures, c .before .or-else6 .ensures, c .before .before .unless7 .ensures, c .before .before .before .is-finite .ensures, c .before .before .before .before .unless6 .ensures, c .before .before .before .before .before .finite-positive .ensures, c .before .before .before .before .before .before .or-else5 .ensures, c .before .before .before .before .before .before .before .or-else4 .ensures, c .before .before .before .before .before .before .before .before .or-else3 .ensures, c .before .before .before .before .before .before .before .before .before .or-else2 .ensures, c .before .before .before .before .before .before .before .before .before .before .or-else .ensures, c .before .before .before .before .before .before .before .before .before .before .before .source-fault .ensures, c .before .before .before .before .before .before .before .before .before .before .before .before .unless5 .ensures, c .before .before .before .before .before .before .before .before .before .before .before .before .before .at-most2 .ensures, c .before .before .before .before .before .before .before .before .before .before .before .before .before .before .unless4 .ensures, c .before .before .before .before .before .before .before .before .before .before .before .before .before .before .before .interval-good .ensures, c .before .before .before .before .before .before .before .before .before .before .before .before .before .before .before .before .unless3 .ensures, c .before .before .before .before .before .before .before .before .before .before .before .before .before .before .before .before .before .leg-iterations-good .ensures, c .before .before .before .before .before .before .before .before .before .before .before .before .before .before .before .before .before .before .unless2 .ensures, c .before .before .before .before .before .before .before .before .before .before .before .before .before .before .before .before .before .before .before .at-most .ensures, c .before .before .before .before .before .before .before .before .before .before .before .before .before .before .before .before .before .before .before .before .unless .ensures, c .before .before .before .before .before .before .before .before .before .before .before .before .before .before .before .before .before .before .before .before .before .pre-good .ensures)
+returns c = rw (
+  c .or-else7 .ensures,
+  c .before .or-else6 .ensures,
+  c .before .before .unless7 .ensures,
+  c .before .before .before .is-finite .ensures,
+  c
+      .before .before .before .before .unless6 .ensures,
+  c .before .before .before .before .before .finite-positive .ensures,
+  c .before .before .before .before
+      .before .before .or-else5 .ensures,
+  c .before .before .before .before .before .before .before .or-else4 .ensures,
+  c .before .before .before .before .before
+      .before .before .before .or-else3 .ensures,
+  c .before .before .before .before .before .before .before .before .before .or-else2 .ensures,
+  c .before .before
+      .before .before .before .before .before .before .before .before .or-else .ensures,
+  c .before .before .before .before .before .before .before .before .before
+      .before .before .source-fault .ensures,
+  c .before .before .before .before .before .before .before .before .before .before .before .before .unless5 .ensures,
+  c .before .before .before .before .before .before .before .before .before .before .before .before .before .at-most2 .ensures,
+  c .before .before .before
+      .before .before .before .before .before .before .before .before .before .before .before .unless4 .ensures,
+  c .before .before .before .before .before .before
+      .before .before .before .before .before .before .before .before .before .interval-good .ensures,
+  c .before .before .before .before .before .before .before
+      .before .before .before .before .before .before .before .before .before .unless3 .ensures,
+  c .before .before .before .before .before .before .before .before
+      .before .before .before .before .before .before .before .before .before .leg-iterations-good .ensures,
+  c .before .before .before .before .before .before
+      .before .before .before .before .before .before .before .before .before .before .before .before .unless2 .ensures,
+  c .before .before .before .before .before
+      .before .before .before .before .before .before .before .before .before .before .before .before .before .before .at-most .ensures,
+  c .before .before .before
+      .before .before .before .before .before .before .before .before .before .before .before .before .before .before .before .before .before .unless .ensures,
+  c
+      .before .before .before .before .before .before .before .before .before .before .before .before .before .before .before .before .before .before .before
+      .before .before .pre-good .ensures,
+)
 
 pub settings-fault-spec : {M : Type 1} → statement M
 settings-fault-spec =

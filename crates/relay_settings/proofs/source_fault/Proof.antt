@@ -34,8 +34,18 @@ enum-told c = search needs
 returns : tie.Need-returns
 unfolding sourceFault
 returns c =
-    rw
-    (c .or-else2 .ensures, c .before .or-else .ensures, c .before .before .gammas-fault .ensures, c .before .before .before .unless2 .ensures, c .before .before .before .before .sets-good .ensures, c .before .before .before .before .before .unless .ensures, c .before .before .before .before .before .before .some-or-no-legs .ensures, c .before .before .before .before .before .before .before .before .source .given .1)
+    rw (
+      c .or-else2 .ensures,
+      c .before .or-else .ensures,
+      c .before .before .gammas-fault .ensures,
+      c .before .before .before .unless2 .ensures,
+      c .before .before
+          .before .before .sets-good .ensures,
+      c .before .before .before .before .before .unless .ensures,
+      c .before .before .before .before .before .before
+          .some-or-no-legs .ensures,
+      c .before .before .before .before .before .before .before .before .source .given .1,
+    )
 
 returns-2 : tie.Need-returns-2
 unfolding sourceFault

@@ -87,52 +87,101 @@ returns-4 : tie.Need-returns-4
 returns-4 c = search needs
 
 array-share-prefix-priors : tie.Need-array-share-prefix-priors
-array-share-prefix-priors c = again-fits _ (c .before .before .before .before .before .before .before .before .before .before .before .read-graph .last .1 .1 .1 .0) _ 64 (c .before .before .before .before .before .before .before .before .before .before .priors2 .given) (spare _ 63 (c .before .before .before .before .before .before .before .before .before .before .before .before .before .before .before .before .before .before .before .before .before .before .if2 .left))
+array-share-prefix-priors c = again-fits _ (c .before .before .before .before .before .before .before .before .before .before .before .read-graph .last .1 .1 .1
+    .0) _ 64 (c .before .before .before .before .before .before .before .before .before .before .priors2 .given)
+    (spare _ 63 (c .before .before .before .before .before .before .before .before .before .before .before .before .before .before .before .before .before
+    .before .before .before .before .before .if2 .left))
 
 slice-aggregate-with-gammas : tie.Need-slice-aggregate-with-gammas
-slice-aggregate-with-gammas c = again-length _ (c .before .before .before .before .before .before .before .before .before .before .before .before .read-graph .last .1 .1 .1 .0) _ 64 (c .before .before .before .before .before .before .before .before .before .before .before .priors2 .given) (spare _ 63 (c .before .before .before .before .before .before .before .before .before .before .before .before .before .before .before .before .before .before .before .before .before .before .before .if2 .left))
+slice-aggregate-with-gammas c = again-length _ (c .before .before .before .before .before .before .before .before .before .before .before .before .read-graph
+    .last .1 .1 .1 .0) _ 64 (c .before .before .before .before .before .before .before .before .before .before .before .priors2 .given)
+    (spare _ 63 (c .before .before .before .before .before .before .before .before .before .before .before .before .before .before .before .before .before
+    .before .before .before .before .before .before .if2 .left))
 
 array-share-prefix-check-var : tie.Need-array-share-prefix-check-var
-array-share-prefix-check-var c = again-fits _ (c .before .before .before .before .before .before .before .before .before .before .before .before .read-graph .last .1 .1 .1 .1 .1 .1 .0) _ 128 (c .before .before .before .before .before .before .before .before .check-var2 .given) (c .before .before .before .before .before .before .before .before .before .before .before .before .before .before .before .before .before .before .before .before .before .before .if3 .left)
+array-share-prefix-check-var c = again-fits _ (c .before .before .before .before .before .before .before .before .before .before .before .before .read-graph
+    .last .1 .1 .1 .1 .1 .1 .0) _ 128 (c .before .before .before .before .before .before .before .before .check-var2 .given)
+    (c .before .before .before .before .before .before .before .before .before .before .before .before .before .before .before .before .before .before .before
+    .before .before .before .if3 .left)
 
 slice-aggregate-with-gammas-2 : tie.Need-slice-aggregate-with-gammas-2
-slice-aggregate-with-gammas-2 c = again-length _ (c .before .before .before .before .before .before .before .before .before .before .before .before .before .read-graph .last .1 .1 .1 .1 .1 .1 .0) _ 128 (c .before .before .before .before .before .before .before .before .before .check-var2 .given) (c .before .before .before .before .before .before .before .before .before .before .before .before .before .before .before .before .before .before .before .before .before .before .before .if3 .left)
+slice-aggregate-with-gammas-2 c = again-length _ (c .before .before .before .before .before .before .before .before .before .before .before .before .before
+    .read-graph .last .1 .1 .1 .1 .1 .1 .0) _ 128 (c .before .before .before .before .before .before .before .before .before .check-var2 .given)
+    (c .before .before .before .before .before .before .before .before .before .before .before .before .before .before .before .before .before .before .before
+    .before .before .before .before .if3 .left)
 
 array-share-prefix-check-message : tie.Need-array-share-prefix-check-message
-array-share-prefix-check-message c = again-fits _ (c .before .before .before .before .before .before .before .before .before .before .before .before .before .read-graph .last .1 .1 .1 .1 .1 .1 .1 .0) _ 128 (c .before .before .before .before .before .before .before .before .check-message2 .given) (c .before .before .before .before .before .before .before .before .before .before .before .before .before .before .before .before .before .before .before .before .before .before .before .if3 .left)
+array-share-prefix-check-message c = again-fits _ (c .before .before .before .before .before .before .before .before .before .before .before .before .before
+    .read-graph .last .1 .1 .1 .1 .1 .1 .1 .0) _ 128 (c .before .before .before .before .before .before .before .before .check-message2 .given)
+    (c .before .before .before .before .before .before .before .before .before .before .before .before .before .before .before .before .before .before .before
+    .before .before .before .before .if3 .left)
 
 slice-aggregate-with-gammas-3 : tie.Need-slice-aggregate-with-gammas-3
-slice-aggregate-with-gammas-3 c = again-length _ (c .before .before .before .before .before .before .before .before .before .before .before .before .before .before .read-graph .last .1 .1 .1 .1 .1 .1 .1 .0) _ 128 (c .before .before .before .before .before .before .before .before .before .check-message2 .given) (c .before .before .before .before .before .before .before .before .before .before .before .before .before .before .before .before .before .before .before .before .before .before .before .before .if3 .left)
+slice-aggregate-with-gammas-3 c = again-length _ (c .before .before .before .before .before .before .before .before .before .before .before .before .before
+    .before .read-graph .last .1 .1 .1 .1 .1 .1 .1 .0) _ 128 (c .before .before .before .before .before .before .before .before .before .check-message2 .given)
+    (c .before .before .before .before .before .before .before .before .before .before .before .before .before .before .before .before .before .before .before
+    .before .before .before .before .before .if3 .left)
 
 add-check-offset-2 : tie.Need-add-check-offset-2
 add-check-offset-2 c = search needs
 
 array-share-prefix-check-offset : tie.Need-array-share-prefix-check-offset
-array-share-prefix-check-offset c = again-fits _ (c .before .before .before .before .before .before .before .before .before .before .before .before .before .before .read-graph .last .1 .1 .1 .1 .1 .1 .1 .1 .0) _ 64 (c .before .before .before .before .before .before .before .before .check-offset2 .given) (one-more _ 63 (c .before .before .before .before .before .before .before .before .before .before .before .before .before .before .before .before .before .before .before .before .before .before .before .before .before .before .if1 .left))
+array-share-prefix-check-offset c = again-fits _ (c .before .before .before .before .before .before .before .before .before .before .before .before .before
+    .before .read-graph .last .1 .1 .1 .1 .1 .1 .1 .1 .0) _ 64 (c .before .before .before .before .before .before .before .before .check-offset2 .given)
+    (one-more _ 63 (c .before .before .before .before .before .before .before .before .before .before .before .before .before .before .before .before .before
+    .before .before .before .before .before .before .before .before .before .if1 .left))
 
 slice-aggregate-with-gammas-4 : tie.Need-slice-aggregate-with-gammas-4
-slice-aggregate-with-gammas-4 c = again-length _ (c .before .before .before .before .before .before .before .before .before .before .before .before .before .before .before .read-graph .last .1 .1 .1 .1 .1 .1 .1 .1 .0) _ 64 (c .before .before .before .before .before .before .before .before .before .check-offset2 .given) (one-more _ 63 (c .before .before .before .before .before .before .before .before .before .before .before .before .before .before .before .before .before .before .before .before .before .before .before .before .before .before .before .if1 .left))
+slice-aggregate-with-gammas-4 c = again-length _ (c .before .before .before .before .before .before .before .before .before .before .before .before .before
+    .before .before .read-graph .last .1 .1 .1 .1 .1 .1 .1 .1 .0) _ 64
+    (c .before .before .before .before .before .before .before .before .before .check-offset2 .given)
+    (one-more _ 63 (c .before .before .before .before .before .before .before .before .before .before .before .before .before .before .before .before .before
+    .before .before .before .before .before .before .before .before .before .before .if1 .left))
 
 array-share-prefix-var-check : tie.Need-array-share-prefix-var-check
-array-share-prefix-var-check c = again-fits _ (c .before .before .before .before .before .before .before .before .before .before .before .before .before .before .before .read-graph .last .1 .1 .1 .1 .1 .1 .1 .1 .1 .0) _ 128 (c .before .before .before .before .before .before .before .before .var-check2 .given) (c .before .before .before .before .before .before .before .before .before .before .before .before .before .before .before .before .before .before .before .before .before .before .before .before .before .if3 .left)
+array-share-prefix-var-check c = again-fits _ (c .before .before .before .before .before .before .before .before .before .before .before .before .before .before
+    .before .read-graph .last .1 .1 .1 .1 .1 .1 .1 .1 .1 .0) _ 128
+    (c .before .before .before .before .before .before .before .before .var-check2 .given)
+    (c .before .before .before .before .before .before .before .before .before .before .before .before .before .before .before .before .before .before .before
+    .before .before .before .before .before .before .if3 .left)
 
 slice-aggregate-with-gammas-5 : tie.Need-slice-aggregate-with-gammas-5
-slice-aggregate-with-gammas-5 c = again-length _ (c .before .before .before .before .before .before .before .before .before .before .before .before .before .before .before .before .read-graph .last .1 .1 .1 .1 .1 .1 .1 .1 .1 .0) _ 128 (c .before .before .before .before .before .before .before .before .before .var-check2 .given) (c .before .before .before .before .before .before .before .before .before .before .before .before .before .before .before .before .before .before .before .before .before .before .before .before .before .before .if3 .left)
+slice-aggregate-with-gammas-5 c = again-length _ (c .before .before .before .before .before .before .before .before .before .before .before .before .before
+    .before .before .before .read-graph .last .1 .1 .1 .1 .1 .1 .1 .1 .1 .0) _ 128
+    (c .before .before .before .before .before .before .before .before .before .var-check2 .given)
+    (c .before .before .before .before .before .before .before .before .before .before .before .before .before .before .before .before .before .before .before
+    .before .before .before .before .before .before .before .if3 .left)
 
 array-share-prefix-var-message : tie.Need-array-share-prefix-var-message
-array-share-prefix-var-message c = again-fits _ (c .before .before .before .before .before .before .before .before .before .before .before .before .before .before .before .before .read-graph .last .1 .1 .1 .1 .1 .1 .1 .1 .1 .1 .0) _ 128 (c .before .before .before .before .before .before .before .before .var-message2 .given) (c .before .before .before .before .before .before .before .before .before .before .before .before .before .before .before .before .before .before .before .before .before .before .before .before .before .before .if3 .left)
+array-share-prefix-var-message c = again-fits _ (c .before .before .before .before .before .before .before .before .before .before .before .before .before
+    .before .before .before .read-graph .last .1 .1 .1 .1 .1 .1 .1 .1 .1 .1 .0) _ 128
+    (c .before .before .before .before .before .before .before .before .var-message2 .given)
+    (c .before .before .before .before .before .before .before .before .before .before .before .before .before .before .before .before .before .before .before
+    .before .before .before .before .before .before .before .if3 .left)
 
 slice-aggregate-with-gammas-6 : tie.Need-slice-aggregate-with-gammas-6
-slice-aggregate-with-gammas-6 c = again-length _ (c .before .before .before .before .before .before .before .before .before .before .before .before .before .before .before .before .before .read-graph .last .1 .1 .1 .1 .1 .1 .1 .1 .1 .1 .0) _ 128 (c .before .before .before .before .before .before .before .before .before .var-message2 .given) (c .before .before .before .before .before .before .before .before .before .before .before .before .before .before .before .before .before .before .before .before .before .before .before .before .before .before .before .if3 .left)
+slice-aggregate-with-gammas-6 c = again-length _ (c .before .before .before .before .before .before .before .before .before .before .before .before .before
+    .before .before .before .before .read-graph .last .1 .1 .1 .1 .1 .1 .1 .1 .1 .1 .0) _ 128
+    (c .before .before .before .before .before .before .before .before .before .var-message2 .given)
+    (c .before .before .before .before .before .before .before .before .before .before .before .before .before .before .before .before .before .before .before
+    .before .before .before .before .before .before .before .before .if3 .left)
 
 add-var-offset-2 : tie.Need-add-var-offset-2
 add-var-offset-2 c = search needs
 
 array-share-prefix-var-offset : tie.Need-array-share-prefix-var-offset
-array-share-prefix-var-offset c = again-fits _ (c .before .before .before .before .before .before .before .before .before .before .before .before .before .before .before .before .before .read-graph .last .1 .1 .1 .1 .1 .1 .1 .1 .1 .1 .1 .0) _ 64 (c .before .before .before .before .before .before .before .before .var-offset2 .given) (one-more _ 63 (c .before .before .before .before .before .before .before .before .before .before .before .before .before .before .before .before .before .before .before .before .before .before .before .before .before .before .before .before .if2 .left))
+array-share-prefix-var-offset c = again-fits _ (c .before .before .before .before .before .before .before .before .before .before .before .before .before
+    .before .before .before .before .read-graph .last .1 .1 .1 .1 .1 .1 .1 .1 .1 .1 .1 .0) _ 64
+    (c .before .before .before .before .before .before .before .before .var-offset2 .given)
+    (one-more _ 63 (c .before .before .before .before .before .before .before .before .before .before .before .before .before .before .before .before .before
+    .before .before .before .before .before .before .before .before .before .before .before .if2 .left))
 
 slice-aggregate-with-gammas-7 : tie.Need-slice-aggregate-with-gammas-7
-slice-aggregate-with-gammas-7 c = again-length _ (c .before .before .before .before .before .before .before .before .before .before .before .before .before .before .before .before .before .before .read-graph .last .1 .1 .1 .1 .1 .1 .1 .1 .1 .1 .1 .0) _ 64 (c .before .before .before .before .before .before .before .before .before .var-offset2 .given) (one-more _ 63 (c .before .before .before .before .before .before .before .before .before .before .before .before .before .before .before .before .before .before .before .before .before .before .before .before .before .before .before .before .before .if2 .left))
+slice-aggregate-with-gammas-7 c = again-length _ (c .before .before .before .before .before .before .before .before .before .before .before .before .before
+    .before .before .before .before .before .read-graph .last .1 .1 .1 .1 .1 .1 .1 .1 .1 .1 .1 .0) _ 64
+    (c .before .before .before .before .before .before .before .before .before .var-offset2 .given)
+    (one-more _ 63 (c .before .before .before .before .before .before .before .before .before .before .before .before .before .before .before .before .before
+    .before .before .before .before .before .before .before .before .before .before .before .before .if2 .left))
 
 with-gammas-requires : tie.Need-with-gammas-requires
 with-gammas-requires c κs = search needs

@@ -10,7 +10,8 @@ number-requires : tie.Need-number-requires
 number-requires c κs = search needs
 
 bucket-requires : tie.Need-bucket-requires
-bucket-requires c κs = let p = c .before .before .before .before .before .before .before .before .before .before .before .before .before .pre in (p .0, (p .1 .0, (p .1 .1 .0, (p .1 .1 .1 .1 .2, p .1 .1 .1 .1 .0, p .1 .1 .1 .1 .1))))
+bucket-requires c κs = let p = c .before .before .before .before .before .before .before .before .before .before .before .before .before .pre in
+    (p .0, (p .1 .0, (p .1 .1 .0, (p .1 .1 .1 .1 .2, p .1 .1 .1 .1 .0, p .1 .1 .1 .1 .1))))
 
 same-length : tie.Need-same-length
 same-length c = search needs
@@ -25,7 +26,12 @@ same-length-4 : tie.Need-same-length-4
 same-length-4 c = search needs
 
 returns : tie.Need-returns
-returns c = record { numbers = c .before .before .before .before .before .before .before .before .before .before .before .before .number .ensures ∙ ap (λ (n : ℕ). upto n) (c .before .before .before .before .before .before .before .before .before .before .before .before .before .before .before .before .before .before .before .before .pre .1 .1 .1 .0); pass = c .before .before .before .before .before .before .bucket .ensures }
+returns c = record {
+  numbers = c .before .before .before .before .before .before .before .before .before .before .before .before .number .ensures ∙ ap
+      (λ (n : ℕ). upto n) (c .before .before .before .before .before .before .before .before .before .before .before .before .before .before .before .before
+      .before .before .before .before .pre .1 .1 .1 .0);
+  pass = c .before .before .before .before .before .before .bucket .ensures;
+}
 
 pub from-checks-spec : {M : Type 1} → statement M
 from-checks-spec =

@@ -14,11 +14,14 @@ bucket-requires c κs =
 
 from-checks-requires : tie.Need-from-checks-requires
 from-checks-requires c κs =
-    let b = c .before .before .before .before .before .before .before .before .before .before .before .before .before .before .before .before .before .before .before .before .before .before .before .before in
+    let b = c .before .before .before .before .before .before .before .before .before .before .before .before .before .before .before .before .before .before
+    .before .before .before .before .before .before in
     let p = b .pre in
     let k = c .before .before .before .before .before .before .before .before .before .before .before .before .bucket .kept .1 .1 .1 .1 in
     let l = k .1 .0 ∙ p .1 .1 .0 .0 in
-    let f = first-pass (b .args .checks) (b .args .mechanisms) (b .args .off .now) (b .args .dets .now) (p .0) _ _ _ (c .before .before .before .before .before .before .before .before .before .before .before .before .bucket .ensures) in
+    let f = first-pass (b .args .checks) (b .args .mechanisms) (b .args .off .now)
+    (b .args .dets .now) (p .0) _ _ _ (c .before .before .before .before .before .before .before .before .before .before .before .before .bucket .ensures)
+    in
     let s = second-valid (b .args .checks) (b .args .mechanisms) (among (b .args .off .now) (b .args .dets .now)) _ _ (f .0) (f .1) in
     (s .0, (s .1, ((p .1 .0 .0, omega (arith, l, p .1 .0 .2)), (k .1 .1 .0 ∙ p .1 .1 .0 .1 ∙ sym l, (p .1 .1 .1 .0 ∙ sym l, p .1 .1 .1 .1 ∙ sym l, p .1 .1 .1 .2)))))
 
@@ -42,9 +45,13 @@ same-length-6 c = search needs
 
 returns : tie.Need-returns
 returns c =
-    let b = c .before .before .before .before .before .before .before .before .before .before .before .before .before .before .before .before .before .before .before .before .before .before .before .before .before .before .before .before .before .before .before .before .before in
-    let f = first-pass (b .args .checks) (b .args .mechanisms) (b .args .off .now) (b .args .dets .now) (b .pre .0) _ _ _ (c .before .before .before .before .before .before .before .before .before .before .before .before .before .before .before .before .before .before .before .before .before .bucket .ensures) in
-    finished (b .args .checks) (b .args .mechanisms) (among (b .args .off .now) (b .args .dets .now)) _ _ _ _ _ _ (f .0) (f .1) (c .before .before .before .before .before .before .before .before .from-checks .ensures)
+    let b = c .before .before .before .before .before .before .before .before .before .before .before .before .before .before .before .before .before .before
+    .before .before .before .before .before .before .before .before .before .before .before .before .before .before .before in
+    let f = first-pass (b .args .checks) (b .args .mechanisms) (b .args .off .now)
+    (b .args .dets .now) (b .pre .0) _ _ _ (c .before .before .before .before .before .before .before .before .before .before .before .before .before
+    .before .before .before .before .before .before .before .before .bucket .ensures) in
+    finished (b .args .checks) (b .args .mechanisms) (among (b .args .off .now)
+    (b .args .dets .now)) _ _ _ _ _ _ (f .0) (f .1) (c .before .before .before .before .before .before .before .before .from-checks .ensures)
 
 pub from-detectors-spec : {M : Type 1} → statement M
 from-detectors-spec =

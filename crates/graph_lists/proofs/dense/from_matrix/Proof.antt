@@ -39,9 +39,12 @@ same-length-6 c = search needs
 
 returns : tie.Need-returns
 returns c =
-    let b = c .before .before .before .before .before .before .before .before .before .before .before .before .before .before .before .before .before .before .before .before .before .before .before .before .before .before .before .before .before in
+    let b = c .before .before .before .before .before .before .before .before .before .before .before .before .before .before .before .before .before .before
+    .before .before .before .before .before .before .before .before .before .before .before in
     let m = c .before .before .before .before .before .before .before .before .before .before .before .before .before .before .before .before .before .before .before .mark-rows in
-    finished (b .args .checks) (b .args .mechanisms) (marked (b .args .mechanisms) (b .args .matrix .now)) _ _ _ _ _ _ (m .ensures .0) (m .ensures .1) (c .before .before .before .before .before .before .before .before .from-checks .ensures)
+    finished (b .args .checks) (b .args .mechanisms) (marked (b .args .mechanisms)
+    (b .args .matrix .now)) _ _ _ _ _ _ (m .ensures .0) (m .ensures .1)
+    (c .before .before .before .before .before .before .before .before .from-checks .ensures)
 
 pub from-matrix-spec : {M : Type 1} → statement M
 from-matrix-spec =

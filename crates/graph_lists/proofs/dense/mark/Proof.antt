@@ -17,7 +17,9 @@ same-length : tie.Need-same-length
 same-length c = search needs
 
 returns-2 : tie.Need-returns-2
-returns-2 c = mark-one _ _ _ (c .before .before .before .before .before .before .args .out .now) _ (c .before .before .before .before .if1 .left) (mark-room _ _ _ _ (c .before .before .before .before .if1 .left) (c .before .before .before .before .before .before .pre .0)) (c .before .before .put .ensures)
+returns-2 c = mark-one _ _ _ (c .before .before .before .before .before .before .args .out .now) _
+    (c .before .before .before .before .if1 .left) (mark-room _ _ _ _
+    (c .before .before .before .before .if1 .left) (c .before .before .before .before .before .before .pre .0)) (c .before .before .put .ensures)
 
 pub mark-spec : {M : Type 1} → statement M
 mark-spec = tie.close (tie.spec returns put-requires add-result same-length returns-2)

@@ -11,7 +11,8 @@ use Rattle.graph_lists.proofs.dense.mark_row.Statement.{statement}
 use Rattle.graph_lists.proofs.dense.mark_row.Tie as tie
 
 abbrev Inv-loop : tie.InvT-loop
-Inv-loop bytes start out₀ place₀ m₀ out place m = (m ≤ length bytes) × (length out ≡ length out₀) × (place ≡ start + length (passing m (nonzero bytes))) × (take place out ≡ take start out₀ ++ passing m (nonzero bytes))
+Inv-loop bytes start out₀ place₀ m₀ out place m = (m ≤ length bytes) ×
+    (length out ≡ length out₀) × (place ≡ start + length (passing m (nonzero bytes))) × (take place out ≡ take start out₀ ++ passing m (nonzero bytes))
 
 abbrev μ-loop : tie.MeasureT-loop
 μ-loop bytes start out₀ place₀ m₀ out place m = length bytes - m

@@ -28,7 +28,8 @@ abbrev μ-loop : tie.MeasureT-loop
 μ-loop checks mechanisms matrix check-var₀ check-offset₀ base₀ place₀ c₀ check-var check-offset base place c = checks - c
 
 -- the check's row lies within the matrix
-room : (c : tie.In-loop Inv-loop μ-loop) → c .before .loop .base + c .before .before .before .before .before .before .before .before .before .args .mechanisms ≤ length (c .before .before .before .before .before .before .before .before .before .args .matrix .now)
+room : (c : tie.In-loop Inv-loop μ-loop) → c .before .loop .base + c .before .before .before .before .before .before .before .before .before .args .mechanisms ≤
+    length (c .before .before .before .before .before .before .before .before .before .args .matrix .now)
 room c =
     let l = c .before .loop in
     let r = c .before .before .before .before .before .before .before .before .before in
@@ -83,7 +84,15 @@ add-c : tie.Need-add-c Inv-loop μ-loop
 add-c c = omega arith
 
 put-requires-2 : tie.Need-put-requires-2 Inv-loop μ-loop
-put-requires-2 c κs = omega (arith, space (c .before .before .before .before .before .before), c .before .before .before .mark-row .ensures .0, c .before .before .before .before .before .before .before .loop .inv .5, c .before .before .before .before .before .before .before .before .before .before .before .before .before .before .before .pre .1 .0 .1)
+put-requires-2 c κs = omega (
+  arith,
+  space (c .before .before .before .before .before .before),
+  c .before .before .before .mark-row .ensures .0,
+  c .before
+      .before .before .before .before .before .before .loop .inv .5,
+  c .before .before .before .before .before .before .before .before .before .before .before
+      .before .before .before .before .pre .1 .0 .1,
+)
 
 loop-less : tie.Need-loop-less Inv-loop μ-loop
 loop-less c = omega arith
@@ -118,8 +127,12 @@ unfolding offsets
 returns c =
     let l = c .before .loop in
     let r = c .before .before .before .before .before .before .before .before .before in
-    let f = mechanismsOf (r .args .mechanisms) (marked (r .args .mechanisms) (r .args .matrix .now)) in
-    (rows-end (r .args .checks) (r .args .mechanisms) (r .args .matrix .now) (r .pre .0) (l .c) (l .place) _ (omega arith) (l .inv .2) (l .inv .3) (l .inv .4), is-table (suc (r .args .checks)) (start f) _ (l .inv .5) (λ k h. l .inv .6 k (omega arith)))
+    let f = mechanismsOf (r .args .mechanisms) (marked (r .args .mechanisms) (r .args .matrix .now)) in (
+      rows-end (r .args .checks) (r .args .mechanisms) (r .args .matrix .now)
+          (r .pre .0) (l .c) (l .place) _ (omega arith) (l .inv .2) (l .inv .3)
+          (l .inv .4),
+      is-table (suc (r .args .checks)) (start f) _ (l .inv .5) (λ k h. l .inv .6 k (omega arith)),
+    )
 
 pub mark-rows-spec : {M : Type 1} → statement M
 mark-rows-spec =

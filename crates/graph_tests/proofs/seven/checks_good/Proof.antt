@@ -28,7 +28,8 @@ here c = check-is _ _ _ (c .before .before .before .before .before .loop .c) _ _
 
 -- a check's part lies within the entries
 bounds : (c : tie.After-at2 Inv-loop μ-loop) → (c .before .at .result ≤ c .at2 .result) × (c .at2 .result ≤ length (c .before .before .before .before .before .before .args .check-var .now))
-bounds c = cut-bounds _ _ _ (c .before .before .before .loop .c) _ _ (c .before .before .before .before .before .before .pre) (c .before .before .loop-test .taken) (c .before .at .ensures) (c .at2 .ensures)
+bounds c = cut-bounds _ _ _ (c .before .before .before .loop .c) _ _
+    (c .before .before .before .before .before .before .pre) (c .before .before .loop-test .taken) (c .before .at .ensures) (c .at2 .ensures)
 
 loop-holds : tie.Need-loop-holds Inv-loop μ-loop
 loop-holds c = (omega arith, refl)
@@ -58,7 +59,9 @@ rises-below-requires : tie.Need-rises-below-requires Inv-loop μ-loop
 rises-below-requires c κs = search needs
 
 returns : tie.Need-returns Inv-loop μ-loop
-returns c = every-refuse (test (c .before .before .before .before .before .before)) (c .before .before .before .before .before .before .loop .c) _ _ (c .before .before .before .before .before .loop-test .taken) (here (c .before)) (c .if1 .taken)
+returns c = every-refuse (test (c .before .before .before .before .before .before))
+    (c .before .before .before .before .before .before .loop .c) _ _
+    (c .before .before .before .before .before .loop-test .taken) (here (c .before)) (c .if1 .taken)
 
 add-c : tie.Need-add-c Inv-loop μ-loop
 add-c c = omega arith
@@ -67,7 +70,11 @@ loop-less : tie.Need-loop-less Inv-loop μ-loop
 loop-less c = omega arith
 
 loop-again : tie.Need-loop-again Inv-loop μ-loop
-loop-again c = (omega arith, every-go (test (c .before .before .before .before .before .before)) (c .before .before .before .before .before .before .loop .c) _ (c .before .before .before .before .before .before .loop .inv .1) (here (c .before)) (c .if1 .left))
+loop-again c = (
+  omega arith,
+  every-go (test (c .before .before .before .before .before .before)) (c .before .before .before .before .before .before .loop .c) _
+      (c .before .before .before .before .before .before .loop .inv .1) (here (c .before)) (c .if1 .left),
+)
 
 returns-2 : tie.Need-returns-2 Inv-loop μ-loop
 returns-2 c = let e : c .before .loop .c ≡ c .before .before .before .before .args .checks = omega arith in sym (rw e at (c .before .loop .inv .1))

@@ -13,7 +13,10 @@ returns : tie.Need-returns
 returns c = entries-no _ _ _ _ _ _ (was-false _ _ (c .before .rises-below .ensures) (c .if1 .taken))
 
 meets-good-requires : tie.Need-meets-good-requires
-meets-good-requires c κs = (c .before .before .before .before .before .before .pre .0, (c .before .before .before .before .before .before .pre .1, rises-told _ _ (was-true _ _ (c .before .rises-below .ensures) (c .if1 .left))))
+meets-good-requires c κs = (
+  c .before .before .before .before .before .before .pre .0,
+  (c .before .before .before .before .before .before .pre .1, rises-told _ _ (was-true _ _ (c .before .rises-below .ensures) (c .if1 .left))),
+)
 
 returns-2 : tie.Need-returns-2
 returns-2 c = entries-rest _ _ _ _ _ _ _ (was-true _ _ (c .before .before .rises-below .ensures) (c .before .if1 .left)) (c .meets-good .ensures)

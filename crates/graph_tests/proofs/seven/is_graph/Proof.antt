@@ -16,42 +16,66 @@ offsets-good-requires : tie.Need-offsets-good-requires
 offsets-good-requires c κs = c .before .before .before .before .before .before .pre .check-offset
 
 returns : tie.Need-returns
-returns c = whole-1 _ (lists (c .before .before .before .before .before .before .before .before)) (c .before .before .before .before .before .before .before .before .pre) (was-false _ _ (c .before .offsets-good .ensures) (c .if1 .taken))
+returns c = whole-1 _ (lists (c .before .before .before .before .before .before .before .before))
+    (c .before .before .before .before .before .before .before .before .pre) (was-false _ _ (c .before .offsets-good .ensures) (c .if1 .taken))
 
 checks-good-requires : tie.Need-checks-good-requires
-checks-good-requires c κs = rw (c .before .before .before .before .before .before .before .before .pre .check-var) (offsets-told _ _ _ (c .before .before .before .before .before .before .before .before .pre .check-offset) (was-true _ _ (c .before .offsets-good .ensures) (c .if1 .left)))
+checks-good-requires c κs = rw (c .before .before .before .before .before .before .before .before .pre .check-var)
+    (offsets-told _ _ _ (c .before .before .before .before .before .before .before .before .pre .check-offset) (was-true _ _ (c .before .offsets-good .ensures)
+    (c .if1 .left)))
 
 returns-2 : tie.Need-returns-2
-returns-2 c = whole-2 _ (lists (c .before .before .before .before .before .before .before .before .before .before)) (c .before .before .before .before .before .before .before .before .before .before .pre) (was-true _ _ (c .before .before .before .offsets-good .ensures) (c .before .before .if1 .left)) (was-false _ _ (c .before .checks-good .ensures) (c .if2 .taken))
+returns-2 c = whole-2 _ (lists (c .before .before .before .before .before .before .before .before .before .before))
+    (c .before .before .before .before .before .before .before .before .before .before .pre)
+    (was-true _ _ (c .before .before .before .offsets-good .ensures)
+    (c .before .before .if1 .left)) (was-false _ _ (c .before .checks-good .ensures) (c .if2 .taken))
 
 numbered-requires : tie.Need-numbered-requires
 numbered-requires c κs = search needs
 
 returns-3 : tie.Need-returns-3
 returns-3 c =
-    whole-3 _ (lists (c .before .before .before .before .before .before .before .before .before .before .before .before)) (c .before .before .before .before .before .before .before .before .before .before .before .before .pre) (was-true _ _ (c .before .before .before .before .before .offsets-good .ensures) (c .before .before .before .before .if1 .left)) (was-true _ _ (c .before .before .before .checks-good .ensures) (c .before .before .if2 .left))
-    (own-edges _ (lists (c .before .before .before .before .before .before .before .before .before .before .before .before)) _ (c .before .before .before .before .before .before .before .before .before .before .before .before .pre) (was-false _ _ (c .before .numbered .ensures) (c .if3 .taken)))
+    whole-3 _ (lists (c .before .before .before .before .before .before .before .before .before .before .before .before))
+    (c .before .before .before .before .before .before .before .before .before .before .before .before .pre)
+    (was-true _ _ (c .before .before .before .before .before .offsets-good .ensures)
+    (c .before .before .before .before .if1 .left)) (was-true _ _ (c .before .before .before .checks-good .ensures) (c .before .before .if2 .left))
+    (own-edges _ (lists (c .before .before .before .before .before .before .before .before .before .before .before .before)) _
+    (c .before .before .before .before .before .before .before .before .before .before .before .before .pre) (was-false _ _ (c .before .numbered .ensures)
+    (c .if3 .taken)))
 
 offsets-good-requires-2 : tie.Need-offsets-good-requires-2
 offsets-good-requires-2 c κs = c .before .before .before .before .before .before .before .before .before .before .before .before .pre .var-offset
 
 returns-4 : tie.Need-returns-4
 returns-4 c =
-    whole-4 _ (lists (c .before .before .before .before .before .before .before .before .before .before .before .before .before .before)) (c .before .before .before .before .before .before .before .before .before .before .before .before .before .before .pre) (was-true _ _ (c .before .before .before .before .before .before .before .offsets-good .ensures) (c .before .before .before .before .before .before .if1 .left)) (was-true _ _ (c .before .before .before .before .before .checks-good .ensures) (c .before .before .before .before .if2 .left))
-    (own-edges _ (lists (c .before .before .before .before .before .before .before .before .before .before .before .before .before .before)) _ (c .before .before .before .before .before .before .before .before .before .before .before .before .before .before .pre) (was-true _ _ (c .before .before .before .numbered .ensures) (c .before .before .if3 .left)))
+    whole-4 _ (lists (c .before .before .before .before .before .before .before .before .before .before .before .before .before .before))
+    (c .before .before .before .before .before .before .before .before .before .before .before .before .before .before .pre)
+    (was-true _ _ (c .before .before .before .before .before .before .before .offsets-good .ensures)
+    (c .before .before .before .before .before .before .if1 .left))
+    (was-true _ _ (c .before .before .before .before .before .checks-good .ensures) (c .before .before .before .before .if2 .left))
+    (own-edges _ (lists (c .before .before .before .before .before .before .before .before .before .before .before .before .before .before)) _
+    (c .before .before .before .before .before .before .before .before .before .before .before .before .before .before .pre)
+    (was-true _ _ (c .before .before .before .numbered .ensures) (c .before .before .if3 .left)))
     (was-false _ _ (c .before .offsets-good2 .ensures) (c .if4 .taken))
 
 vars-good-requires : tie.Need-vars-good-requires
 vars-good-requires c κs =
     let f = c .before .before .before .before .before .before .before .before .before .before .before .before .before .before .pre in (
-      rw (f .check-var) (offsets-told _ _ _ (f .check-offset) (was-true _ _ (c .before .before .before .before .before .before .before .offsets-good .ensures) (c .before .before .before .before .before .before .if1 .left))),
+      rw (f .check-var) (offsets-told _ _ _ (f .check-offset) (was-true _ _ (c .before .before .before .before .before .before .before .offsets-good .ensures)
+          (c .before .before .before .before .before .before .if1 .left))),
       (rw (f .var-check) (offsets-told _ _ _ (f .var-offset) (was-true _ _ (c .before .offsets-good2 .ensures) (c .if4 .left))), f .var-message ∙ sym (f .var-check)),
     )
 
 returns-5 : tie.Need-returns-5
 returns-5 c =
-    whole-5 _ (lists (c .before .before .before .before .before .before .before .before .before .before .before .before .before .before .before)) (c .before .before .before .before .before .before .before .before .before .before .before .before .before .before .before .pre) _ (was-true _ _ (c .before .before .before .before .before .before .before .before .offsets-good .ensures) (c .before .before .before .before .before .before .before .if1 .left)) (was-true _ _ (c .before .before .before .before .before .before .checks-good .ensures) (c .before .before .before .before .before .if2 .left))
-    (own-edges _ (lists (c .before .before .before .before .before .before .before .before .before .before .before .before .before .before .before)) _ (c .before .before .before .before .before .before .before .before .before .before .before .before .before .before .before .pre) (was-true _ _ (c .before .before .before .before .numbered .ensures) (c .before .before .before .if3 .left)))
+    whole-5 _ (lists (c .before .before .before .before .before .before .before .before .before .before .before .before .before .before .before))
+    (c .before .before .before .before .before .before .before .before .before .before .before .before .before .before .before .pre) _
+    (was-true _ _ (c .before .before .before .before .before .before .before .before .offsets-good .ensures)
+    (c .before .before .before .before .before .before .before .if1 .left))
+    (was-true _ _ (c .before .before .before .before .before .before .checks-good .ensures) (c .before .before .before .before .before .if2 .left))
+    (own-edges _ (lists (c .before .before .before .before .before .before .before .before .before .before .before .before .before .before .before)) _
+    (c .before .before .before .before .before .before .before .before .before .before .before .before .before .before .before .pre)
+    (was-true _ _ (c .before .before .before .before .numbered .ensures) (c .before .before .before .if3 .left)))
     (was-true _ _ (c .before .before .offsets-good2 .ensures) (c .before .if4 .left))
     (c .vars-good .ensures)
 

@@ -34,10 +34,16 @@ at-requires-2 : tie.Need-at-requires-2 Inv-loop μ-loop
 at-requires-2 c κs = omega arith
 
 met-good-requires : tie.Need-met-good-requires Inv-loop μ-loop
-met-good-requires c κs = (c .before .before .before .before .before .before .before .before .pre .0, rw (c .before .at .ensures) (c .before .before .before .before .before .before .before .before .pre .1 .1 .below (c .before .before .before .loop .i) (c .before .before .loop-test .taken)))
+met-good-requires c κs = (
+  c .before .before .before .before .before .before .before .before .pre .0,
+  rw
+      (c .before .at .ensures) (c .before .before .before .before .before .before .before .before .pre .1 .1 .below
+      (c .before .before .before .loop .i) (c .before .before .loop-test .taken)),
+)
 
 returns : tie.Need-returns Inv-loop μ-loop
-returns c = every-refuse (test (c .before .before .before .before .before)) (c .before .before .before .before .before .loop .i) _ _ (c .before .before .before .before .loop-test .taken) (here (c .before)) (c .if1 .taken)
+returns c = every-refuse (test (c .before .before .before .before .before))
+    (c .before .before .before .before .before .loop .i) _ _ (c .before .before .before .before .loop-test .taken) (here (c .before)) (c .if1 .taken)
 
 add-i : tie.Need-add-i Inv-loop μ-loop
 add-i c = omega arith
@@ -46,7 +52,11 @@ loop-less : tie.Need-loop-less Inv-loop μ-loop
 loop-less c = omega arith
 
 loop-again : tie.Need-loop-again Inv-loop μ-loop
-loop-again c = (omega arith, every-go (test (c .before .before .before .before .before)) (c .before .before .before .before .before .loop .i) _ (c .before .before .before .before .before .loop .inv .1) (here (c .before)) (c .if1 .left))
+loop-again c = (
+  omega arith,
+  every-go (test (c .before .before .before .before .before))
+      (c .before .before .before .before .before .loop .i) _ (c .before .before .before .before .before .loop .inv .1) (here (c .before)) (c .if1 .left),
+)
 
 returns-2 : tie.Need-returns-2 Inv-loop μ-loop
 returns-2 c = let e : c .before .loop .i ≡ length (c .before .before .before .before .before .before .args .cs .now) = omega arith in sym (rw e at (c .before .loop .inv .1))

@@ -23,13 +23,18 @@ returns-2 : tie.Need-returns-2
 returns-2 c = met-high _ _ _ _ _ _ _ (c .before .before .before .at .ensures) (c .before .at2 .ensures) (c .before .before .if1 .left) (c .if2 .taken)
 
 at-requires-3 : tie.Need-at-requires-3
-at-requires-3 c κs = met-room _ _ _ (c .before .before .before .before .before .before .args .c) _ _ (c .before .before .before .before .before .before .pre .0) (c .before .before .before .before .before .before .pre .1) (c .before .at2 .ensures) (c .if2 .left)
+at-requires-3 c κs = met-room _ _ _ (c .before .before .before .before .before .before .args .c) _ _ (c .before .before .before .before .before .before .pre .0)
+    (c .before .before .before .before .before .before .pre .1) (c .before .at2 .ensures) (c .if2 .left)
 
 same-number-requires : tie.Need-same-number-requires
 same-number-requires c κs = search needs
 
 returns-3 : tie.Need-returns-3
-returns-3 c = met-last _ _ _ (c .before .before .before .before .before .before .before .before .args .c) (c .before .before .before .before .before .before .before .before .args .m) _ _ _ (c .before .before .before .before .before .at .ensures) (c .before .before .before .at2 .ensures) (c .before .before .before .before .if1 .left) (c .before .before .if2 .left) (c .same-number .ensures ∙ ap (λ (x : ℕ). eqb x (c .before .before .before .before .before .before .before .before .args .v)) (c .before .at3 .ensures))
+returns-3 c = met-last _ _ _ (c .before .before .before .before .before .before .before .before .args .c)
+    (c .before .before .before .before .before .before .before .before .args .m) _ _ _
+    (c .before .before .before .before .before .at .ensures) (c .before .before .before .at2 .ensures)
+    (c .before .before .before .before .if1 .left) (c .before .before .if2 .left)
+    (c .same-number .ensures ∙ ap (λ (x : ℕ). eqb x (c .before .before .before .before .before .before .before .before .args .v)) (c .before .at3 .ensures))
 
 pub met-good-spec : {M : Type 1} → statement M
 met-good-spec =

@@ -28,7 +28,9 @@ same-number-requires : tie.Need-same-number-requires Inv-loop μ-loop
 same-number-requires c κs = search needs
 
 returns : tie.Need-returns Inv-loop μ-loop
-returns c = every-refuse (ownNumber (c .before .before .before .before .before .before .args .xs .now)) (c .before .before .before .before .loop .i) _ _ (c .before .before .before .loop-test .taken) (number-is _ (c .before .before .before .before .loop .i) _ _ (c .before .before .at .ensures) (c .before .same-number .ensures)) (c .if1 .taken)
+returns c = every-refuse (ownNumber (c .before .before .before .before .before .before .args .xs .now))
+    (c .before .before .before .before .loop .i) _ _ (c .before .before .before .loop-test .taken) (number-is _ (c .before .before .before .before .loop .i) _ _
+    (c .before .before .at .ensures) (c .before .same-number .ensures)) (c .if1 .taken)
 
 add-i : tie.Need-add-i Inv-loop μ-loop
 add-i c = omega arith
@@ -37,7 +39,12 @@ loop-less : tie.Need-loop-less Inv-loop μ-loop
 loop-less c = omega arith
 
 loop-again : tie.Need-loop-again Inv-loop μ-loop
-loop-again c = (omega arith, every-go (ownNumber (c .before .before .before .before .before .before .args .xs .now)) (c .before .before .before .before .loop .i) _ (c .before .before .before .before .loop .inv .1) (number-is _ (c .before .before .before .before .loop .i) _ _ (c .before .before .at .ensures) (c .before .same-number .ensures)) (c .if1 .left))
+loop-again c = (
+  omega arith,
+  every-go (ownNumber (c .before .before .before .before .before .before .args .xs .now))
+      (c .before .before .before .before .loop .i) _ (c .before .before .before .before .loop .inv .1)
+      (number-is _ (c .before .before .before .before .loop .i) _ _ (c .before .before .at .ensures) (c .before .same-number .ensures)) (c .if1 .left),
+)
 
 returns-2 : tie.Need-returns-2 Inv-loop μ-loop
 returns-2 c = let e : c .before .loop .i ≡ length (c .before .before .before .args .xs .now) = omega arith in sym (rw e at (c .before .loop .inv .1))

@@ -25,11 +25,15 @@ at-requires c κs = omega arith
 
 returns : tie.Need-returns Inv-loop μ-loop
 unfolding risesBelow
-returns c = sym (every-stop (stepGood _ _) (c .before .before .before .loop .i) _ (c .before .before .loop-test .taken) (step-low (c .before .before .before .before .before .args .n) _ (c .before .before .before .loop .i) _ _ (c .before .before .before .loop .inv .1) (c .before .at .ensures) (c .if1 .taken)))
+returns c = sym (every-stop (stepGood _ _) (c .before .before .before .loop .i) _
+    (c .before .before .loop-test .taken) (step-low (c .before .before .before .before .before .args .n) _
+    (c .before .before .before .loop .i) _ _ (c .before .before .before .loop .inv .1) (c .before .at .ensures) (c .if1 .taken)))
 
 returns-2 : tie.Need-returns-2 Inv-loop μ-loop
 unfolding risesBelow
-returns-2 c = sym (every-stop (stepGood _ _) (c .before .before .before .before .loop .i) _ (c .before .before .before .loop-test .taken) (step-high (c .before .before .before .before .before .before .args .n) _ (c .before .before .before .before .loop .i) _ (c .before .before .at .ensures) (c .if2 .taken)))
+returns-2 c = sym (every-stop (stepGood _ _) (c .before .before .before .before .loop .i) _
+    (c .before .before .before .loop-test .taken) (step-high (c .before .before .before .before .before .before .args .n) _
+    (c .before .before .before .before .loop .i) _ (c .before .before .at .ensures) (c .if2 .taken)))
 
 add-least : tie.Need-add-least Inv-loop μ-loop
 add-least c = omega arith
@@ -43,8 +47,13 @@ loop-less c = omega arith
 loop-again : tie.Need-loop-again Inv-loop μ-loop
 loop-again c =
     let l = c .before .before .before .before .loop in
-    let a = c .before .before .at .ensures in
-    (omega arith, low-next _ (l .i) _ a, every-turn (stepGood (c .before .before .before .before .before .before .args .n) (c .before .before .before .before .before .before .args .xs .now)) (l .i) (l .inv .2) (step-yes _ _ (l .i) _ _ (l .inv .1) a (c .before .if1 .left) (c .if2 .left)))
+    let a = c .before .before .at .ensures in (
+      omega arith,
+      low-next _ (l .i) _ a,
+      every-turn (stepGood (c .before .before .before .before .before .before .args .n)
+          (c .before .before .before .before .before .before .args .xs .now))
+          (l .i) (l .inv .2) (step-yes _ _ (l .i) _ _ (l .inv .1) a (c .before .if1 .left) (c .if2 .left)),
+    )
 
 returns-3 : tie.Need-returns-3 Inv-loop μ-loop
 unfolding risesBelow

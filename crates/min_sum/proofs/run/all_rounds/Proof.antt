@@ -9,7 +9,8 @@ copy-requires : tie.Need-copy-requires
 copy-requires c κs = search needs
 
 outer-round-requires : tie.Need-outer-round-requires
-outer-round-requires c κs = let p = c .before .before .before .before .before .before .before .before .before .before .before .before .before .before .before .before .before .pre in (p .0, (p .1 .0, (p .1 .1 .0, p .1 .1 .1, c .before .before .before .before .before .before .copy .kept .1 .0 ∙ p .1 .1 .2)))
+outer-round-requires c κs = let p = c .before .before .before .before .before .before .before .before .before .before .before .before .before .before .before
+    .before .before .pre in (p .0, (p .1 .0, (p .1 .1 .0, p .1 .1 .1, c .before .before .before .before .before .before .copy .kept .1 .0 ∙ p .1 .1 .2)))
 
 same-length : tie.Need-same-length
 same-length c = search needs
@@ -21,10 +22,24 @@ same-length-3 : tie.Need-same-length-3
 same-length-3 c = search needs
 
 returns : tie.Need-returns
-returns c = one-round _ _ _ _ _ _ _ _ _ (c .before .before .before .before .before .before .before .before .before .before .if1 .taken) (c .before .before .before .before .before .before .before .before .before .before .before .before .before .copy .ensures) (c .before .before .before .before .before .before .outer-round .ensures)
+returns c = one-round _ _ _ _ _ _ _ _ _ (c .before .before .before .before .before .before .before .before .before .before .if1 .taken)
+    (c .before .before .before .before .before .before .before .before .before .before .before .before .before .copy .ensures)
+    (c .before .before .before .before .before .before .outer-round .ensures)
 
 two-outer-rounds-requires : tie.Need-two-outer-rounds-requires
-two-outer-rounds-requires c κs = let p = c .before .before .before .before .before .before .before .before .before .before .before .before .before .before .before .before .before .pre in (p .0, (p .1 .0, (p .1 .1 .0, p .1 .1 .1, c .before .before .before .before .before .before .copy .kept .1 .0 ∙ p .1 .1 .2)))
+two-outer-rounds-requires c κs = let p = c .before .before .before .before .before .before .before .before .before .before .before .before .before .before
+    .before .before .before .pre in (
+      p .0,
+      (
+        p .1 .0,
+        (
+          p .1 .1 .0,
+          p .1 .1 .1,
+          c .before .before .before .before .before .before .copy .kept .1 .0 ∙ p .1 .1
+              .2,
+        ),
+      ),
+    )
 
 same-length-4 : tie.Need-same-length-4
 same-length-4 c = search needs
@@ -36,7 +51,9 @@ same-length-6 : tie.Need-same-length-6
 same-length-6 c = search needs
 
 returns-2 : tie.Need-returns-2
-returns-2 c = two-rounds _ _ _ _ _ _ _ _ _ (c .before .before .before .before .before .before .before .before .before .before .if1 .left) (c .before .before .before .before .before .before .before .before .before .before .before .before .before .copy .ensures) (c .before .before .before .before .before .before .two-outer-rounds .ensures)
+returns-2 c = two-rounds _ _ _ _ _ _ _ _ _ (c .before .before .before .before .before .before .before .before .before .before .if1 .left)
+    (c .before .before .before .before .before .before .before .before .before .before .before .before .before .copy .ensures)
+    (c .before .before .before .before .before .before .two-outer-rounds .ensures)
 
 pub all-rounds-spec : {M : Type 1} → statement M
 all-rounds-spec =

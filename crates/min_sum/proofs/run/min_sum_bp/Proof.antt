@@ -11,7 +11,8 @@ all-rounds-requires c κs = search needs
 
 choose-requires : tie.Need-choose-requires
 choose-requires c κs =
-    let p = c .before .before .before .before .before .before .before .before .before .before .before .before .before .before .before .before .before .before .before .before .before .before .before .pre in
+    let p = c .before .before .before .before .before .before .before .before .before .before .before .before .before .before .before .before .before .before
+    .before .before .before .before .before .pre in
     let k = c .before .before .before .before .before .before .before .before .before .all-rounds .kept .1 .1 .1 .1 .1 .1 .1 .1 .1 in
     (walks-along _ _ _ _ _ (sym (k .0 ∙ p .1 .1 .0 .0)) (p .1 .0), (k .1 .1 .0 ∙ p .1 .1 .0 .2, p .1 .1 .1))
 
@@ -28,7 +29,8 @@ same-length-4 : tie.Need-same-length-4
 same-length-4 c = search needs
 
 returns : tie.Need-returns
-returns c = run-is _ _ _ _ _ _ _ _ _ _ _ _ _ _ _ (c .before .before .before .before .before .before .before .before .before .before .before .before .all-rounds .ensures) (c .before .before .choose .ensures)
+returns c = run-is _ _ _ _ _ _ _ _ _ _ _ _ _ _ _ (c .before .before .before .before .before .before .before .before .before .before .before .before .all-rounds
+    .ensures) (c .before .before .choose .ensures)
 
 pub min-sum-bp-spec : {M : Type 1} → statement M
 min-sum-bp-spec =

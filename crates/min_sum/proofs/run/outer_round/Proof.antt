@@ -46,12 +46,19 @@ weight-requires c κs = search needs
 
 iterate-requires : tie.Need-iterate-requires Inv-loop μ-loop
 iterate-requires c κs =
-    let s = c .before .before .before .before .before .before .before .before .before .before .before .before .before .before .before .before .before .before .before .before .before .before .before .before in
+    let s = c .before .before .before .before .before .before .before .before .before .before .before .before .before .before .before .before .before .before
+    .before .before .before .before .before .before in
     let l = c .before .before .before .before .before .loop in
     (s .pre .0, (s .pre .1 .0, (l .inv .1, l .inv .2, l .inv .3)))
 
 add-i : tie.Need-add-i Inv-loop μ-loop
-add-i c = omega (arith, c .before .before .before .before .before .before .before .before .before .before .before .loop-test .taken, c .before .before .before .before .before .before .before .before .before .before .before .before .before .before .before .before .before .before .before .before .before .before .before .before .before .before .before .before .before .before .before .fits .inner)
+add-i c = omega (
+  arith,
+  c .before .before .before .before .before .before .before .before .before .before .before .loop-test .taken,
+  c .before .before .before
+      .before .before .before .before .before .before .before .before .before .before .before .before .before .before .before .before .before .before .before
+      .before .before .before .before .before .before .before .before .before .fits .inner,
+)
 
 loop-less : tie.Need-loop-less Inv-loop μ-loop
 loop-less c = omega arith
@@ -60,17 +67,26 @@ loop-again : tie.Need-loop-again Inv-loop μ-loop
 loop-again c =
     let l = c .before .before .before .before .before .before .before .before .before .before .before .before .loop in
     let t = c .before .before .before .before .before .before .iterate in
-    let k = t .kept .1 .1 .1 .1 .1 .1 .1 .1 .1 in
-    (omega arith, k .0 ∙ l .inv .1, k .1 .0 ∙ l .inv .2, k .1 .1 .0 ∙ l .inv .3, round-turn _ _ _ _ _ _ (l .i) _ _ _ _ (c .before .before .before .before .before .before .before .before .before .before .weight .ensures) (l .inv .4) (t .ensures))
+    let k = t .kept .1 .1 .1 .1 .1 .1 .1 .1 .1 in (
+      omega arith,
+      k .0 ∙ l .inv .1,
+      k .1 .0 ∙ l .inv .2,
+      k .1 .1 .0 ∙ l .inv .3,
+      round-turn _ _ _ _ _ _
+          (l .i) _ _ _ _ (c .before .before .before .before .before .before .before .before .before .before .weight .ensures) (l .inv .4) (t .ensures),
+    )
 
 same-length : tie.Need-same-length Inv-loop μ-loop
-same-length c = let p = c .before .before .before .before .before .before .before .before .before .before .before .before .before .before .before .before .before .before .before .before .pre .1 .1 in c .before .loop .inv .1 ∙ sym (p .0)
+same-length c = let p = c .before .before .before .before .before .before .before .before .before .before .before .before .before .before .before .before
+    .before .before .before .before .pre .1 .1 in c .before .loop .inv .1 ∙ sym (p .0)
 
 same-length-2 : tie.Need-same-length-2 Inv-loop μ-loop
-same-length-2 c = let p = c .before .before .before .before .before .before .before .before .before .before .before .before .before .before .before .before .before .before .before .before .pre .1 .1 in c .before .loop .inv .2 ∙ sym (p .1)
+same-length-2 c = let p = c .before .before .before .before .before .before .before .before .before .before .before .before .before .before .before .before
+    .before .before .before .before .pre .1 .1 in c .before .loop .inv .2 ∙ sym (p .1)
 
 same-length-3 : tie.Need-same-length-3 Inv-loop μ-loop
-same-length-3 c = let p = c .before .before .before .before .before .before .before .before .before .before .before .before .before .before .before .before .before .before .before .before .pre .1 .1 in c .before .loop .inv .3 ∙ sym (p .2)
+same-length-3 c = let p = c .before .before .before .before .before .before .before .before .before .before .before .before .before .before .before .before
+    .before .before .before .before .pre .1 .1 in c .before .loop .inv .3 ∙ sym (p .2)
 
 returns : tie.Need-returns Inv-loop μ-loop
 returns c = let l = c .before .loop in round-done _ _ _ _ _ _ _ (l .i) _ _ _ _ (omega arith) (l .inv .4)

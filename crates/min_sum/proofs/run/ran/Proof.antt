@@ -42,11 +42,15 @@ same-length-4 c = search needs
 
 returns : tie.Need-returns
 returns c =
-    let p = c .before .before .before .before .before .before .before .before .before .before .before .before .before .before .before .before .before .before .before .before .before .before .before .before .before .before .before .before .before .before .before .before .before .before .before .before .before .before .before .before .before .before .before .pre .1 .1 in
-    let r = c .before .before .before .before .before .before .before .before .before .before .before .before .before .before .before .before .before .before .before .before .before .before .before .before .before .before .before .before .min-sum-bp in
+    let p = c .before .before .before .before .before .before .before .before .before .before .before .before .before .before .before .before .before .before
+    .before .before .before .before .before .before .before .before .before .before .before .before .before .before .before .before .before .before .before
+    .before .before .before .before .before .before .pre .1 .1 in
+    let r = c .before .before .before .before .before .before .before .before .before .before .before .before .before .before .before .before .before .before
+    .before .before .before .before .before .before .before .before .before .before .min-sum-bp in
     let k = r .kept .1 .1 .1 .1 .1 .1 .1 .1 .1 in
     ran-refused _ _ _ _ _ _ _ _ _ (r .ensures) (c .before .before .before .before .before .before .first-not-finite .ensures) (k .1 .1 .1 .0 ∙ p .1)
-    (c .before .before .before .before .before .before .before .before .before .before .before .before .before .before .before .before .before .before .clear .ensures ∙ ap (λ n. replicate n zero⁺) (k .1 .1 .0 ∙ p .0 .2))
+    (c .before .before .before .before .before .before .before .before .before .before .before .before .before .before .before .before .before .before .clear
+    .ensures ∙ ap (λ n. replicate n zero⁺) (k .1 .1 .0 ∙ p .0 .2))
     (c .before .before .before .before .before .before .before .before .before .before .before .before .before .before .clear2 .ensures ∙ ap (λ n. replicate n zero⁺) (k .0 ∙ p .0 .0))
     (c .before .before .before .before .before .before .before .before .before .before .clear3 .ensures ∙ ap (λ n. replicate n zero⁺) (k .1 .0 ∙ p .0 .1))
     (c .before .before .before .before .before .is-done .ensures) _ (c .before .before .before .before .if1 .taken) (c .before .before .clear4 .ensures)
@@ -65,8 +69,11 @@ same-length-8 c = search needs
 
 returns-2 : tie.Need-returns-2
 returns-2 c =
-    let p = c .before .before .before .before .before .before .before .before .before .before .before .before .before .before .before .before .before .before .before .before .before .before .before .before .before .before .before .before .before .before .before .before .before .before .before .before .before .before .before .pre .1 .1 in
-    let r = c .before .before .before .before .before .before .before .before .before .before .before .before .before .before .before .before .before .before .before .before .before .before .before .before .min-sum-bp in
+    let p = c .before .before .before .before .before .before .before .before .before .before .before .before .before .before .before .before .before .before
+    .before .before .before .before .before .before .before .before .before .before .before .before .before .before .before .before .before .before .before
+    .before .before .pre .1 .1 in
+    let r = c .before .before .before .before .before .before .before .before .before .before .before .before .before .before .before .before .before .before
+    .before .before .before .before .before .before .min-sum-bp in
     let k = r .kept .1 .1 .1 .1 .1 .1 .1 .1 .1 in
     ran-passed _ _ _ _ _ _ _ _ _ (r .ensures) (c .before .before .first-not-finite .ensures) (k .1 .1 .1 .0 ∙ p .1)
     (c .before .before .before .before .before .before .before .before .before .before .before .before .before .before .clear .ensures ∙ ap (λ n. replicate n zero⁺) (k .1 .1 .0 ∙ p .0 .2))

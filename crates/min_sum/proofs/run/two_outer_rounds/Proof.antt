@@ -24,7 +24,9 @@ same-length-3 : tie.Need-same-length-3
 same-length-3 c = search needs
 
 returns : tie.Need-returns
-returns c = c .before .before .before .before .before .before .outer-round2 .ensures ∙ ap (outerRound _ _ _ _ _ _ _) (c .before .before .before .before .before .before .before .before .before .before .before .before .before .before .before .before .outer-round .ensures)
+returns c = c .before .before .before .before .before .before .outer-round2 .ensures ∙ ap
+    (outerRound _ _ _ _ _ _ _) (c .before .before .before .before .before .before .before .before .before .before .before .before .before .before .before
+    .before .outer-round .ensures)
 
 pub two-outer-rounds-spec : {M : Type 1} → statement M
 two-outer-rounds-spec =

@@ -24,11 +24,23 @@ lists-fit-requires c κs = search needs
 
 returns-3 : tie.Need-returns-3
 unfolding unless orElse
-returns-3 c = rw (was-true _ _ (c .before .before .before .before .before .at-most .ensures) (c .before .before .before .before .if1 .left), was-true _ _ (c .before .before .before .same-number .ensures) (c .before .before .if2 .left), was-false _ _ (c .before .lists-fit .ensures) (c .if3 .taken))
+returns-3 c = rw (
+  was-true _ _ (c .before .before .before .before .before .at-most .ensures)
+      (c .before .before .before .before .if1 .left),
+  was-true _ _ (c .before .before .before .same-number .ensures) (c .before .before .if2 .left),
+  was-false _ _
+      (c .before .lists-fit .ensures) (c .if3 .taken),
+)
 
 returns-4 : tie.Need-returns-4
 unfolding unless orElse
-returns-4 c = rw (was-true _ _ (c .before .before .before .before .before .at-most .ensures) (c .before .before .before .before .if1 .left), was-true _ _ (c .before .before .before .same-number .ensures) (c .before .before .if2 .left), was-true _ _ (c .before .lists-fit .ensures) (c .if3 .left))
+returns-4 c = rw (
+  was-true _ _ (c .before .before .before .before .before .at-most .ensures)
+      (c .before .before .before .before .if1 .left),
+  was-true _ _ (c .before .before .before .same-number .ensures) (c .before .before .if2 .left),
+  was-true _ _
+      (c .before .lists-fit .ensures) (c .if3 .left),
+)
 
 pub run-fault-spec : {M : Type 1} → statement M
 run-fault-spec =

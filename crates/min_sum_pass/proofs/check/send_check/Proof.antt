@@ -29,7 +29,8 @@ same-length : tie.Need-same-length
 same-length c = search needs
 
 returns : tie.Need-returns
-returns c = sends-next _ _ _ _ _ _ _ _ (c .before .before .before .before .before .before .before .scan-check .ensures) (c .before .before .before .before .before .send .ensures) _ (c .before .before .if1 .taken) (c .sent-at .ensures)
+returns c = sends-next _ _ _ _ _ _ _ _ (c .before .before .before .before .before .before .before .scan-check .ensures)
+    (c .before .before .before .before .before .send .ensures) _ (c .before .before .if1 .taken) (c .sent-at .ensures)
 
 same-length-2 : tie.Need-same-length-2
 same-length-2 c = search needs

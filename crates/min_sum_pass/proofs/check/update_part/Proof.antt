@@ -53,8 +53,14 @@ returns : tie.Need-returns
 returns c =
     let b = c .before .before .before .before .before .before .before .before .before in
     let u = c .before .before .update-check .ensures in
-    let sent = checkMessages (b .args .scale) (b .args .odd) (part (b .args .start) (b .args .end) (b .args .v-to-c .now)) in
-    (u .0, rw (post-is (b .args .start) (b .args .end) (b .args .c-to-v .now) (b .pre .0 .0), u .1) (part-back (b .args .start) (b .args .end) (b .args .c-to-v .now) sent (c .before .before .update-check .result) (b .pre .0 .0)))
+    let sent = checkMessages (b .args .scale) (b .args .odd) (part (b .args .start) (b .args .end) (b .args .v-to-c .now)) in (
+      u .0,
+      rw (
+        post-is (b .args .start) (b .args .end) (b .args .c-to-v .now)
+            (b .pre .0 .0),
+        u .1,
+      ) (part-back (b .args .start) (b .args .end) (b .args .c-to-v .now) sent (c .before .before .update-check .result) (b .pre .0 .0)),
+    )
 
 pub update-part-spec : {M : Type 1} → statement M
 update-part-spec =

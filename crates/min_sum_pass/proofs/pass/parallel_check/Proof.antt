@@ -34,7 +34,8 @@ same-length c = search needs
 returns : tie.Need-returns
 returns c =
     let u = c .before .before .update-part .ensures in
-    parallel-is _ _ _ _ _ _ _ _ _ _ (c .before .before .before .before .before .before .before .before .before .before .before .before .args .c) _ _ _ (c .before .before .before .before .before .before .at .ensures) (c .before .before .before .before .before .at2 .ensures) (u .0) _ (u .1)
+    parallel-is _ _ _ _ _ _ _ _ _ _ (c .before .before .before .before .before .before .before .before .before .before .before .before .args .c) _ _ _
+    (c .before .before .before .before .before .before .at .ensures) (c .before .before .before .before .before .at2 .ensures) (u .0) _ (u .1)
 
 pub parallel-check-spec : {M : Type 1} → statement M
 parallel-check-spec =

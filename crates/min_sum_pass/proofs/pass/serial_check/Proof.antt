@@ -12,7 +12,8 @@ use Rattle.min_sum_pass.proofs.pass.serial_check.Statement.{statement}
 use Rattle.min_sum_pass.proofs.pass.serial_check.Tie as tie
 
 -- the check's part lies within the entries
-within : (c : tie.After-at2) → (c .before .at .result ≤ c .at2 .result) × (c .at2 .result ≤ length (c .before .before .before .before .before .before .before .before .before .before .args .check-var .now))
+within : (c : tie.After-at2) → (c .before .at .result ≤ c .at2 .result) ×
+    (c .at2 .result ≤ length (c .before .before .before .before .before .before .before .before .before .before .args .check-var .now))
 within c =
     let s = c .before .before .before .before .before .before .before .before .before .before in
     cut-bounds _ _ _ (s .args .c) _ _ (s .pre .1 .0 .parts) (s .pre .0) (c .before .at .ensures) (c .at2 .ensures)
@@ -30,7 +31,8 @@ shared-slice-read-update-part : tie.Need-shared-slice-read-update-part
 shared-slice-read-update-part c = search needs
 
 update-part-requires : tie.Need-update-part-requires
-update-part-requires c κs = let p = c .before .before .before .before .before .before .before .before .before .before .before .before .before .pre .1 .1 .1 in (within (c .before .before .before), (p .1, p .0))
+update-part-requires c κs = let p = c .before .before .before .before .before .before .before .before .before .before .before .before .before .pre .1 .1 .1 in
+    (within (c .before .before .before), (p .1, p .0))
 
 same-length : tie.Need-same-length
 same-length c = search needs
@@ -41,7 +43,9 @@ same-length-2 c = search needs
 returns : tie.Need-returns
 returns c =
     let u = c .before .before .before .update-part .ensures in
-    serial-skipped _ _ _ _ _ _ _ _ _ _ (c .before .before .before .before .before .before .before .before .before .before .before .before .before .before .before .before .before .args .c) _ _ _ (c .before .before .before .before .before .before .before .before .at .ensures) (c .before .before .before .before .before .before .before .at2 .ensures) (u .0) _ _ (c .if1 .taken) (u .1)
+    serial-skipped _ _ _ _ _ _ _ _ _ _ (c .before .before .before .before .before .before .before .before .before .before .before .before .before .before
+    .before .before .before .args .c) _ _ _ (c .before .before .before .before .before .before .before .before .at .ensures)
+    (c .before .before .before .before .before .before .before .at2 .ensures) (u .0) _ _ (c .if1 .taken) (u .1)
 
 mul-update-variables : tie.Need-mul-update-variables
 mul-update-variables c = omega (arith, within (c .before .before .before .before .before .before .before))
@@ -59,8 +63,10 @@ update-variables-requires : tie.Need-update-variables-requires
 update-variables-requires c κs =
     let s = c .before .before .before .before .before .before .before .before .before .before .before .before .before .before .before .before .before .before .before .before in
     let p = s .pre .1 .1 .1 in
-    let k = c .before .before .before .before .before .before .update-part .kept .1 .1 .1 .1 .1 .1 .0 in
-    (part-names _ _ _ _ (s .pre .1 .0 .named) (within (c .before .before .before .before .before .before .before .before .before .before) .1), (walks-along _ _ _ _ _ (sym (k ∙ p .0)) (s .pre .1 .1 .0), p .1 ∙ sym (k ∙ p .0)))
+    let k = c .before .before .before .before .before .before .update-part .kept .1 .1 .1 .1 .1 .1 .0 in (
+      part-names _ _ _ _ (s .pre .1 .0 .named) (within (c .before .before .before .before .before .before .before .before .before .before) .1),
+      (walks-along _ _ _ _ _ (sym (k ∙ p .0)) (s .pre .1 .1 .0), p .1 ∙ sym (k ∙ p .0)),
+    )
 
 same-length-3 : tie.Need-same-length-3
 same-length-3 c = search needs
@@ -71,7 +77,11 @@ same-length-4 c = search needs
 returns-2 : tie.Need-returns-2
 returns-2 c =
     let u = c .before .before .before .before .before .before .before .before .before .update-part .ensures in
-    serial-sent _ _ _ _ _ _ _ _ _ _ (c .before .before .before .before .before .before .before .before .before .before .before .before .before .before .before .before .before .before .before .before .before .before .before .args .c) _ _ _ (c .before .before .before .before .before .before .before .before .before .before .before .before .before .before .at .ensures) (c .before .before .before .before .before .before .before .before .before .before .before .before .before .at2 .ensures) (u .0) _ _ _ (c .before .before .before .before .before .before .if1 .left) (u .1) (c .before .before .update-variables .ensures)
+    serial-sent _ _ _ _ _ _ _ _ _ _ (c .before .before .before .before .before .before .before .before .before .before .before .before .before .before .before
+    .before .before .before .before .before .before .before .before .args .c) _ _ _
+    (c .before .before .before .before .before .before .before .before .before .before .before .before .before .before .at .ensures)
+    (c .before .before .before .before .before .before .before .before .before .before .before .before .before .at2 .ensures)
+    (u .0) _ _ _ (c .before .before .before .before .before .before .if1 .left) (u .1) (c .before .before .update-variables .ensures)
 
 pub serial-check-spec : {M : Type 1} → statement M
 serial-check-spec =

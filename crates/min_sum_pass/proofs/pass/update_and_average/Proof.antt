@@ -1,4 +1,5 @@
--- `min_sum_pass::pass::update_and_average` meets its contract. The invariant: the variables passed are updated, their elements of the running posterior are new, and the others are old. Assumes nothing.
+-- `min_sum_pass::pass::update_and_average` meets its contract. The invariant: the variables passed are updated, their elements of the running posterior are
+-- new, and the others are old. Assumes nothing.
 use mathlib.Core.Path.{_≡_, refl, ap, _∙_}
 use mathlib.Core.List.{[]}
 use Prim.Native.Nat.{_≤_, _-_}
@@ -26,7 +27,14 @@ unfolding variablesTo averagedTo
 loop-holds c = (omega arith, refl, c .before .before .before .before .before .before .pre .1 .1, refl, refl, refl)
 
 update-variable-requires : tie.Need-update-variable-requires Inv-loop μ-loop
-update-variable-requires c κs = (c .before .loop-test .taken, (c .before .before .before .before .before .before .before .before .before .pre .0, c .before .before .loop .inv .1 ∙ c .before .before .before .before .before .before .before .before .before .pre .1 .0))
+update-variable-requires c κs = (
+  c .before .loop-test .taken,
+  (
+    c .before .before .before .before .before .before .before .before .before .pre .0,
+    c .before
+        .before .loop .inv .1 ∙ c .before .before .before .before .before .before .before .before .before .pre .1 .0,
+  ),
+)
 
 mul-running-average : tie.Need-mul-running-average Inv-loop μ-loop
 mul-running-average c = omega arith

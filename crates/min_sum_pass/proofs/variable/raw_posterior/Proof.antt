@@ -11,7 +11,8 @@ use Rattle.min_sum_pass.proofs.variable.raw_posterior.Tie as tie
 
 -- the variable's part lies within the entries
 within : (c : tie.After-at2) → (c .before .at .result ≤ c .at2 .result) × (c .at2 .result ≤ length (c .before .before .before .before .before .before .args .var-message .now))
-within c = cut-bounds _ _ _ (c .before .before .before .before .before .before .args .v) _ _ (c .before .before .before .before .before .before .pre .1 .parts) (c .before .before .before .before .before .before .pre .0) (c .before .at .ensures) (c .at2 .ensures)
+within c = cut-bounds _ _ _ (c .before .before .before .before .before .before .args .v) _ _ (c .before .before .before .before .before .before .pre .1 .parts)
+    (c .before .before .before .before .before .before .pre .0) (c .before .at .ensures) (c .at2 .ensures)
 
 at-requires : tie.Need-at-requires
 at-requires c κs = omega (arith, c .before .before .before .before .pre .1 .parts .many)
@@ -44,7 +45,8 @@ total-requires : tie.Need-total-requires
 total-requires c κs = part-names _ _ _ _ (c .before .before .before .before .before .before .before .before .pre .1 .named) (within (c .before .before) .1)
 
 returns : tie.Need-returns
-returns c = sum-is _ _ _ _ _ _ (c .before .before .before .before .before .before .before .before .before .args .v) _ _ _ (c .before .before .before .before .at .ensures) (c .before .before .before .at2 .ensures) (rw (c .total .ensures))
+returns c = sum-is _ _ _ _ _ _ (c .before .before .before .before .before .before .before .before .before .args .v) _ _ _
+    (c .before .before .before .before .at .ensures) (c .before .before .before .at2 .ensures) (rw (c .total .ensures))
 
 pub raw-posterior-spec : {M : Type 1} → statement M
 raw-posterior-spec =

@@ -11,7 +11,9 @@ use Rattle.min_sum_pass.proofs.variable.update_variable.Tie as tie
 
 -- the variable's part lies within the entries
 within : (c : tie.After-at2) → (c .before .at .result ≤ c .at2 .result) × (c .at2 .result ≤ length (c .before .before .before .before .before .before .before .args .var-message .now))
-within c = cut-bounds _ _ _ (c .before .before .before .before .before .before .before .args .v) _ _ (c .before .before .before .before .before .before .before .pre .1 .0 .parts) (c .before .before .before .before .before .before .before .pre .0) (c .before .at .ensures) (c .at2 .ensures)
+within c = cut-bounds _ _ _ (c .before .before .before .before .before .before .before .args .v) _ _
+    (c .before .before .before .before .before .before .before .pre .1 .0 .parts)
+    (c .before .before .before .before .before .before .before .pre .0) (c .before .at .ensures) (c .at2 .ensures)
 
 at-requires : tie.Need-at-requires
 at-requires c κs = omega (arith, c .before .before .before .before .before .pre .1 .0 .parts .many)
@@ -41,7 +43,11 @@ part-update-entries-end : tie.Need-part-update-entries-end
 part-update-entries-end c = within (c .before) .1
 
 update-entries-requires : tie.Need-update-entries-requires
-update-entries-requires c κs = (part-names _ _ _ _ (c .before .before .before .before .before .before .before .before .before .before .pre .1 .0 .named) (within (c .before .before .before) .1), c .before .before .before .before .before .before .before .before .before .before .pre .1 .1)
+update-entries-requires c κs = (
+  part-names _ _ _ _ (c .before .before .before .before .before .before .before .before .before .before .pre .1 .0 .named) (within
+      (c .before .before .before) .1),
+  c .before .before .before .before .before .before .before .before .before .before .pre .1 .1,
+)
 
 same-length : tie.Need-same-length
 same-length c = search needs

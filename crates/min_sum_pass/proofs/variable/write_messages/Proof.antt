@@ -56,8 +56,12 @@ loop-less c = omega arith
 
 loop-again : tie.Need-loop-again Inv-loop μ-loop
 loop-again c =
-    let l = c .before .before .before .before .before .loop in
-    (omega arith, simp length-set (omega arith), written-turn _ _ _ _ _ (l .i) _ _ (c .before .before .before .before .loop-test .taken) (c .before .before .before .at .ensures) (l .inv .2) (c .damped .ensures))
+    let l = c .before .before .before .before .before .loop in (
+      omega arith,
+      simp length-set (omega arith),
+      written-turn _ _ _ _ _
+          (l .i) _ _ (c .before .before .before .before .loop-test .taken) (c .before .before .before .at .ensures) (l .inv .2) (c .damped .ensures),
+    )
 
 same-length : tie.Need-same-length Inv-loop μ-loop
 same-length c = omega arith

@@ -43,8 +43,15 @@ same-length-6 c = search needs
 
 returns-2 : tie.Need-returns-2
 returns-2 c =
-    let a = c .before .before .before .before .before .before .before .before .before .before .before .before .before .before .before .before .before .before .before .before .before .before .before .args in
-    (c .before .before .before .before .before .before .before .before .before .before .before .before .before .before .step-end .ensures, ended-zeroed _ _ _ (a .c-to-v .now) (a .v-to-c .now) (a .posterior .now) _ _ _ (c .before .before .before .before .before .before .before .before .before .before .before .before .before .is-done .ensures) (c .before .before .before .before .before .before .before .before .before .before .before .before .if1 .left) (c .before .before .before .before .before .before .before .before .before .before .clear .ensures) (c .before .before .before .before .before .before .clear2 .ensures) (c .before .before .clear3 .ensures))
+    let a = c .before .before .before .before .before .before .before .before .before .before .before .before .before .before .before .before .before .before
+    .before .before .before .before .before .args in (
+      c .before .before .before .before .before .before .before .before .before .before .before .before .before .before .step-end .ensures,
+      ended-zeroed _ _ _
+          (a .c-to-v .now) (a .v-to-c .now) (a .posterior .now) _ _ _ (c .before .before .before .before .before .before .before .before .before .before .before
+          .before .before .is-done .ensures) (c .before .before .before .before .before .before .before .before .before .before .before .before .if1 .left)
+          (c .before .before .before .before .before .before .before .before .before .before .clear .ensures)
+          (c .before .before .before .before .before .before .clear2 .ensures) (c .before .before .clear3 .ensures),
+    )
 
 pub ended-spec : {M : Type 1} → statement M
 ended-spec =

@@ -12,7 +12,9 @@ use Rattle.relay_calls.proofs.iterate.mechanism_finite.Tie as tie
 
 -- the mechanism's part lies within the entries
 within : (c : tie.After-at2) → (c .before .at .result ≤ c .at2 .result) × (c .at2 .result ≤ length (c .before .before .before .before .before .before .before .args .var-message .now))
-within c = cut-bounds _ _ _ (c .before .before .before .before .before .before .before .args .v) _ _ (c .before .before .before .before .before .before .before .pre .1 .0 .parts) (c .before .before .before .before .before .before .before .pre .0) (c .before .at .ensures) (c .at2 .ensures)
+within c = cut-bounds _ _ _ (c .before .before .before .before .before .before .before .args .v) _ _
+    (c .before .before .before .before .before .before .before .pre .1 .0 .parts)
+    (c .before .before .before .before .before .before .before .pre .0) (c .before .at .ensures) (c .at2 .ensures)
 
 at-requires : tie.Need-at-requires
 at-requires c κs = search needs
@@ -36,7 +38,11 @@ part-messages-finite-end : tie.Need-part-messages-finite-end
 part-messages-finite-end c = within c .1
 
 messages-finite-requires : tie.Need-messages-finite-requires
-messages-finite-requires c κs = (part-names _ _ _ _ (c .before .before .before .before .before .before .before .before .pre .1 .0 .named) (within (c .before) .1), c .before .before .before .before .before .before .before .before .pre .1 .1)
+messages-finite-requires c κs = (
+  part-names _ _ _ _ (c .before .before .before .before .before .before .before .before .pre .1 .0 .named)
+      (within (c .before) .1),
+  c .before .before .before .before .before .before .before .before .pre .1 .1,
+)
 
 mul-is-finite : tie.Need-mul-is-finite
 mul-is-finite c = search needs
@@ -51,7 +57,9 @@ both-requires : tie.Need-both-requires
 both-requires c κs = search needs
 
 returns : tie.Need-returns
-returns c = mechanism-is _ _ _ _ _ _ (c .before .before .before .before .before .before .before .before .before .before .before .before .args .v) _ _ _ _ _ (c .before .before .before .before .before .before .at .ensures) (c .before .before .before .before .before .at2 .ensures) (c .before .is-finite .ensures) (c .before .before .before .messages-finite .ensures) (c .both .ensures)
+returns c = mechanism-is _ _ _ _ _ _ (c .before .before .before .before .before .before .before .before .before .before .before .before .args .v) _ _ _ _ _
+    (c .before .before .before .before .before .before .at .ensures) (c .before .before .before .before .before .at2 .ensures) (c .before .is-finite .ensures)
+    (c .before .before .before .messages-finite .ensures) (c .both .ensures)
 
 pub mechanism-finite-spec : {M : Type 1} → statement M
 mechanism-finite-spec =

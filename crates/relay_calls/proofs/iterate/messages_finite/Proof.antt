@@ -53,7 +53,11 @@ both-requires : tie.Need-both-requires Inv-loop μ-loop
 both-requires c κs = search needs
 
 returns : tie.Need-returns Inv-loop μ-loop
-returns c = every-refuse _ (c .before .before .before .before .before .before .before .before .loop .i) _ _ (c .before .before .before .before .before .before .before .loop-test .taken) (message-is _ _ _ (c .before .before .before .before .before .before .before .before .loop .i) _ _ _ _ (c .before .before .before .before .before .before .at .ensures) (c .before .before .before .before .is-finite .ensures) (c .before .before .is-finite2 .ensures) (c .before .both .ensures)) (c .if1 .taken)
+returns c = every-refuse _ (c .before .before .before .before .before .before .before .before .loop .i) _ _
+    (c .before .before .before .before .before .before .before .loop-test .taken)
+    (message-is _ _ _ (c .before .before .before .before .before .before .before .before .loop .i) _ _ _ _
+    (c .before .before .before .before .before .before .at .ensures)
+    (c .before .before .before .before .is-finite .ensures) (c .before .before .is-finite2 .ensures) (c .before .both .ensures)) (c .if1 .taken)
 
 add-i : tie.Need-add-i Inv-loop μ-loop
 add-i c = omega arith
@@ -62,10 +66,18 @@ loop-less : tie.Need-loop-less Inv-loop μ-loop
 loop-less c = omega arith
 
 loop-again : tie.Need-loop-again Inv-loop μ-loop
-loop-again c = (omega arith, every-go _ (c .before .before .before .before .before .before .before .before .loop .i) _ (c .before .before .before .before .before .before .before .before .loop .inv .1) (message-is _ _ _ (c .before .before .before .before .before .before .before .before .loop .i) _ _ _ _ (c .before .before .before .before .before .before .at .ensures) (c .before .before .before .before .is-finite .ensures) (c .before .before .is-finite2 .ensures) (c .before .both .ensures)) (c .if1 .left))
+loop-again c = (
+  omega arith,
+  every-go _ (c .before .before .before .before .before .before .before .before .loop .i) _
+      (c .before .before .before .before .before .before .before .before .loop .inv .1)
+      (message-is _ _ _ (c .before .before .before .before .before .before .before .before .loop .i) _ _ _ _
+      (c .before .before .before .before .before .before .at .ensures)
+      (c .before .before .before .before .is-finite .ensures) (c .before .before .is-finite2 .ensures) (c .before .both .ensures)) (c .if1 .left),
+)
 
 returns-2 : tie.Need-returns-2 Inv-loop μ-loop
-returns-2 c = let e : c .before .loop .i ≡ length (c .before .before .before .before .before .args .entries .now) = omega (arith, c .before .loop .inv .0, c .loop-test .left) in sym (rw e at (c .before .loop .inv .1))
+returns-2 c = let e : c .before .loop .i ≡ length (c .before .before .before .before .before .args .entries .now) = omega
+    (arith, c .before .loop .inv .0, c .loop-test .left) in sym (rw e at (c .before .loop .inv .1))
 
 pub messages-finite-spec : {M : Type 1} → statement M
 messages-finite-spec =

@@ -30,7 +30,8 @@ mechanism-finite-requires c κs = (c .loop-test .taken, c .before .before .befor
 
 returns : tie.Need-returns Inv-loop μ-loop
 unfolding stepEnd finiteFault
-returns c = unless-refuse _ NonFinite (c .before .before .before .loop .v) _ _ (c .before .before .loop-test .taken) (c .before .before .before .loop .inv .1) (c .before .mechanism-finite .ensures) (c .if1 .taken)
+returns c = unless-refuse _ NonFinite (c .before .before .before .loop .v) _ _ (c .before .before .loop-test .taken) (c .before .before .before .loop .inv .1)
+    (c .before .mechanism-finite .ensures) (c .if1 .taken)
 
 add-v : tie.Need-add-v Inv-loop μ-loop
 add-v c = omega arith

@@ -17,9 +17,15 @@ clear-requires c κs = search needs
 
 ended-requires : tie.Need-ended-requires
 ended-requires c κs =
-    let p = c .before .before .before .before .before .before .before .before .before .before .before .before .before .before .before .before .before .before .before .before .before .before .before .before .before .before .before .before .before .before .before .before .pre .1 .1 .1 in
-    let k = c .before .before .before .before .before .before .before .before .before .before .before .before .before .before .before .step .kept .1 .1 .1 .1 .1 .1 .1 .1 .1 .1 .1 in
-    (walks-both _ _ _ _ _ _ (sym (k .1 .1 .0 ∙ p .0 .2)) (sym (k .0 ∙ p .1 .0)) (c .before .before .before .before .before .before .before .before .before .before .before .before .before .before .before .before .before .before .before .before .before .before .before .before .before .before .before .before .before .before .before .before .pre .1 .0), (k .1 .0 ∙ p .1 .1) ∙ sym (k .0 ∙ p .1 .0))
+    let p = c .before .before .before .before .before .before .before .before .before .before .before .before .before .before .before .before .before .before
+    .before .before .before .before .before .before .before .before .before .before .before .before .before .before .pre .1 .1 .1 in
+    let k = c .before .before .before .before .before .before .before .before .before .before .before .before .before .before .before .step .kept .1 .1 .1 .1 .1 .1 .1 .1 .1 .1 .1 in (
+      walks-both _ _ _ _ _ _ (sym (k .1 .1 .0 ∙ p .0 .2)) (sym (k .0 ∙ p .1 .0))
+          (c .before .before .before .before .before .before .before .before .before .before .before .before .before .before .before .before .before .before
+          .before .before .before .before .before .before .before .before .before .before .before .before .before .before .pre .1 .0),
+      (k .1 .0 ∙ p .1 .1) ∙ sym
+          (k .0 ∙ p .1 .0),
+    )
 
 same-length : tie.Need-same-length
 same-length c = search needs
@@ -35,10 +41,17 @@ same-length-4 c = search needs
 
 returns : tie.Need-returns
 returns c =
-    let p = c .before .before .before .before .before .before .before .before .before .before .before .before .before .before .before .before .before .before .before .before .before .before .before .before .before .before .before .before .before .before .before .before .before .before .before .before .before .before .before .pre .1 .1 .1 in
-    let k = c .before .before .before .before .before .before .before .before .before .before .before .before .before .before .before .before .before .before .before .before .before .before .step .kept .1 .1 .1 .1 .1 .1 .1 .1 .1 .1 in
+    let p = c .before .before .before .before .before .before .before .before .before .before .before .before .before .before .before .before .before .before
+    .before .before .before .before .before .before .before .before .before .before .before .before .before .before .before .before .before .before .before
+    .before .before .pre .1 .1 .1 in
+    let k = c .before .before .before .before .before .before .before .before .before .before .before .before .before .before .before .before .before .before
+    .before .before .before .before .step .kept .1 .1 .1 .1 .1 .1 .1 .1 .1 .1 in
     let e = c .before .before .before .before .before .before .ended .ensures in
-    stepped-is _ _ _ _ _ _ _ _ _ _ _ _ (c .before .before .before .before .before .before .before .before .before .before .before .before .before .before .before .before .before .before .before .before .before .before .step .ensures) (k .1 .0 ∙ p .1 .0) (k .1 .1 .0 ∙ p .1 .1) (k .1 .1 .1 .0 ∙ p .0 .2) (c .before .before .before .before .before .before .before .before .before .before .before .before .clear .ensures ∙ ap (λ n. replicate n zero⁺) (k .0 ∙ p .0 .1)) (e .0) (e .1)
+    stepped-is _ _ _ _ _ _ _ _ _ _ _ _ (c .before .before .before .before .before .before .before .before .before .before .before .before .before .before
+    .before .before .before .before .before .before .before .before .step .ensures)
+    (k .1 .0 ∙ p .1 .0) (k .1 .1 .0 ∙ p .1 .1) (k .1 .1 .1 .0 ∙ p .0 .2)
+    (c .before .before .before .before .before .before .before .before .before .before .before .before .clear .ensures ∙ ap
+    (λ n. replicate n zero⁺) (k .0 ∙ p .0 .1)) (e .0) (e .1)
 
 pub stepped-spec : {M : Type 1} → statement M
 stepped-spec =

@@ -32,7 +32,8 @@ is-finite-requires c κs = search needs
 
 returns : tie.Need-returns Inv-loop μ-loop
 unfolding allFinite finiteAt
-returns c = every-refuse (finiteAt (c .before .before .before .before .before .before .args .xs .now)) (c .before .before .before .before .loop .i) _ _ (c .before .before .before .loop-test .taken) (c .before .is-finite .ensures) (c .if1 .taken)
+returns c = every-refuse (finiteAt (c .before .before .before .before .before .before .args .xs .now))
+    (c .before .before .before .before .loop .i) _ _ (c .before .before .before .loop-test .taken) (c .before .is-finite .ensures) (c .if1 .taken)
 
 add-i : tie.Need-add-i Inv-loop μ-loop
 add-i c = omega arith
@@ -42,7 +43,11 @@ loop-less c = omega arith
 
 loop-again : tie.Need-loop-again Inv-loop μ-loop
 unfolding finiteAt
-loop-again c = (omega arith, every-go (finiteAt (c .before .before .before .before .before .before .args .xs .now)) (c .before .before .before .before .loop .i) _ (c .before .before .before .before .loop .inv .1) (c .before .is-finite .ensures) (c .if1 .left))
+loop-again c = (
+  omega arith,
+  every-go (finiteAt (c .before .before .before .before .before .before .args .xs .now))
+      (c .before .before .before .before .loop .i) _ (c .before .before .before .before .loop .inv .1) (c .before .is-finite .ensures) (c .if1 .left),
+)
 
 returns-2 : tie.Need-returns-2 Inv-loop μ-loop
 unfolding allFinite

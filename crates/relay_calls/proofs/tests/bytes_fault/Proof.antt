@@ -32,7 +32,9 @@ is-bit-requires c κs = search needs
 
 returns : tie.Need-returns Inv-loop μ-loop
 unfolding byteFault
-returns c = unless-refuse (λ k. leb (getD (c .before .before .before .before .before .before .args .syndrome .now) k 0) 1) SyndromeNotBinary (c .before .before .before .before .loop .c) _ _ (c .before .before .before .loop-test .taken) (c .before .before .before .before .loop .inv .1) (c .before .is-bit .ensures) (c .if1 .taken)
+returns c = unless-refuse (λ k. leb (getD (c .before .before .before .before .before .before .args .syndrome .now) k 0) 1) SyndromeNotBinary
+    (c .before .before .before .before .loop .c) _ _ (c .before .before .before .loop-test .taken)
+    (c .before .before .before .before .loop .inv .1) (c .before .is-bit .ensures) (c .if1 .taken)
 
 add-c : tie.Need-add-c Inv-loop μ-loop
 add-c c = omega arith
@@ -42,10 +44,15 @@ loop-less c = omega arith
 
 loop-again : tie.Need-loop-again Inv-loop μ-loop
 unfolding byteFault
-loop-again c = (omega arith, unless-go (λ k. leb (getD (c .before .before .before .before .before .before .args .syndrome .now) k 0) 1) SyndromeNotBinary (c .before .before .before .before .loop .c) _ (c .before .before .before .before .loop .inv .1) (c .before .is-bit .ensures) (c .if1 .left))
+loop-again c = (
+  omega arith,
+  unless-go (λ k. leb (getD (c .before .before .before .before .before .before .args .syndrome .now) k 0) 1) SyndromeNotBinary
+      (c .before .before .before .before .loop .c) _ (c .before .before .before .before .loop .inv .1) (c .before .is-bit .ensures) (c .if1 .left),
+)
 
 returns-2 : tie.Need-returns-2 Inv-loop μ-loop
-returns-2 c = let e : c .before .loop .c ≡ length (c .before .before .before .args .syndrome .now) = omega (arith, c .before .loop .inv .0, c .loop-test .left) in sym (rw e at (c .before .loop .inv .1))
+returns-2 c = let e : c .before .loop .c ≡ length (c .before .before .before .args .syndrome .now) = omega
+    (arith, c .before .loop .inv .0, c .loop-test .left) in sym (rw e at (c .before .loop .inv .1))
 
 pub bytes-fault-spec : {M : Type 1} → statement M
 bytes-fault-spec =

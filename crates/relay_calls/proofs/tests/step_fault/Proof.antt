@@ -43,7 +43,25 @@ or-else-requires-4 c κs = search needs
 
 returns : tie.Need-returns
 unfolding alphaGood
-returns c = rw (c .or-else4 .ensures, c .before .or-else3 .ensures, c .before .before .syndrome-fault .ensures, c .before .before .before .unless3 .ensures, c .before .before .before .before .finite-positive .ensures, c .before .before .before .before .before .or-else2 .ensures, c .before .before .before .before .before .before .unless2 .ensures, c .before .before .before .before .before .before .before .or-else .ensures, c .before .before .before .before .before .before .before .before .unless .ensures, c .before .before .before .before .before .before .before .before .before .names-fault .ensures, c .before .before .before .before .before .before .before .before .before .before .state-finite .ensures, c .before .before .before .before .before .before .before .before .before .before .before .lists-fit .ensures)
+returns c = rw (
+  c .or-else4 .ensures,
+  c .before .or-else3 .ensures,
+  c .before .before .syndrome-fault .ensures,
+  c .before .before .before .unless3 .ensures,
+  c
+      .before .before .before .before .finite-positive .ensures,
+  c .before .before .before .before .before .or-else2 .ensures,
+  c .before .before .before .before
+      .before .before .unless2 .ensures,
+  c .before .before .before .before .before .before .before .or-else .ensures,
+  c .before .before .before .before .before
+      .before .before .before .unless .ensures,
+  c .before .before .before .before .before .before .before .before .before .names-fault .ensures,
+  c .before .before
+      .before .before .before .before .before .before .before .before .state-finite .ensures,
+  c .before .before .before .before .before .before .before .before
+      .before .before .before .lists-fit .ensures,
+)
 
 pub step-fault-spec : {M : Type 1} → statement M
 step-fault-spec =

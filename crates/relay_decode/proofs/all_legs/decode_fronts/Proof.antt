@@ -59,20 +59,52 @@ part-run-shot-end-4 c = search needs
 
 run-shot-requires : tie.Need-run-shot-requires
 run-shot-requires c κs =
-    let s = c .before .before .before .before .before .before .before .before .before .before .before .before .before .before .before .before .before .before .before .before .before .before .before .before .before .before .before .before .before in
+    let s = c .before .before .before .before .before .before .before .before .before .before .before .before .before .before .before .before .before .before
+    .before .before .before .before .before .before .before .before .before .before .before in
     let a = s .args in
     let p = s .pre in
-    let m = p .1 .0 in
-    (p .0, ((front-lent (a .t .«num_legs») (a .leg-state .now) (m .0), front-lent (a .t .«num_legs») (a .leg-iterations .now) (m .1), front-lent (a .t .«num_legs») (a .leg-weight .now) (m .2), cells-lent (a .t .«num_legs») (length (a .priors .now)) (a .rows .now) (m .3)), (p .1 .1 .0, p .1 .1 .1)))
+    let m = p .1 .0 in (
+      p .0,
+      (
+        (
+          front-lent (a .t .«num_legs») (a .leg-state .now)
+              (m .0),
+          front-lent (a .t .«num_legs») (a .leg-iterations .now)
+              (m .1),
+          front-lent (a .t .«num_legs») (a .leg-weight .now) (m .2),
+          cells-lent
+              (a .t .«num_legs») (length (a .priors .now)) (a .rows .now) (m .3),
+        ),
+        (p .1 .1 .0, p .1 .1 .1),
+      ),
+    )
 
 same-length : tie.Need-same-length
-same-length c = let a = c .before .before .before .before .before .before .before .before .before .before .before .before .before .before .before .before .before .before .before .before .before .before .before .before .before .before .before .before .before .before .before .before .before .before .before .before .before .before .before .before .before .before .before .before .before .before .before .before .before .before .args in same-len-mid 0 (a .t .«num_legs» + 1 - 0) (a .leg-state .now) (c .before .before .before .before .before .before .before .before .before .before .before .before .before .before .before .before .before .before .before .before .run-shot .last .1 .1 .1 .1 .1 .1 .1 .1 .1 .1 .0) (c .before .before .before .before .before .before .before .before .before .before .before .before .before .before .before .before .before .before .before .before .run-shot .kept .1 .1 .1 .1 .1 .1 .1 .1 .1 .1 .0)
+same-length c = let a = c .before .before .before .before .before .before .before .before .before .before .before .before .before .before .before .before
+    .before .before .before .before .before .before .before .before .before .before .before .before .before .before .before .before .before .before .before
+    .before .before .before .before .before .before .before .before .before .before .before .before .before .before .before .args in same-len-mid 0
+    (a .t .«num_legs» + 1 - 0) (a .leg-state .now) (c .before .before .before .before .before .before .before .before .before .before .before .before .before
+    .before .before .before .before .before .before .before .run-shot .last .1 .1 .1 .1 .1 .1 .1 .1 .1 .1 .0)
+    (c .before .before .before .before .before .before .before .before .before .before .before .before .before .before .before .before .before .before .before
+    .before .run-shot .kept .1 .1 .1 .1 .1 .1 .1 .1 .1 .1 .0)
 
 same-length-2 : tie.Need-same-length-2
-same-length-2 c = let a = c .before .before .before .before .before .before .before .before .before .before .before .before .before .before .before .before .before .before .before .before .before .before .before .before .before .before .before .before .before .before .before .before .before .before .before .before .before .before .before .before .before .before .before .before .before .before .before .before .before .before .args in same-len-mid 0 (a .t .«num_legs» + 1 - 0) (a .leg-iterations .now) (c .before .before .before .before .before .before .before .before .before .before .before .before .before .before .before .before .before .before .before .before .run-shot .last .1 .1 .1 .1 .1 .1 .1 .1 .1 .1 .1 .0) (c .before .before .before .before .before .before .before .before .before .before .before .before .before .before .before .before .before .before .before .before .run-shot .kept .1 .1 .1 .1 .1 .1 .1 .1 .1 .1 .1 .0)
+same-length-2 c = let a = c .before .before .before .before .before .before .before .before .before .before .before .before .before .before .before .before
+    .before .before .before .before .before .before .before .before .before .before .before .before .before .before .before .before .before .before .before
+    .before .before .before .before .before .before .before .before .before .before .before .before .before .before .before .args in same-len-mid 0
+    (a .t .«num_legs» + 1 - 0) (a .leg-iterations .now) (c .before .before .before .before .before .before .before .before .before .before .before .before
+    .before .before .before .before .before .before .before .before .run-shot .last .1 .1 .1 .1 .1 .1 .1 .1 .1 .1 .1 .0)
+    (c .before .before .before .before .before .before .before .before .before .before .before .before .before .before .before .before .before .before .before
+    .before .run-shot .kept .1 .1 .1 .1 .1 .1 .1 .1 .1 .1 .1 .0)
 
 same-length-3 : tie.Need-same-length-3
-same-length-3 c = let a = c .before .before .before .before .before .before .before .before .before .before .before .before .before .before .before .before .before .before .before .before .before .before .before .before .before .before .before .before .before .before .before .before .before .before .before .before .before .before .before .before .before .before .before .before .before .before .before .before .before .before .args in same-len-mid 0 (a .t .«num_legs» + 1 - 0) (a .leg-weight .now) (c .before .before .before .before .before .before .before .before .before .before .before .before .before .before .before .before .before .before .before .before .run-shot .last .1 .1 .1 .1 .1 .1 .1 .1 .1 .1 .1 .1 .0) (c .before .before .before .before .before .before .before .before .before .before .before .before .before .before .before .before .before .before .before .before .run-shot .kept .1 .1 .1 .1 .1 .1 .1 .1 .1 .1 .1 .1 .0)
+same-length-3 c = let a = c .before .before .before .before .before .before .before .before .before .before .before .before .before .before .before .before
+    .before .before .before .before .before .before .before .before .before .before .before .before .before .before .before .before .before .before .before
+    .before .before .before .before .before .before .before .before .before .before .before .before .before .before .before .args in same-len-mid 0
+    (a .t .«num_legs» + 1 - 0) (a .leg-weight .now) (c .before .before .before .before .before .before .before .before .before .before .before .before .before
+    .before .before .before .before .before .before .before .run-shot .last .1 .1 .1 .1 .1 .1 .1 .1 .1 .1 .1 .1 .0)
+    (c .before .before .before .before .before .before .before .before .before .before .before .before .before .before .before .before .before .before .before
+    .before .run-shot .kept .1 .1 .1 .1 .1 .1 .1 .1 .1 .1 .1 .1 .0)
 
 same-length-4 : tie.Need-same-length-4
 same-length-4 c = search needs
@@ -97,13 +129,46 @@ same-length-10 c = search needs
 
 returns : tie.Need-returns
 returns c =
-    let s = c .before .before .before .before .before .before .before .before .before .before .before .before .before .before .before .before .before .before .before .before .before .before .before .before .before .before .before .before .before .before .before .before .before .before .before .before .before .before .before .before .before .before .before .before .before .before .before .before .before .before in
+    let s = c .before .before .before .before .before .before .before .before .before .before .before .before .before .before .before .before .before .before
+    .before .before .before .before .before .before .before .before .before .before .before .before .before .before .before .before .before .before .before
+    .before .before .before .before .before .before .before .before .before .before .before .before .before in
     let a = s .args in
     let p = s .pre in
     let m = p .1 .0 in
     let x = c .before .before .before .before .before .before .before .before .before .before .before .before .before .before .before .before .before .before .before .before .run-shot in
     let n = a .t .«num_legs» in
-    shot-is (shotOf (a .t) (a .gammas .now) (a .seed) (a .syndrome .now) (a .priors .now) (a .check-var .now) (a .check-offset .now) (a .var-message .now) (a .var-offset .now) (a .order .now)) (length (a .check-var .now)) (record { legState = a .leg-state .now; legIterations = a .leg-iterations .now; legWeight = a .leg-weight .now; rows = a .rows .now; correction = a .correction .now; posterior = a .posterior .now; gamma = a .gamma .now; bias = a .bias .now; cToV = a .c-to-v .now; vToC = a .v-to-c .now }) (x .last .1 .1 .1 .1 .1 .1 .1 .1 .1 .1 .0) (x .last .1 .1 .1 .1 .1 .1 .1 .1 .1 .1 .1 .0) (x .last .1 .1 .1 .1 .1 .1 .1 .1 .1 .1 .1 .1 .0) (x .last .1 .1 .1 .1 .1 .1 .1 .1 .1 .1 .1 .1 .1 .0) _ _ _ _ _ _ _ _ _ _ (decodeLegs (shotOf (a .t) (a .gammas .now) (a .seed) (a .syndrome .now) (a .priors .now) (a .check-var .now) (a .check-offset .now) (a .var-message .now) (a .var-offset .now) (a .order .now))) _ (x .ensures .0) (x .ensures .1 .0) (front-tail (n + 1) (a .leg-state .now) (x .last .1 .1 .1 .1 .1 .1 .1 .1 .1 .1 .0) (x .kept .1 .1 .1 .1 .1 .1 .1 .1 .1 .1 .0) (rw add-one (m .0)), front-tail (n + 1) (a .leg-iterations .now) (x .last .1 .1 .1 .1 .1 .1 .1 .1 .1 .1 .1 .0) (x .kept .1 .1 .1 .1 .1 .1 .1 .1 .1 .1 .1 .0) (rw add-one (m .1)), front-tail (n + 1) (a .leg-weight .now) (x .last .1 .1 .1 .1 .1 .1 .1 .1 .1 .1 .1 .1 .0) (x .kept .1 .1 .1 .1 .1 .1 .1 .1 .1 .1 .1 .1 .0) (rw add-one (m .2)), front-tail ((n + 1) * length (a .priors .now)) (a .rows .now) (x .last .1 .1 .1 .1 .1 .1 .1 .1 .1 .1 .1 .1 .1 .0) (x .kept .1 .1 .1 .1 .1 .1 .1 .1 .1 .1 .1 .1 .1 .0) (rw add-one (m .3))) (x .ensures .1 .1)
+    shot-is (shotOf (a .t) (a .gammas .now) (a .seed) (a .syndrome .now)
+    (a .priors .now) (a .check-var .now) (a .check-offset .now) (a .var-message .now) (a .var-offset .now) (a .order .now)) (length (a .check-var .now))
+    (record {
+      legState = a .leg-state .now;
+      legIterations = a .leg-iterations .now;
+      legWeight = a .leg-weight .now;
+      rows = a .rows .now;
+      correction = a
+          .correction .now;
+      posterior = a .posterior .now;
+      gamma = a .gamma .now;
+      bias = a .bias .now;
+      cToV = a .c-to-v .now;
+      vToC = a .v-to-c .now;
+    })
+    (x .last .1 .1 .1 .1 .1 .1 .1 .1 .1 .1 .0) (x .last .1 .1 .1 .1 .1 .1 .1 .1 .1 .1 .1 .0)
+    (x .last .1 .1 .1 .1 .1 .1 .1 .1 .1 .1 .1 .1 .0) (x .last .1 .1 .1 .1 .1 .1 .1 .1 .1 .1 .1 .1 .1 .0) _ _ _ _ _ _ _ _ _ _
+    (decodeLegs (shotOf (a .t) (a .gammas .now) (a .seed) (a .syndrome .now)
+    (a .priors .now) (a .check-var .now) (a .check-offset .now) (a .var-message .now)
+    (a .var-offset .now) (a .order .now))) _ (x .ensures .0) (x .ensures .1 .0) (
+      front-tail (n + 1) (a .leg-state .now) (x .last .1 .1 .1 .1 .1 .1 .1 .1 .1 .1 .0)
+          (x .kept .1 .1 .1 .1 .1 .1 .1 .1 .1 .1 .0) (rw add-one (m .0)),
+      front-tail
+          (n + 1) (a .leg-iterations .now) (x .last .1 .1 .1 .1 .1 .1 .1 .1 .1 .1 .1 .0)
+          (x .kept .1 .1 .1 .1 .1 .1 .1 .1 .1 .1 .1 .0) (rw add-one (m .1)),
+      front-tail
+          (n + 1) (a .leg-weight .now) (x .last .1 .1 .1 .1 .1 .1 .1 .1 .1 .1 .1 .1 .0)
+          (x .kept .1 .1 .1 .1 .1 .1 .1 .1 .1 .1 .1 .1 .0) (rw add-one (m .2)),
+      front-tail
+          ((n + 1) * length (a .priors .now)) (a .rows .now) (x .last .1 .1 .1 .1 .1 .1 .1 .1 .1 .1 .1 .1 .1 .0)
+          (x .kept .1 .1 .1 .1 .1 .1 .1 .1 .1 .1 .1 .1 .1 .0) (rw add-one (m .3)),
+    ) (x .ensures .1 .1)
 
 pub decode-fronts-spec : {M : Type 1} → statement M
 decode-fronts-spec =

@@ -36,7 +36,14 @@ same-length-6 : tie.Need-same-length-6
 same-length-6 c = search needs
 
 returns-2 : tie.Need-returns-2
-returns-2 c = let a = c .before .before .before .before .before .before .before .before .before .before .before .before .before .before .before .before .before .before .before .before .before .before .before .before .before .before .before .before .args in let z = c .before .before .before .before .before .before .before .before .before .before .before .before .before .before .clear-records .ensures in end-zeroed (a .d) _ _ (a .leg-state .now) (a .leg-iterations .now) (a .leg-weight .now) (a .rows .now) (a .correction .now) (a .posterior .now) _ _ _ _ _ _ (c .before .before .before .before .before .before .before .before .before .before .before .before .before .before .before .before .before .before .before .before .before .is-refused .ensures) (c .before .before .before .before .before .before .before .before .before .before .before .before .before .before .before .before .before .before .before .before .if1 .left) z (c .before .before .clear .ensures)
+returns-2 c = let a = c .before .before .before .before .before .before .before .before .before .before .before .before .before .before .before .before .before
+    .before .before .before .before .before .before .before .before .before .before .before .args in let z = c .before .before .before .before .before .before
+    .before .before .before .before .before .before .before .before .clear-records .ensures in end-zeroed
+    (a .d) _ _ (a .leg-state .now) (a .leg-iterations .now) (a .leg-weight .now)
+    (a .rows .now) (a .correction .now) (a .posterior .now) _ _ _ _ _ _
+    (c .before .before .before .before .before .before .before .before .before .before .before .before .before .before .before .before .before .before .before
+    .before .before .is-refused .ensures) (c .before .before .before .before .before .before .before .before .before .before .before .before .before .before
+    .before .before .before .before .before .before .if1 .left) z (c .before .before .clear .ensures)
 
 pub end-legs-spec : {M : Type 1} → statement M
 end-legs-spec =

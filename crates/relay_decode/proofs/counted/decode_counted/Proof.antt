@@ -5,7 +5,12 @@ use Rattle.relay_decode.proofs.counted.decode_counted.Statement.{statem
 use Rattle.relay_decode.proofs.counted.decode_counted.Tie as tie
 
 decode-few-requires : tie.Need-decode-few-requires
-decode-few-requires c κs = (c .before .before .before .before .before .before .before .before .before .before .if1 .taken, c .before .before .before .before .before .before .before .before .before .before .before .before .before .before .before .before .before .before .before .before .before .before .before .before .before .before .before .before .pre .1)
+decode-few-requires c κs = (
+  c .before .before .before .before .before .before .before .before .before .before .if1 .taken,
+  c .before .before .before .before
+      .before .before .before .before .before .before .before .before .before .before .before .before .before .before .before .before .before .before .before
+      .before .before .before .before .before .pre .1,
+)
 
 same-length : tie.Need-same-length
 same-length c = search needs

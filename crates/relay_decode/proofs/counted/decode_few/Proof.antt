@@ -26,13 +26,23 @@ part-decode-fronts-start : tie.Need-part-decode-fronts-start
 part-decode-fronts-start c = search needs
 
 part-decode-fronts-end : tie.Need-part-decode-fronts-end
-part-decode-fronts-end c = counted-many 1024 (length (c .before .before .before .before .before .before .before .before .before .before .before .before .before .before .before .before .before .before .before .before .before .args .syndrome .now)) _ _ (c .before .before .before .before .before .before .before .before .before .before .before .before .before .before .before .before .before .before .before .before .before .pre .0) (length-replicate {A = ℕ} 1024 0) (c .before .before .number .ensures)
+part-decode-fronts-end c = counted-many 1024 (length (c .before .before .before .before .before .before .before .before .before .before .before .before .before
+    .before .before .before .before .before .before .before .before .args .syndrome .now)) _ _
+    (c .before .before .before .before .before .before .before .before .before .before .before .before .before .before .before .before .before .before .before
+    .before .before .pre .0) (length-replicate {A = ℕ} 1024 0) (c .before .before .number .ensures)
 
 decode-fronts-requires : tie.Need-decode-fronts-requires
 decode-fronts-requires c κs =
-    let s = c .before .before .before .before .before .before .before .before .before .before .before .before .before .before .before .before .before .before .before .before .before .before .before .before .before .before .before .before .before .before .before .before in
-    let a = s .args in
-    (reads-along (a .t) (a .gammas .now) (a .seed) (a .syndrome .now) (a .priors .now) (a .check-var .now) (a .check-offset .now) (a .var-message .now) (a .var-offset .now) _ _ (counted-is 1024 (length (a .syndrome .now)) _ _ (s .pre .0) (length-replicate {A = ℕ} 1024 0) (c .before .before .before .before .before .before .before .before .before .before .before .before .before .number .ensures)) (s .pre .1 .0), s .pre .1 .1)
+    let s = c .before .before .before .before .before .before .before .before .before .before .before .before .before .before .before .before .before .before
+    .before .before .before .before .before .before .before .before .before .before .before .before .before .before in
+    let a = s .args in (
+      reads-along (a .t) (a .gammas .now) (a .seed) (a .syndrome .now)
+          (a .priors .now) (a .check-var .now) (a .check-offset .now) (a .var-message .now)
+          (a .var-offset .now) _ _ (counted-is 1024 (length (a .syndrome .now)) _ _
+          (s .pre .0) (length-replicate {A = ℕ} 1024 0) (c .before .before .before .before .before .before .before .before .before .before .before .before .before
+          .number .ensures)) (s .pre .1 .0),
+      s .pre .1 .1,
+    )
 
 same-length : tie.Need-same-length
 same-length c = search needs
@@ -66,9 +76,17 @@ same-length-10 c = search needs
 
 returns : tie.Need-returns
 returns c =
-    let s = c .before .before .before .before .before .before .before .before .before .before .before .before .before .before .before .before .before .before .before .before .before .before .before .before .before .before .before .before .before .before .before .before .before .before .before .before .before .before .before .before .before .before .before .before .before .before .before .before .before .before .before .before .before in
+    let s = c .before .before .before .before .before .before .before .before .before .before .before .before .before .before .before .before .before .before
+    .before .before .before .before .before .before .before .before .before .before .before .before .before .before .before .before .before .before .before
+    .before .before .before .before .before .before .before .before .before .before .before .before .before .before .before .before in
     let a = s .args in
-    along-order (a .t) (a .gammas .now) (a .seed) (a .syndrome .now) (a .priors .now) (a .check-var .now) (a .check-offset .now) (a .var-message .now) (a .var-offset .now) _ _ _ _ _ (counted-is 1024 (length (a .syndrome .now)) _ _ (s .pre .0) (length-replicate {A = ℕ} 1024 0) (c .before .before .before .before .before .before .before .before .before .before .before .before .before .before .before .before .before .before .before .before .before .before .before .before .before .before .before .before .before .before .before .before .before .before .number .ensures)) (c .before .before .before .before .before .before .before .before .before .before .before .before .before .before .before .before .before .before .before .before .decode-fronts .ensures)
+    along-order (a .t) (a .gammas .now) (a .seed) (a .syndrome .now)
+    (a .priors .now) (a .check-var .now) (a .check-offset .now) (a .var-message .now)
+    (a .var-offset .now) _ _ _ _ _ (counted-is 1024 (length (a .syndrome .now)) _ _
+    (s .pre .0) (length-replicate {A = ℕ} 1024 0) (c .before .before .before .before .before .before .before .before .before .before .before .before .before
+    .before .before .before .before .before .before .before .before .before .before .before .before .before .before .before .before .before .before .before
+    .before .before .number .ensures)) (c .before .before .before .before .before .before .before .before .before .before .before .before .before .before
+    .before .before .before .before .before .before .decode-fronts .ensures)
 
 pub decode-few-spec : {M : Type 1} → statement M
 decode-few-spec =

@@ -35,7 +35,18 @@ both-requires-3 : tie.Need-both-requires-3
 both-requires-3 c κs = search needs
 
 returns : tie.Need-returns
-returns c = rw (c .both3 .ensures, c .before .both2 .ensures, c .before .before .both .ensures, c .before .before .before .at-most4 .ensures, c .before .before .before .before .at-most3 .ensures, c .before .before .before .before .before .at-most2 .ensures, c .before .before .before .before .before .before .at-most .ensures, add-one)
+returns c = rw (
+  c .both3 .ensures,
+  c .before .both2 .ensures,
+  c .before .before .both .ensures,
+  c .before .before .before .at-most4 .ensures,
+  c .before .before
+      .before .before .at-most3 .ensures,
+  c .before .before .before .before .before .at-most2 .ensures,
+  c .before .before .before .before .before .before .at-most
+      .ensures,
+  add-one,
+)
 
 pub legs-fit-spec : {M : Type 1} → statement M
 legs-fit-spec =

@@ -38,7 +38,23 @@ both-requires-5 : tie.Need-both-requires-5
 both-requires-5 c κs = search needs
 
 returns : tie.Need-returns
-returns c = rw (c .both5 .ensures, c .before .both4 .ensures, c .before .before .both3 .ensures, c .before .before .before .same-number6 .ensures, c .before .before .before .before .same-number5 .ensures, c .before .before .before .before .before .same-number4 .ensures, c .before .before .before .before .before .before .both2 .ensures, c .before .before .before .before .before .before .before .same-number3 .ensures, c .before .before .before .before .before .before .before .before .both .ensures, c .before .before .before .before .before .before .before .before .before .same-number2 .ensures, c .before .before .before .before .before .before .before .before .before .before .same-number .ensures)
+returns c = rw (
+  c .both5 .ensures,
+  c .before .both4 .ensures,
+  c .before .before .both3 .ensures,
+  c .before .before .before .same-number6 .ensures,
+  c .before
+      .before .before .before .same-number5 .ensures,
+  c .before .before .before .before .before .same-number4 .ensures,
+  c .before .before .before .before .before
+      .before .both2 .ensures,
+  c .before .before .before .before .before .before .before .same-number3 .ensures,
+  c .before .before .before .before .before .before
+      .before .before .both .ensures,
+  c .before .before .before .before .before .before .before .before .before .same-number2 .ensures,
+  c .before .before .before
+      .before .before .before .before .before .before .before .same-number .ensures,
+)
 
 pub work-fits-spec : {M : Type 1} → statement M
 work-fits-spec =

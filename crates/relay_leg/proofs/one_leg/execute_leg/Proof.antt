@@ -23,7 +23,8 @@ start-leg-requires c κs = search needs
 
 run-leg-requires : tie.Need-run-leg-requires
 run-leg-requires c κs =
-    let p = c .before .before .before .before .before .before .before .before .before .before .before .before .before .before .before .before .before .before .before .before .before .before .before .before .before .before .before .before .before .before .before .before .pre in
+    let p = c .before .before .before .before .before .before .before .before .before .before .before .before .before .before .before .before .before .before
+    .before .before .before .before .before .before .before .before .before .before .before .before .before .before .pre in
     let g = c .before .before .before .before .before .before .before .before .before .before .before .before .before .before .before .prepare-gamma .kept .1 .1 .1 .1 .0 in
     let k = c .before .before .before .before .before .before .before .before .before .before .start-leg .kept .1 .1 in
     (p .0 .check-walks, (p .0 .var-walks, (p .0 .named, ((g ∙ p .1 .1 .0 .0, p .1 .1 .0 .1, p .1 .1 .0 .2, p .1 .1 .0 .3), (k .0 ∙ p .1 .1 .1 .0, k .1 .0 ∙ p .1 .1 .1 .1)))))
@@ -48,12 +49,20 @@ same-length-6 c = search needs
 
 returns : tie.Need-returns
 returns c =
-    let s = c .before .before .before .before .before .before .before .before .before .before .before .before .before .before .before .before .before .before .before .before .before .before .before .before .before .before .before .before .before .before .before .before .before .before .before .before .before .before .before .before .before .before .before in
+    let s = c .before .before .before .before .before .before .before .before .before .before .before .before .before .before .before .before .before .before
+    .before .before .before .before .before .before .before .before .before .before .before .before .before .before .before .before .before .before .before
+    .before .before .before .before .before .before in
     let a = s .args in
     let p = s .pre in
-    let limit = c .before .before .before .before .before .before .before .before .before .before .before .before .before .before .before .before .before .before .before .before .before .before .before .before .before .before .before .before .iteration-limit .ensures in
+    let limit = c .before .before .before .before .before .before .before .before .before .before .before .before .before .before .before .before .before
+    .before .before .before .before .before .before .before .before .before .before .before .iteration-limit .ensures in
     let e = c .before .before .before .before .before .before .before .before .before .before .run-leg .ensures in
-    let x = executed-is (a .t) (a .gammas .now) (a .seed) (a .syndrome .now) (a .priors .now) (a .check-var .now) (a .check-offset .now) (a .var-message .now) (a .var-offset .now) (a .order .now) (a .leg) _ _ _ _ (a .posterior .now) _ (c .before .before .before .before .before .before .before .before .before .before .before .before .before .before .before .before .before .before .before .before .before .before .before .before .before .before .prepare-gamma .ensures ∙ ap (λ n. gammaOf (a .t) (a .gammas .now) n (a .seed) (a .leg)) (p .1 .1 .0 .0)) (c .before .before .before .before .before .before .before .before .before .before .before .before .before .before .before .before .before .before .before .before .before .start-leg .ensures) limit (e .0) in (
+    let x = executed-is (a .t) (a .gammas .now) (a .seed) (a .syndrome .now) (a .priors .now) (a .check-var .now) (a .check-offset .now) (a .var-message .now)
+    (a .var-offset .now) (a .order .now) (a .leg) _ _ _ _ (a .posterior .now) _
+    (c .before .before .before .before .before .before .before .before .before .before .before .before .before .before .before .before .before .before
+    .before .before .before .before .before .before .before .before .prepare-gamma .ensures ∙ ap (λ n. gammaOf (a .t) (a .gammas .now) n (a .seed) (a .leg))
+    (p .1 .1 .0 .0)) (c .before .before .before .before .before .before .before .before .before .before .before .before .before .before .before .before
+    .before .before .before .before .before .start-leg .ensures) limit (e .0) in (
       x .0,
       (
         e .1 (rw limit (limit-some _ _ _ _ _ _ _ _ _ (p .0) _ (p .1 .0))),

@@ -9,13 +9,16 @@ use Rattle.relay_leg.proofs.one_leg.leg_in_row.Tie as tie
 
 execute-leg-requires : tie.Need-execute-leg-requires
 execute-leg-requires c κs =
-    let p = c .before .before .before .before .before .before .before .before .before .before .before .before .before .before .before .before .before .before .before .before .before .before .before .before .pre in
+    let p = c .before .before .before .before .before .before .before .before .before .before .before .before .before .before .before .before .before .before
+    .before .before .before .before .before .before .pre in
     let n = p .1 .1 .1 .0 in
     (p .0, (p .1 .0 .0, ((n .3, n .4, n .2, n .0), p .1 .1 .1 .1)))
 
 record-leg-requires : tie.Need-record-leg-requires
 record-leg-requires c κs =
-    let p = c .before .before .before .before .before .before .before .before .before .before .before .before .before .before .before .before .before .before .before .before .before .before .before .before .before .before .before .before .before .before .before .before .before .before .before .before .before .before .before .before .before .before .pre in
+    let p = c .before .before .before .before .before .before .before .before .before .before .before .before .before .before .before .before .before .before
+    .before .before .before .before .before .before .before .before .before .before .before .before .before .before .before .before .before .before .before
+    .before .before .before .before .before .pre in
     let n = p .1 .1 .1 .0 in
     let x = c .before .before .before .before .before .before .before .before .before .before .before .before .before .before .before .before .before .execute-leg in
     ((p .1 .0 .1, p .1 .0 .2, x .ensures .1 .1), ((x .kept .1 .1 .1 .1 .1 .1 .1 .1 .1 .1 .1 .1 .1 .1 .1 .1 .0 ∙ n .0, n .1), p .1 .1 .0))
@@ -52,12 +55,22 @@ same-length-10 c = search needs
 
 returns : tie.Need-returns
 returns c =
-    let s = c .before .before .before .before .before .before .before .before .before .before .before .before .before .before .before .before .before .before .before .before .before .before .before .before .before .before .before .before .before .before .before .before .before .before .before .before .before .before .before .before .before .before .before .before .before .before .before .before .before .before .before .before .before in
+    let s = c .before .before .before .before .before .before .before .before .before .before .before .before .before .before .before .before .before .before
+    .before .before .before .before .before .before .before .before .before .before .before .before .before .before .before .before .before .before .before
+    .before .before .before .before .before .before .before .before .before .before .before .before .before .before .before .before in
     let a = s .args in
     let n = s .pre .1 .1 .1 .0 in
-    let x = c .before .before .before .before .before .before .before .before .before .before .before .before .before .before .before .before .before .before .before .before .before .before .before .before .before .before .before .before .execute-leg in
+    let x = c .before .before .before .before .before .before .before .before .before .before .before .before .before .before .before .before .before .before
+    .before .before .before .before .before .before .before .before .before .before .execute-leg in
     let e = c .before .before .before .before .before .before .before .before .before .before .record-leg .ensures in (
-      row-turn (shotOf (a .t) (a .gammas .now) (a .seed) (a .syndrome .now) (a .priors .now) (a .check-var .now) (a .check-offset .now) (a .var-message .now) (a .var-offset .now) (a .order .now)) (a .leg) (bestOf (a .tally .found) (a .tally .weight)) _ (a .tally .«num_converged») _ (a .tally .«total_iterations») _ (a .leg-state .now) _ (a .leg-iterations .now) _ (a .leg-weight .now) _ _ _ (a .correction .now) _ _ _ _ _ _ _ (x .ensures .0) (x .ensures .1 .0) (x .kept .1 .1 .1 .1 .1 .1 .1 .1 .1 .1 .1 .1 .1 .1 .1 .1 .0 ∙ n .0) (e .0) (e .1 .0) (e .1 .1 .0) (e .1 .1 .1 .0) (e .1 .1 .1 .1),
+      row-turn (shotOf (a .t) (a .gammas .now) (a .seed) (a .syndrome .now)
+          (a .priors .now) (a .check-var .now) (a .check-offset .now)
+          (a .var-message .now) (a .var-offset .now) (a .order .now))
+          (a .leg) (bestOf (a .tally .found) (a .tally .weight)) _
+          (a .tally .«num_converged») _ (a .tally .«total_iterations») _
+          (a .leg-state .now) _ (a .leg-iterations .now) _ (a .leg-weight .now) _ _ _
+          (a .correction .now) _ _ _ _ _ _ _ (x .ensures .0) (x .ensures .1 .0)
+          (x .kept .1 .1 .1 .1 .1 .1 .1 .1 .1 .1 .1 .1 .1 .1 .1 .1 .0 ∙ n .0) (e .0) (e .1 .0) (e .1 .1 .0) (e .1 .1 .1 .0) (e .1 .1 .1 .1),
       counts-few (x .result .converged) (x .result .iterations) (a .tally .«num_converged») _ (a .tally .«total_iterations») _ (e .1 .0) (x .ensures .1 .1),
     )
 

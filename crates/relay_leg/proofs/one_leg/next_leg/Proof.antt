@@ -12,10 +12,12 @@ use Rattle.relay_leg.proofs.one_leg.next_leg.Statement.{statement}
 use Rattle.relay_leg.proofs.one_leg.next_leg.Tie as tie
 
 mul-start : tie.Need-mul-start
-mul-start c = let s = c .before .before .before .before .before .before .before .before .before .before .before .before .before .before .before .before .before .before in omega (arith, row-small _ _ _ _ _ _ _ _ _ (s .pre .0) (s .args .leg) (s .pre .1 .0 .0))
+mul-start c = let s = c .before .before .before .before .before .before .before .before .before .before .before .before .before .before .before .before .before
+    .before in omega (arith, row-small _ _ _ _ _ _ _ _ _ (s .pre .0) (s .args .leg) (s .pre .1 .0 .0))
 
 add-end : tie.Need-add-end
-add-end c = let s = c .before .before .before .before .before .before .before .before .before .before .before .before .before .before .before .before .before .before in omega (arith, row-small _ _ _ _ _ _ _ _ _ (s .pre .0) (s .args .leg) (s .pre .1 .0 .0))
+add-end c = let s = c .before .before .before .before .before .before .before .before .before .before .before .before .before .before .before .before .before
+    .before in omega (arith, row-small _ _ _ _ _ _ _ _ _ (s .pre .0) (s .args .leg) (s .pre .1 .0 .0))
 
 sub-leg-in-row : tie.Need-sub-leg-in-row
 sub-leg-in-row c = search needs
@@ -24,11 +26,14 @@ part-leg-in-row-start : tie.Need-part-leg-in-row-start
 part-leg-in-row-start c = search needs
 
 part-leg-in-row-end : tie.Need-part-leg-in-row-end
-part-leg-in-row-end c = let s = c .before .before .before .before .before .before .before .before .before .before .before .before .before .before .before .before .before .before .before .before .before in row-within _ _ _ _ _ _ _ _ _ (s .pre .0) (s .args .rows .now) (s .args .leg) (s .pre .1 .1 .0 .3) (s .pre .1 .0 .0)
+part-leg-in-row-end c = let s = c .before .before .before .before .before .before .before .before .before .before .before .before .before .before .before
+    .before .before .before .before .before .before in row-within _ _ _ _ _ _ _ _ _
+    (s .pre .0) (s .args .rows .now) (s .args .leg) (s .pre .1 .1 .0 .3) (s .pre .1 .0 .0)
 
 leg-in-row-requires : tie.Need-leg-in-row-requires
 leg-in-row-requires c κs =
-    let s = c .before .before .before .before .before .before .before .before .before .before .before .before .before .before .before .before .before .before .before .before .before .before .before .before .before .before .before .before in
+    let s = c .before .before .before .before .before .before .before .before .before .before .before .before .before .before .before .before .before .before
+    .before .before .before .before .before .before .before .before .before .before in
     let p = s .pre in
     let m = p .1 .1 .0 in
     let n = p .1 .1 .1 .1 .0 in
@@ -68,7 +73,9 @@ same-length-10 c = search needs
 
 returns : tie.Need-returns
 returns c =
-    let s = c .before .before .before .before .before .before .before .before .before .before .before .before .before .before .before .before .before .before .before .before .before .before .before .before .before .before .before .before .before .before .before .before .before .before .before .before .before .before .before .before .before .before .before .before .before .before .before .before .before in
+    let s = c .before .before .before .before .before .before .before .before .before .before .before .before .before .before .before .before .before .before
+    .before .before .before .before .before .before .before .before .before .before .before .before .before .before .before .before .before .before .before
+    .before .before .before .before .before .before .before .before .before .before .before .before in
     let a = s .args in
     let p = s .pre in
     let m = length (a .priors .now) in
@@ -76,9 +83,14 @@ returns c =
     let x = c .before .before .before .before .before .before .before .before .before .before .before .before .before .before .before .before .before .before .before .before .leg-in-row in
     let d = post-is (a .leg * m) (a .leg * m + m) (a .rows .now) (omega arith) in
     let k = mid-len (a .leg * m) (a .leg * m + m) (a .rows .now) w in (
-      rows-turn (a .rows .now) m (a .leg) (p .1 .1 .1 .0) w (shotOf (a .t) (a .gammas .now) (a .seed) (a .syndrome .now) (a .priors .now) (a .check-var .now) (a .check-offset .now) (a .var-message .now) (a .var-offset .now) (a .order .now)) refl (bestOf (a .tally .found) (a .tally .weight)) _ (a .tally .«num_converged») _ (a .tally .«total_iterations») _ (a .leg-state .now) _ (a .leg-iterations .now) _ (a .leg-weight .now) _ _ _ (a .correction .now) _ (a .posterior .now) _ _ (x .ensures .0) d,
+      rows-turn (a .rows .now) m (a .leg) (p .1 .1 .1 .0) w (shotOf (a .t)
+          (a .gammas .now) (a .seed) (a .syndrome .now) (a .priors .now) (a .check-var .now) (a .check-offset .now) (a .var-message .now) (a .var-offset .now)
+          (a .order .now)) refl (bestOf (a .tally .found) (a .tally .weight)) _
+          (a .tally .«num_converged») _ (a .tally .«total_iterations») _
+          (a .leg-state .now) _ (a .leg-iterations .now) _ (a .leg-weight .now) _ _ _ (a .correction .now) _ (a .posterior .now) _ _ (x .ensures .0) d,
       (
-        blank-after (a .rows .now) m (a .leg) (p .1 .1 .1 .0) w (x .last .1 .1 .1 .1 .1 .1 .1 .1 .1 .1 .1 .1 .1 .1 .1 .0) _ (x .kept .1 .1 .1 .1 .1 .1 .1 .1 .1 .1 .1 .1 .1 .1 .1 .0 ∙ k ∙ omega arith) d,
+        blank-after (a .rows .now) m (a .leg) (p .1 .1 .1 .0) w (x .last .1 .1 .1 .1 .1 .1 .1 .1 .1 .1 .1 .1 .1 .1 .1 .0) _
+            (x .kept .1 .1 .1 .1 .1 .1 .1 .1 .1 .1 .1 .1 .1 .1 .1 .0 ∙ k ∙ omega arith) d,
         x .ensures .1,
       ),
     )

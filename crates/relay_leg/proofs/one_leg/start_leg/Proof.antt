@@ -20,7 +20,12 @@ same-length-2 c = search needs
 
 returns : tie.Need-returns
 unfolding startLeg cleared fromVariables
-returns c = rw (c .before .before .from-variables .ensures, c .before .before .before .before .before .before .clear .ensures, c .before .before .before .before .before .before .before .before .before .before .before .before .pre .1 .0)
+returns c = rw (
+  c .before .before .from-variables .ensures,
+  c .before .before .before .before .before .before .clear .ensures,
+  c .before .before .before .before
+      .before .before .before .before .before .before .before .before .pre .1 .0,
+)
 
 pub start-leg-spec : {M : Type 1} → statement M
 start-leg-spec =

@@ -41,14 +41,23 @@ same-length c = search needs
 
 returns : tie.Need-returns
 unfolding neg ofBits
-returns c = sends-next _ _ _ _ _ _ _ _ _ _ _ (c .before .before .before .before .before .before .before .before .before .before .before .before .before .before .pre .1) (c .before .before .before .before .before .before .before .before .before .before .before .before .before .before .pre .0 .0) (c .before .before .before .before .before .before .before .before .before .before .scan-check .ensures) (c .before .before .before .before .before .before .before .before .before .weighed .ensures) (c .before .before .before .before .before .before .before .before .weighed2 .ensures) (c .before .before .before .before .before .before .send .ensures) _ (c .before .before .before .if1 .taken) (c .weighed3 .ensures ∙ rw (c .before .message-sign .ensures))
+returns c = sends-next _ _ _ _ _ _ _ _ _ _ _ (c .before .before .before .before .before .before .before .before .before .before .before .before .before .before
+    .pre .1) (c .before .before .before .before .before .before .before .before .before .before .before .before .before .before .pre .0 .0)
+    (c .before .before .before .before .before .before .before .before .before .before .scan-check .ensures)
+    (c .before .before .before .before .before .before .before .before .before .weighed .ensures)
+    (c .before .before .before .before .before .before .before .before .weighed2 .ensures) (c .before .before .before .before .before .before .send .ensures) _
+    (c .before .before .before .if1 .taken) (c .weighed3 .ensures ∙ rw (c .before .message-sign .ensures))
 
 same-length-2 : tie.Need-same-length-2
 same-length-2 c = search needs
 
 returns-2 : tie.Need-returns-2
 unfolding neg ofBits
-returns-2 c = sends-least _ _ _ _ _ _ _ _ _ _ _ (c .before .before .before .before .before .before .before .before .before .before .before .pre .1) (c .before .before .before .before .before .before .before .before .before .before .before .pre .0 .0) (c .before .before .before .before .before .before .before .scan-check .ensures) (c .before .before .before .before .before .before .weighed .ensures) (c .before .before .before .before .before .weighed2 .ensures) (c .before .before .before .send .ensures) (c .if1 .left)
+returns-2 c = sends-least _ _ _ _ _ _ _ _ _ _ _ (c .before .before .before .before .before .before .before .before .before .before .before .pre .1)
+    (c .before .before .before .before .before .before .before .before .before .before .before .pre .0 .0)
+    (c .before .before .before .before .before .before .before .scan-check .ensures)
+    (c .before .before .before .before .before .before .weighed .ensures)
+    (c .before .before .before .before .before .weighed2 .ensures) (c .before .before .before .send .ensures) (c .if1 .left)
 
 pub update-check-spec : {M : Type 1} → statement M
 update-check-spec =

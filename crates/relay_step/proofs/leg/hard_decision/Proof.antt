@@ -39,7 +39,12 @@ loop-less : tie.Need-loop-less Inv-loop μ-loop
 loop-less c = omega arith
 
 loop-again : tie.Need-loop-again Inv-loop μ-loop
-loop-again c = let l = c .before .before .before .loop in (omega arith, simp length-set (omega arith), hard-turn _ (l .bits) (l .v) _ (c .before .before .loop-test .taken) (omega arith) (l .inv .2) (c .hard-bit .ensures))
+loop-again c = let l = c .before .before .before .loop in (
+  omega arith,
+  simp length-set
+      (omega arith),
+  hard-turn _ (l .bits) (l .v) _ (c .before .before .loop-test .taken) (omega arith) (l .inv .2) (c .hard-bit .ensures),
+)
 
 same-length : tie.Need-same-length Inv-loop μ-loop
 same-length c = omega arith

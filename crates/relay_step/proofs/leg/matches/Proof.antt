@@ -12,7 +12,8 @@ use Rattle.relay_step.proofs.leg.matches.Tie as tie
 
 -- the check's part lies within the entries
 within : (c : tie.After-at2) → (c .before .at .result ≤ c .at2 .result) × (c .at2 .result ≤ length (c .before .before .before .before .before .before .args .check-var .now))
-within c = cut-bounds _ _ _ (c .before .before .before .before .before .before .args .c) _ _ (c .before .before .before .before .before .before .pre .1 .parts) (c .before .before .before .before .before .before .pre .0) (c .before .at .ensures) (c .at2 .ensures)
+within c = cut-bounds _ _ _ (c .before .before .before .before .before .before .args .c) _ _ (c .before .before .before .before .before .before .pre .1 .parts)
+    (c .before .before .before .before .before .before .pre .0) (c .before .at .ensures) (c .at2 .ensures)
 
 at-requires : tie.Need-at-requires
 at-requires c κs = search needs
@@ -42,7 +43,8 @@ shared-slice-read-result : tie.Need-shared-slice-read-result
 shared-slice-read-result c = search needs
 
 returns : tie.Need-returns
-returns c = matches-is _ _ _ _ _ (c .before .before .before .before .before .before .before .before .before .args .c) _ _ _ (c .before .before .before .before .at .ensures) (c .before .before .before .at2 .ensures) (c .before .parity .ensures)
+returns c = matches-is _ _ _ _ _ (c .before .before .before .before .before .before .before .before .before .args .c) _ _ _
+    (c .before .before .before .before .at .ensures) (c .before .before .before .at2 .ensures) (c .before .parity .ensures)
 
 pub matches-spec : {M : Type 1} → statement M
 matches-spec =

@@ -30,7 +30,8 @@ abbrev μ-loop : tie.MeasureT-loop
 -- one iteration, and the test, as they stand at the start
 abbrev Step : tie.Start Inv-loop μ-loop → State → State
 Step s =
-    iteration (s .args .schedule) (walked (length (s .args .syndrome .now)) (length (s .args .priors .now)) (s .args .check-var .now) (s .args .check-offset .now) (s .args .var-message .now) (s .args .var-offset .now))
+    iteration (s .args .schedule) (walked (length (s .args .syndrome .now))
+    (length (s .args .priors .now)) (s .args .check-var .now) (s .args .check-offset .now) (s .args .var-message .now) (s .args .var-offset .now))
     (s .args .alpha)
     (s .args .syndrome .now)
     (s .args .priors .now)
@@ -41,7 +42,22 @@ abbrev Test : tie.Start Inv-loop μ-loop → List Float → Bool
 Test s = satisfied (ofChecks (length (s .args .syndrome .now)) (s .args .check-var .now) (s .args .check-offset .now)) (s .args .syndrome .now)
 
 loop-holds : tie.Need-loop-holds Inv-loop μ-loop
-loop-holds c = (omega arith, refl, refl, refl, refl, refl, leg-start (Step (c .before .before .before .before .before .before .before .before .before .before .before .before .before)) (Test (c .before .before .before .before .before .before .before .before .before .before .before .before .before)) (state (c .before .before .before .before .before .before .before .before .before .before .before .before .before .args .c-to-v .now) (c .before .before .before .before .before .before .before .before .before .before .before .before .before .args .v-to-c .now) (c .before .before .before .before .before .before .before .before .before .before .before .before .before .args .posterior .now)) (c .before .before .before .before .before .before .before .before .before .before .before .before .before .args .limit), λ h. absurd (omega arith))
+loop-holds c = (
+  omega arith,
+  refl,
+  refl,
+  refl,
+  refl,
+  refl,
+  leg-start
+      (Step (c .before .before .before .before .before .before .before .before .before .before .before .before .before))
+      (Test (c .before .before .before .before .before .before .before .before .before .before .before .before .before))
+      (state (c .before .before .before .before .before .before .before .before .before .before .before .before .before .args .c-to-v .now)
+      (c .before .before .before .before .before .before .before .before .before .before .before .before .before .args .v-to-c .now)
+      (c .before .before .before .before .before .before .before .before .before .before .before .before .before .args .posterior .now))
+      (c .before .before .before .before .before .before .before .before .before .before .before .before .before .args .limit),
+  λ h. absurd (omega arith),
+)
 
 step-requires : tie.Need-step-requires Inv-loop μ-loop
 step-requires c κs =
@@ -51,37 +67,66 @@ step-requires c κs =
     (s .pre .0, (s .pre .1 .0, (s .pre .1 .1 .0, ((p .0 .0, l .inv .1 ∙ p .0 .1, l .inv .4 ∙ p .0 .2), (l .inv .2 ∙ p .1 .0, l .inv .3 ∙ p .1 .1)))))
 
 add-k : tie.Need-add-k Inv-loop μ-loop
-add-k c = omega (arith, c .before .before .before .before .before .before .before .before .before .before .before .before .before .loop-test .taken, c .before .before .before .before .before .before .before .before .before .before .before .before .before .before .before .before .before .before .before .before .before .before .before .before .before .before .before .before .fits)
+add-k c = omega (
+  arith,
+  c .before .before .before .before .before .before .before .before .before .before .before .before .before .loop-test .taken,
+  c .before
+      .before .before .before .before .before .before .before .before .before .before .before .before .before .before .before .before .before .before .before
+      .before .before .before .before .before .before .before .before .fits,
+)
 
 satisfied-requires : tie.Need-satisfied-requires Inv-loop μ-loop
 satisfied-requires c κs =
-    let s = c .before .before .before .before .before .before .before .before .before .before .before .before .before .before .before .before .before .before .before .before .before .before .before .before .before .before .before .before .before .before in
+    let s = c .before .before .before .before .before .before .before .before .before .before .before .before .before .before .before .before .before .before
+    .before .before .before .before .before .before .before .before .before .before .before .before in
     let l = c .before .before .before .before .before .before .before .before .before .before .before .before .before .before .before .before .loop in
     let p = s .pre .1 .1 .1 in
     let k = c .before .before .before .before .before .before .before .before .before .before .step .kept .1 .1 .1 .1 .1 .1 .1 .1 .1 .1 .1 .1 .1 .0 ∙ l .inv .4 ∙ p .0 .2 in
     (walks-along _ _ _ _ _ (sym k) (s .pre .0), l .inv .5 ∙ p .0 .3 ∙ sym k)
 
 same-length : tie.Need-same-length Inv-loop μ-loop
-same-length c = c .before .before .before .before .before .before .before .before .before .before .before .before .before .before .step .kept .1 .1 .1 .1 .1 .1 .1 .1 .1 .1 .0 ∙ c .before .before .before .before .before .before .before .before .before .before .before .before .before .before .before .before .before .before .before .before .loop .inv .1
+same-length c = c .before .before .before .before .before .before .before .before .before .before .before .before .before .before .step .kept .1 .1 .1 .1 .1 .1
+    .1 .1 .1 .1 .0 ∙ c .before .before .before .before .before .before .before .before .before .before .before .before .before .before .before .before .before
+    .before .before .before .loop .inv .1
 
 same-length-2 : tie.Need-same-length-2 Inv-loop μ-loop
-same-length-2 c = c .before .before .before .before .before .before .before .before .before .before .before .before .before .before .step .kept .1 .1 .1 .1 .1 .1 .1 .1 .1 .1 .1 .0 ∙ c .before .before .before .before .before .before .before .before .before .before .before .before .before .before .before .before .before .before .before .before .loop .inv .2
+same-length-2 c = c .before .before .before .before .before .before .before .before .before .before .before .before .before .before .step .kept .1 .1 .1 .1 .1
+    .1 .1 .1 .1 .1 .1 .0 ∙ c .before .before .before .before .before .before .before .before .before .before .before .before .before .before .before .before
+    .before .before .before .before .loop .inv .2
 
 same-length-3 : tie.Need-same-length-3 Inv-loop μ-loop
-same-length-3 c = c .before .before .before .before .before .before .before .before .before .before .before .before .before .before .step .kept .1 .1 .1 .1 .1 .1 .1 .1 .1 .1 .1 .1 .0 ∙ c .before .before .before .before .before .before .before .before .before .before .before .before .before .before .before .before .before .before .before .before .loop .inv .3
+same-length-3 c = c .before .before .before .before .before .before .before .before .before .before .before .before .before .before .step .kept .1 .1 .1 .1 .1
+    .1 .1 .1 .1 .1 .1 .1 .0 ∙ c .before .before .before .before .before .before .before .before .before .before .before .before .before .before .before .before
+    .before .before .before .before .loop .inv .3
 
 same-length-4 : tie.Need-same-length-4 Inv-loop μ-loop
-same-length-4 c = c .before .before .before .before .before .before .before .before .before .before .before .before .before .before .step .kept .1 .1 .1 .1 .1 .1 .1 .1 .1 .1 .1 .1 .1 .0 ∙ c .before .before .before .before .before .before .before .before .before .before .before .before .before .before .before .before .before .before .before .before .loop .inv .4
+same-length-4 c = c .before .before .before .before .before .before .before .before .before .before .before .before .before .before .step .kept .1 .1 .1 .1 .1
+    .1 .1 .1 .1 .1 .1 .1 .1 .0 ∙ c .before .before .before .before .before .before .before .before .before .before .before .before .before .before .before
+    .before .before .before .before .before .loop .inv .4
 
 same-length-5 : tie.Need-same-length-5 Inv-loop μ-loop
-same-length-5 c = c .before .before .before .satisfied .kept .1 .1 .1 .1 .0 ∙ c .before .before .before .before .before .before .before .before .before .before .before .before .before .before .before .before .before .before .before .before .loop .inv .5
+same-length-5 c = c .before .before .before .satisfied .kept .1 .1 .1 .1 .0 ∙ c .before .before .before .before .before .before .before .before .before .before
+    .before .before .before .before .before .before .before .before .before .before .loop .inv .5
 
 returns : tie.Need-returns Inv-loop μ-loop
 returns c =
     let u = c .before .before .before .before .before .before .before .before .before .before .before .before .before .before in
     let l = c .before .before .before .before .before .before .before .before .before .before .before .before .before .before .before .before .before .before .before .before .loop in
-    let t = c .before .before .before .satisfied .ensures in
-    (sym (leg-passed (Step (c .before .before .before .before .before .before .before .before .before .before .before .before .before .before .before .before .before .before .before .before .before .before .before .before .before .before .before .before .before .before .before .before .before .before)) (Test (c .before .before .before .before .before .before .before .before .before .before .before .before .before .before .before .before .before .before .before .before .before .before .before .before .before .before .before .before .before .before .before .before .before .before)) _ (c .before .before .before .before .before .before .before .before .before .before .before .before .before .before .before .before .before .before .before .before .before .before .before .before .before .before .before .before .before .before .before .before .before .before .args .limit - (l .k + 1)) _) ∙ sym (leg-turn (Step (c .before .before .before .before .before .before .before .before .before .before .before .before .before .before .before .before .before .before .before .before .before .before .before .before .before .before .before .before .before .before .before .before .before .before)) (Test (c .before .before .before .before .before .before .before .before .before .before .before .before .before .before .before .before .before .before .before .before .before .before .before .before .before .before .before .before .before .before .before .before .before .before)) (state (l .c-to-v) (l .v-to-c) (l .posterior)) _ _ (l .k) _ (c .before .before .before .before .before .before .before .before .before .before .before .before .before .before .before .before .before .before .before .loop-test .taken) (u .step .ensures) (sym (c .if1 .taken) ∙ t .0)) ∙ l .inv .6, λ h. t .1)
+    let t = c .before .before .before .satisfied .ensures in (
+      sym (leg-passed (Step (c .before .before .before .before .before .before .before .before .before .before .before .before .before .before .before .before
+          .before .before .before .before .before .before .before .before .before .before .before .before .before .before .before .before .before .before)) (Test
+          (c .before .before .before .before .before .before .before .before .before .before .before .before .before .before .before .before .before .before
+          .before .before .before .before .before .before .before .before .before .before .before .before .before .before .before .before)) _
+          (c .before .before .before .before .before .before .before .before .before .before .before .before .before .before .before .before .before .before
+          .before .before .before .before .before .before .before .before .before .before .before .before .before .before .before .before .args .limit -
+          (l .k + 1)) _) ∙ sym (leg-turn (Step (c .before .before .before .before .before .before .before .before .before .before .before .before .before .before
+          .before .before .before .before .before .before .before .before .before .before .before .before .before .before .before .before .before .before .before
+          .before)) (Test (c .before .before .before .before .before .before .before .before .before .before .before .before .before .before .before .before
+          .before .before .before .before .before .before .before .before .before .before .before .before .before .before .before .before .before .before)) (state
+          (l .c-to-v) (l .v-to-c) (l .posterior)) _ _ (l .k) _ (c .before .before .before .before .before .before .before .before .before .before .before .before
+          .before .before .before .before .before .before .before .loop-test .taken) (u .step .ensures) (sym (c .if1 .taken) ∙ t .0)) ∙ l .inv .6,
+      λ h. t .1,
+    )
 
 loop-less : tie.Need-loop-less Inv-loop μ-loop
 loop-less c = omega (arith, c .before .before .before .before .before .before .before .before .before .before .before .before .before .before .before .before .before .before .before .loop-test .taken)
@@ -97,7 +142,12 @@ loop-again c =
       u .step .kept .1 .1 .1 .1 .1 .1 .1 .1 .1 .1 .1 .1 .0 ∙ l .inv .3,
       u .step .kept .1 .1 .1 .1 .1 .1 .1 .1 .1 .1 .1 .1 .1 .0 ∙ l .inv .4,
       c .before .before .before .satisfied .kept .1 .1 .1 .1 .0 ∙ l .inv .5,
-      sym (leg-turn (Step (c .before .before .before .before .before .before .before .before .before .before .before .before .before .before .before .before .before .before .before .before .before .before .before .before .before .before .before .before .before .before .before .before .before .before)) (Test (c .before .before .before .before .before .before .before .before .before .before .before .before .before .before .before .before .before .before .before .before .before .before .before .before .before .before .before .before .before .before .before .before .before .before)) (state (l .c-to-v) (l .v-to-c) (l .posterior)) _ _ (l .k) _ (c .before .before .before .before .before .before .before .before .before .before .before .before .before .before .before .before .before .before .before .loop-test .taken) (u .step .ensures) (sym (c .if1 .left) ∙ t .0)) ∙ l .inv .6,
+      sym (leg-turn (Step (c .before .before .before .before .before .before .before .before .before .before .before .before .before .before .before .before
+          .before .before .before .before .before .before .before .before .before .before .before .before .before .before .before .before .before .before))
+          (Test (c .before .before .before .before .before .before .before .before .before .before .before .before .before .before .before .before .before
+          .before .before .before .before .before .before .before .before .before .before .before .before .before .before .before .before .before))
+          (state (l .c-to-v) (l .v-to-c) (l .posterior)) _ _ (l .k) _ (c .before .before .before .before .before .before .before .before .before .before .before
+          .before .before .before .before .before .before .before .before .loop-test .taken) (u .step .ensures) (sym (c .if1 .left) ∙ t .0)) ∙ l .inv .6,
       λ h. t .1,
     )
 
@@ -118,8 +168,12 @@ same-length-10 c = c .before .loop .inv .5
 
 returns-2 : tie.Need-returns-2 Inv-loop μ-loop
 returns-2 c =
-    let l = c .before .loop in
-    (sym (leg-over (Step (c .before .before .before .before .before .before .before .before .before .before .before .before .before .before .before)) (Test (c .before .before .before .before .before .before .before .before .before .before .before .before .before .before .before)) _ _ _ (c .loop-test .left)) ∙ l .inv .6, λ h. l .inv .7 (omega (arith, c .loop-test .left)))
+    let l = c .before .loop in (
+      sym (leg-over (Step (c .before .before .before .before .before .before .before .before .before .before .before .before .before .before .before))
+          (Test (c .before .before .before .before .before .before .before .before .before .before .before .before .before .before .before)) _ _ _
+          (c .loop-test .left)) ∙ l .inv .6,
+      λ h. l .inv .7 (omega (arith, c .loop-test .left)),
+    )
 
 pub run-leg-spec : {M : Type 1} → statement M
 run-leg-spec =

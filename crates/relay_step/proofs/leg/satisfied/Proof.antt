@@ -11,7 +11,8 @@ hard-decision-requires : tie.Need-hard-decision-requires
 hard-decision-requires c κs = search needs
 
 all-match-requires : tie.Need-all-match-requires
-all-match-requires c κs = walks-along _ _ _ _ _ (sym (c .before .before .before .hard-decision .kept .1 .0 ∙ c .before .before .before .before .before .before .before .before .before .before .pre .1)) (c .before .before .before .before .before .before .before .before .before .before .pre .0)
+all-match-requires c κs = walks-along _ _ _ _ _ (sym (c .before .before .before .hard-decision .kept .1 .0 ∙ c .before .before .before .before .before .before
+    .before .before .before .before .pre .1)) (c .before .before .before .before .before .before .before .before .before .before .pre .0)
 
 same-length : tie.Need-same-length
 same-length c = search needs

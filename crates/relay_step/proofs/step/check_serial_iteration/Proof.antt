@@ -30,7 +30,11 @@ same-length-4 : tie.Need-same-length-4
 same-length-4 c = search needs
 
 returns : tie.Need-returns
-returns c = serial-iteration-is _ _ _ _ _ _ _ _ _ _ _ _ _ _ (c .before .before .before .before .before .before .before .before .before .before .before .before .before .compute-bias .ensures) (c .before .before .before .before .before .before .before .before .before .before .before .before .before .compute-bias .kept .1 .1 .1 .0 ∙ c .before .before .before .before .before .before .before .before .before .before .before .before .before .before .before .before .before .before .before .before .before .before .before .before .before .before .before .before .pre .1 .1 .1 .0 .1) (c .before .before .before .before .before .before .serial-pass .ensures)
+returns c = serial-iteration-is _ _ _ _ _ _ _ _ _ _ _ _ _ _ (c .before .before .before .before .before .before .before .before .before .before .before .before
+    .before .compute-bias .ensures) (c .before .before .before .before .before .before .before .before .before .before .before .before .before .compute-bias
+    .kept .1 .1 .1 .0 ∙ c .before .before .before .before .before .before .before .before .before .before .before .before .before .before .before .before
+    .before .before .before .before .before .before .before .before .before .before .before .before .pre .1 .1 .1 .0 .1)
+    (c .before .before .before .before .before .before .serial-pass .ensures)
 
 pub check-serial-iteration-spec : {M : Type 1} → statement M
 check-serial-iteration-spec =

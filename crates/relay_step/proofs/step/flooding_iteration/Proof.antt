@@ -18,7 +18,8 @@ compute-bias-requires c κs = search needs
 
 variable-pass-requires : tie.Need-variable-pass-requires
 variable-pass-requires c κs =
-    let s = c .before .before .before .before .before .before .before .before .before .before .before .before .before .before .before .before .before .before .before .before .before .before .before .before .before .before in
+    let s = c .before .before .before .before .before .before .before .before .before .before .before .before .before .before .before .before .before .before
+    .before .before .before .before .before .before .before .before in
     let p = s .pre .1 .1 .1 in
     let b = c .before .before .before .before .before .before .compute-bias .kept .1 .1 .1 .0 ∙ p .0 .1 in
     let k = c .before .before .before .before .before .before .before .before .before .before .before .check-pass .kept .1 .1 .1 .1 .1 .1 .0 ∙ p .1 .0 in
@@ -38,8 +39,12 @@ same-length-4 c = search needs
 
 returns : tie.Need-returns
 returns c =
-    let p = c .before .before .before .before .before .before .before .before .before .before .before .before .before .before .before .before .before .before .before .before .before .before .before .before .before .before .before .before .before .before .before .pre .1 .1 .1 in
-    flooding-is _ _ _ _ _ _ _ _ _ _ _ _ _ _ _ _ _ (c .before .before .before .before .before .before .before .before .before .before .before .before .before .before .before .before .check-pass .ensures) (c .before .before .before .before .before .before .before .before .before .before .before .compute-bias .ensures) (c .before .before .before .before .before .before .before .before .before .before .before .compute-bias .kept .1 .1 .1 .0 ∙ p .0 .1) (c .before .before .before .before .variable-pass .ensures)
+    let p = c .before .before .before .before .before .before .before .before .before .before .before .before .before .before .before .before .before .before
+    .before .before .before .before .before .before .before .before .before .before .before .before .before .pre .1 .1 .1 in
+    flooding-is _ _ _ _ _ _ _ _ _ _ _ _ _ _ _ _ _ (c .before .before .before .before .before .before .before .before .before .before .before .before .before
+    .before .before .before .check-pass .ensures) (c .before .before .before .before .before .before .before .before .before .before .before .compute-bias
+    .ensures) (c .before .before .before .before .before .before .before .before .before .before .before .compute-bias .kept .1 .1 .1 .0 ∙ p .0 .1)
+    (c .before .before .before .before .variable-pass .ensures)
 
 pub flooding-iteration-spec : {M : Type 1} → statement M
 flooding-iteration-spec =

@@ -12,8 +12,11 @@ use Rattle.relay_step.proofs.step.serial_check.Statement.{statement}
 use Rattle.relay_step.proofs.step.serial_check.Tie as tie
 
 -- the check's part lies within the entries
-within : (c : tie.After-at2) → (c .before .at .result ≤ c .at2 .result) × (c .at2 .result ≤ length (c .before .before .before .before .before .before .before .before .before .before .before .args .check-var .now))
-within c = cut-bounds _ _ _ (c .before .before .before .before .before .before .before .before .before .before .before .args .c) _ _ (c .before .before .before .before .before .before .before .before .before .before .before .pre .1 .0 .parts) (c .before .before .before .before .before .before .before .before .before .before .before .pre .0) (c .before .at .ensures) (c .at2 .ensures)
+within : (c : tie.After-at2) → (c .before .at .result ≤ c .at2 .result) ×
+    (c .at2 .result ≤ length (c .before .before .before .before .before .before .before .before .before .before .before .args .check-var .now))
+within c = cut-bounds _ _ _ (c .before .before .before .before .before .before .before .before .before .before .before .args .c) _ _
+    (c .before .before .before .before .before .before .before .before .before .before .before .pre .1 .0 .parts)
+    (c .before .before .before .before .before .before .before .before .before .before .before .pre .0) (c .before .at .ensures) (c .at2 .ensures)
 
 at-requires : tie.Need-at-requires
 at-requires c κs = search needs
@@ -50,8 +53,13 @@ update-variables-requires : tie.Need-update-variables-requires
 update-variables-requires c κs =
     let s = c .before .before .before .before .before .before .before .before .before .before .before .before .before .before .before .before .before .before .before .before .before in
     let p = s .pre .1 .1 .1 in
-    let k = c .before .before .before .before .before .before .update-part .kept .1 .1 .1 .1 .1 .1 .0 in
-    (part-names _ _ _ _ (s .pre .1 .0 .named) (within (c .before .before .before .before .before .before .before .before .before .before) .1), (p .0, (walks-along _ _ _ _ _ (sym (k ∙ p .1 .0)) (s .pre .1 .1 .0), p .1 .1 ∙ sym (k ∙ p .1 .0))))
+    let k = c .before .before .before .before .before .before .update-part .kept .1 .1 .1 .1 .1 .1 .0 in (
+      part-names _ _ _ _ (s .pre .1 .0 .named) (within (c .before .before .before .before .before .before .before .before .before .before) .1),
+      (
+        p .0,
+        (walks-along _ _ _ _ _ (sym (k ∙ p .1 .0)) (s .pre .1 .1 .0), p .1 .1 ∙ sym (k ∙ p .1 .0)),
+      ),
+    )
 
 same-length : tie.Need-same-length
 same-length c = search needs
@@ -64,7 +72,12 @@ same-length-3 c = search needs
 
 returns : tie.Need-returns
 returns c =
-    serial-is _ _ _ _ _ _ _ _ _ _ _ _ (c .before .before .before .before .before .before .before .before .before .before .before .before .before .before .before .before .before .before .before .before .before .before .before .before .before .before .args .c) _ _ (c .before .before .before .before .before .before .before .before .before .before .before .before .before .before .before .before .at .ensures) (c .before .before .before .before .before .before .before .before .before .before .before .before .before .before .before .at2 .ensures) (c .before .before .before .before .before .before .before .before .before .before .before .update-part .ensures) _ _ (c .before .before .before .before .update-variables .ensures)
+    serial-is _ _ _ _ _ _ _ _ _ _ _ _ (c .before .before .before .before .before .before .before .before .before .before .before .before .before .before .before
+    .before .before .before .before .before .before .before .before .before .before .before .args .c) _ _
+    (c .before .before .before .before .before .before .before .before .before .before .before .before .before .before .before .before .at .ensures)
+    (c .before .before .before .before .before .before .before .before .before .before .before .before .before .before .before .at2 .ensures)
+    (c .before .before .before .before .before .before .before .before .before .before .before .update-part .ensures) _ _
+    (c .before .before .before .before .update-variables .ensures)
 
 pub serial-check-spec : {M : Type 1} → statement M
 serial-check-spec =

@@ -30,11 +30,24 @@ at-requires c κs = omega arith
 serial-check-requires : tie.Need-serial-check-requires Inv-loop μ-loop
 serial-check-requires c κs =
     let s = c .before .before .before .before .before .before .before .before .before .before .before .before .before .before .before .before in
-    let l = c .before .before .before .before .before .loop in
-    (omega (arith, c .before .before .before .at .ensures, s .pre .1 .1 .0 .small (l .i) (c .before .before .before .before .loop-test .taken)), (s .pre .0, (s .pre .1 .0, (l .inv .3 ∙ s .pre .1 .1 .1 .0, (l .inv .1 ∙ s .pre .1 .1 .1 .1 .0, l .inv .2 ∙ s .pre .1 .1 .1 .1 .1)))))
+    let l = c .before .before .before .before .before .loop in (
+      omega (
+        arith,
+        c .before .before .before .at .ensures,
+        s .pre .1 .1 .0 .small
+            (l .i) (c .before .before .before .before .loop-test .taken),
+      ),
+      (s .pre .0, (s .pre .1 .0, (l .inv .3 ∙ s .pre .1 .1 .1 .0, (l .inv .1 ∙ s .pre .1 .1 .1 .1 .0, l .inv .2 ∙ s .pre .1 .1 .1 .1 .1)))),
+    )
 
 add-i : tie.Need-add-i Inv-loop μ-loop
-add-i c = omega (arith, c .before .before .before .before .before .before .before .before .before .before .before .loop-test .taken, c .before .before .before .before .before .before .before .before .before .before .before .before .before .before .before .before .before .before .before .before .before .before .before .good)
+add-i c = omega (
+  arith,
+  c .before .before .before .before .before .before .before .before .before .before .before .loop-test .taken,
+  c .before .before .before
+      .before .before .before .before .before .before .before .before .before .before .before .before .before .before .before .before .before .before .before
+      .before .good,
+)
 
 loop-less : tie.Need-loop-less Inv-loop μ-loop
 loop-less c = omega arith
@@ -47,7 +60,8 @@ loop-again c =
       u .kept .1 .1 .1 .1 .1 .1 .1 .1 .0 ∙ l .inv .1,
       u .kept .1 .1 .1 .1 .1 .1 .1 .1 .1 .0 ∙ l .inv .2,
       u .kept .1 .1 .1 .1 .1 .1 .1 .1 .1 .1 .0 ∙ l .inv .3,
-      serial-turn _ _ _ _ _ _ _ _ (l .i) _ (c .before .before .before .before .before .before .before .before .before .before .before .loop-test .taken) (c .before .before .before .before .before .before .before .before .before .before .at .ensures) (l .inv .4) (u .ensures),
+      serial-turn _ _ _ _ _ _ _ _ (l .i) _ (c .before .before .before .before .before .before .before .before .before .before .before .loop-test .taken)
+          (c .before .before .before .before .before .before .before .before .before .before .at .ensures) (l .inv .4) (u .ensures),
     )
 
 same-length : tie.Need-same-length Inv-loop μ-loop

@@ -11,7 +11,9 @@ use Rattle.relay_step.proofs.step.update_one.Tie as tie
 
 -- the check's part lies within the entries
 within : (c : tie.After-at2) → (c .before .at .result ≤ c .at2 .result) × (c .at2 .result ≤ length (c .before .before .before .before .before .before .before .args .check-var .now))
-within c = cut-bounds _ _ _ (c .before .before .before .before .before .before .before .args .c) _ _ (c .before .before .before .before .before .before .before .pre .1 .0) (c .before .before .before .before .before .before .before .pre .0) (c .before .at .ensures) (c .at2 .ensures)
+within c = cut-bounds _ _ _ (c .before .before .before .before .before .before .before .args .c) _ _
+    (c .before .before .before .before .before .before .before .pre .1 .0)
+    (c .before .before .before .before .before .before .before .pre .0) (c .before .at .ensures) (c .at2 .ensures)
 
 at-requires : tie.Need-at-requires
 at-requires c κs = search needs
@@ -36,7 +38,9 @@ same-length : tie.Need-same-length
 same-length c = search needs
 
 returns : tie.Need-returns
-returns c = check-is _ _ _ _ _ _ _ _ _ _ _ _ (c .before .before .before .before .before .before .before .before .before .before .before .before .args .c) _ _ (c .before .before .before .before .before .before .at .ensures) (c .before .before .before .before .before .at2 .ensures) (c .before .before .update-part .ensures)
+returns c = check-is _ _ _ _ _ _ _ _ _ _ _ _ (c .before .before .before .before .before .before .before .before .before .before .before .before .args .c) _ _
+    (c .before .before .before .before .before .before .at .ensures)
+    (c .before .before .before .before .before .at2 .ensures) (c .before .before .update-part .ensures)
 
 pub update-one-spec : {M : Type 1} → statement M
 update-one-spec =

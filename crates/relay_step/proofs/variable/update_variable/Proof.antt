@@ -12,7 +12,9 @@ use Rattle.relay_step.proofs.variable.update_variable.Tie as tie
 
 -- the variable's part lies within the entries
 within : (c : tie.After-at2) → (c .before .at .result ≤ c .at2 .result) × (c .at2 .result ≤ length (c .before .before .before .before .before .before .before .before .args .var-message .now))
-within c = cut-bounds _ _ _ (c .before .before .before .before .before .before .before .before .args .v) _ _ (c .before .before .before .before .before .before .before .before .pre .1 .0 .parts) (c .before .before .before .before .before .before .before .before .pre .0 .0) (c .before .at .ensures) (c .at2 .ensures)
+within c = cut-bounds _ _ _ (c .before .before .before .before .before .before .before .before .args .v) _ _
+    (c .before .before .before .before .before .before .before .before .pre .1 .0 .parts)
+    (c .before .before .before .before .before .before .before .before .pre .0 .0) (c .before .at .ensures) (c .at2 .ensures)
 
 at-requires : tie.Need-at-requires
 at-requires c κs = search needs
@@ -42,7 +44,11 @@ part-update-entries-end : tie.Need-part-update-entries-end
 part-update-entries-end c = within (c .before) .1
 
 update-entries-requires : tie.Need-update-entries-requires
-update-entries-requires c κs = (part-names _ _ _ _ (c .before .before .before .before .before .before .before .before .before .before .before .pre .1 .0 .named) (within (c .before .before .before) .1), c .before .before .before .before .before .before .before .before .before .before .before .pre .1 .1)
+update-entries-requires c κs = (
+  part-names _ _ _ _ (c .before .before .before .before .before .before .before .before .before .before .before .pre .1 .0 .named)
+      (within (c .before .before .before) .1),
+  c .before .before .before .before .before .before .before .before .before .before .before .pre .1 .1,
+)
 
 mul-posterior : tie.Need-mul-posterior
 mul-posterior c = search needs
@@ -57,7 +63,10 @@ same-length-2 : tie.Need-same-length-2
 same-length-2 c = search needs
 
 returns : tie.Need-returns
-returns c = update-is _ _ _ _ _ _ _ _ (c .before .before .before .before .before .before .before .before .before .before .before .before .before .before .args .v) _ _ _ (c .before .before .before .before .before .before .before .at .ensures) (c .before .before .before .before .before .before .at2 .ensures) (c .before .before .update-entries .ensures .0) (c .before .before .update-entries .ensures .1)
+returns c = update-is _ _ _ _ _ _ _ _ (c .before .before .before .before .before .before .before .before .before .before .before .before .before .before .args
+    .v) _ _ _ (c .before .before .before .before .before .before .before .at .ensures)
+    (c .before .before .before .before .before .before .at2 .ensures)
+    (c .before .before .update-entries .ensures .0) (c .before .before .update-entries .ensures .1)
 
 pub update-variable-spec : {M : Type 1} → statement M
 update-variable-spec =

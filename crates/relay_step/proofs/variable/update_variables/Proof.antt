@@ -41,8 +41,14 @@ loop-less c = omega arith
 loop-again : tie.Need-loop-again Inv-loop μ-loop
 loop-again c =
     let l = c .before .before .before .before .before .before .before .before .before .loop in
-    let u = c .before .before .before .before .update-variable in
-    (omega arith, u .kept .1 .1 .1 .1 .1 .0 ∙ l .inv .1, u .kept .1 .1 .1 .1 .1 .1 .0 ∙ l .inv .2, fold-turn (updateVariable _ _) _ _ _ _ (l .i) _ 0 (c .before .before .before .before .before .before .before .before .loop-test .taken) (c .before .before .before .before .before .before .before .at .ensures) (l .inv .3) (u .ensures))
+    let u = c .before .before .before .before .update-variable in (
+      omega arith,
+      u .kept .1 .1 .1 .1 .1 .0 ∙ l .inv .1,
+      u .kept .1 .1 .1 .1 .1 .1 .0 ∙ l .inv .2,
+      fold-turn
+          (updateVariable _ _) _ _ _ _ (l .i) _ 0 (c .before .before .before .before .before .before .before .before .loop-test .taken)
+          (c .before .before .before .before .before .before .before .at .ensures) (l .inv .3) (u .ensures),
+    )
 
 same-length : tie.Need-same-length Inv-loop μ-loop
 same-length c = omega arith
