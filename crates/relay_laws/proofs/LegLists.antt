@@ -7,7 +7,7 @@ use mathlib.Core.Logic.{⊎-elim}
 use native.Mathlib.Omega.{arith}
 use lib.Dec.{leb}
 use lib.Ieee.{Float, nan}
-use lib.ListN.{length, getD, drop, set, replicate, length-set, length-replicate, length-append, getD-replicate, List·getD-append}
+use lib.ListN.{length, getD, drop, length-set, length-replicate, length-append, getD-replicate, List·getD-append}
 use lib.Seq.{getD-set-same, getD-set-other}
 use borrow.Author.Tests.{lt-ltb}
 use Rattle.numbers.specs.Loops.{over}
@@ -18,7 +18,7 @@ use Rattle.graph_lists.specs.Messages.{posteriorFault}
 use Rattle.relay_calls.specs.declared.LegRecord.{LegRecord}
 use Rattle.relay_calls.specs.declared.LegRecord.the-variants as LegRecord
 use Rattle.relay_calls.specs.Records.{valuesOf, recordOf, legRecord}
-use Rattle.relay_calls.specs.Decode.{Shot, Run, Ended, decoded, refused, Progress, running, finished, startRun, recorded, legJudged, afterLeg, legsFrom, decodeLegs}
+use Rattle.relay_calls.specs.Decode.{Shot, Run, Ended, decoded, refused, running, finished, startRun, recorded, legJudged, afterLeg, legsFrom, decodeLegs}
 use Rattle.relay_laws.specs.Legs.{runAfter, legAt, recordAt}
 
 -- ---- records out of values

@@ -9,7 +9,7 @@ use Rattle.refusals.specs.declared.Refusal.{Refusal}
 use Rattle.refusals.specs.declared.Answer.{Answer}
 use Rattle.refusals.specs.declared.Answer.the-variants.{Done, Refused}
 use Rattle.refusals.specs.Refusal.{numberOf}
-use Rattle.refusals.specs.Tests.{isDone, unless, orElse, firstOf}
+use Rattle.refusals.specs.Tests.{unless, orElse, firstOf}
 use Rattle.graph_lists.specs.Graph.{Graph}
 use Rattle.graph_lists.specs.Messages.{valueFault, posteriorFault}
 use Rattle.relay_calls.specs.Decode.{Shot, Run, Ended, decoded, refused, Progress, running, finished, startRun, legJudged, afterLeg, legsFrom, decodeLegs}

@@ -11,7 +11,6 @@ use Rattle.refusals.specs.declared.Refusal.{Refusal}
 use Rattle.refusals.specs.declared.Refusal.the-variants.{OrderNotEachOnce, OrderExchanged}
 use Rattle.refusals.specs.declared.Answer.{Answer}
 use Rattle.refusals.specs.declared.Answer.the-variants.{Done, Refused}
-use Rattle.refusals.specs.Refusal.{numberOf}
 use Rattle.refusals.specs.Tests.{unless, orElse}
 use Rattle.refusals.proofs.Tests.{or-done, or-second}
 use Rattle.graph_lists.specs.Graph.{Graph, checkEntries}
@@ -25,7 +24,7 @@ use Rattle.relay_calls.specs.Decode.{Shot, Run, Ended, decoded, refused, decode
 use Rattle.relay_calls.specs.Calls.{DecodeLists, decodeListsFit, decodeFault, answered, afterLegs, afterDecodeTests, decodeInOrder}
 use Rattle.relay_calls.proofs.Named.{names-told, names-taken}
 use Rattle.relay_laws.specs.Orders.{OrderGood, refusedWith, OthersPass}
-use Rattle.relay_laws.proofs.Only.{Ends, with-run, with-30, decode-ends}
+use Rattle.relay_laws.proofs.Only.{Ends, with-30, decode-ends}
 
 -- ---- what 23 and 24 answer
 

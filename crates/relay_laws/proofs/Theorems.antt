@@ -1,11 +1,10 @@
 -- What a reader may rely on of Relay's calls, beside the theorems of `relay`: demand 3 of the call itself, and what the leg lists of a decode say. Assumes nothing.
-use Prim.Native.Nat.{ℕ, suc, _<_, _≤_}
+use Prim.Native.Nat.{ℕ, _<_, _≤_}
 use mathlib.Core.Path.{_≡_, refl, sym, ap, _∙_}
 use mathlib.Core.Logic.{_↔_}
 use mathlib.Core.Option.{Option, none, some}
 use native.Mathlib.Omega.{arith}
 use lib.Ieee.{Float}
-use lib.ListN.{length}
 use Rattle.numbers.specs.Loops.{upto}
 use Rattle.refusals.specs.declared.Refusal.the-variants.{OrderExchanged}
 use Rattle.refusals.specs.declared.Answer.{Answer}
@@ -19,10 +18,10 @@ use Rattle.relay_calls.specs.declared.LegRecord.the-variants as LegRecord
 use Rattle.relay_calls.specs.Records.{valuesOf, recordOf, legRecord}
 use Rattle.relay_calls.specs.Decode.{Shot, Run, Ended, decoded, refused, decodeLegs}
 use Rattle.relay_calls.specs.Calls.{DecodeLists, DecodeOutcome, decodeOutcome, decodeFault, answered, leftBy, afterLegs, afterDecodeTests, decodeInOrder, decode, withOrder, summaryOf}
-use Rattle.relay_laws.specs.Legs.{runAfter, recordAt}
+use Rattle.relay_laws.specs.Legs.{recordAt}
 use Rattle.relay_laws.specs.Orders.{OrderGood, refusedWith, OthersPass}
 use Rattle.relay_laws.proofs.OrderOfCall.{order-taken, exchange-placed}
-use Rattle.relay_laws.proofs.LegLists.{values-read, entry-over, Held, held-all, Finished, decode-finished}
+use Rattle.relay_laws.proofs.LegLists.{values-read, entry-over, Held, held-all, decode-finished}
 
 -- ---- demand 3 of the call
 
