@@ -14,76 +14,6 @@ use numbers::limits::MAX_CHECKS;
 use relay_calls::Decoded;
 use relay_settings::Settings;
 
-// A decode in index order, which is counted up at the front of a list that is lent for it.
-fn decode_counting(
-    t: Settings,
-    gammas: &[f64],
-    seed: u64,
-    syndrome: &[u8],
-    priors: &[f64],
-    check_var: &[u32],
-    check_offset: &[u32],
-    var_message: &[u32],
-    var_offset: &[u32],
-    order: &mut [u32],
-    leg_state: &mut [u8],
-    leg_iterations: &mut [u32],
-    leg_weight: &mut [f64],
-    rows: &mut [u8],
-    correction: &mut [u8],
-    posterior: &mut [f64],
-    gamma: &mut [f64],
-    bias: &mut [f64],
-    c_to_v: &mut [f64],
-    v_to_c: &mut [f64],
-) -> Decoded
-    requires { ⌜ (length (now syndrome) ≤ maxChecks) × (length (now syndrome) ≤ length (now order)) ⌝ }
-    requires { ⌜
-        Reads t (now gammas) (now syndrome) (now priors) (now «check_var») (now «check_offset») (now «var_message») (now «var_offset»)
-        (upto (length (now syndrome))) ⌝ }
-    requires { ⌜
-        LegsFit (suc (t .«num_legs»)) (length (now priors)) (now «leg_state») (now «leg_iterations») (now «leg_weight») (now rows) ⌝ }
-    requires { ⌜ PerShot (length (now priors)) (now correction) (now posterior) (now gamma) (now bias) ⌝ }
-    requires { ⌜ PerEdge (length (now «check_var»)) (now «c_to_v») (now «v_to_c») ⌝ }
-    ensures { λ r.
-        let x = shotOf t (now (gammas .entry)) seed (now (syndrome .entry)) (now (priors .entry)) (now («check_var» .entry))
-        (now («check_offset» .entry)) (now («var_message» .entry)) (now («var_offset» .entry))
-        (upto (length (now (syndrome .entry)))) in
-        let before = decodeLists (now («leg_state» .entry)) (now («leg_iterations» .entry)) (now («leg_weight» .entry)) (now (rows .entry))
-        (now (correction .entry)) (now (posterior .entry)) (now (gamma .entry)) (now (bias .entry)) (now («c_to_v» .entry))
-        (now («v_to_c» .entry)) in
-        let end = decodeLegs x in
-        let after = decodeLists (now («leg_state» .exit)) (now («leg_iterations» .exit)) (now («leg_weight» .exit)) (now (rows .exit))
-        (now (correction .exit)) (now (posterior .exit)) (now (gamma .exit)) (now (bias .exit)) (now («c_to_v» .exit))
-        (now («v_to_c» .exit)) in
-        ⌜ decodeOutcome r after ≡ afterLegs (length (now («check_var» .entry))) x end before ⌝ }
-{
-    let checks = syndrome.len();
-    number(&mut order[0..checks]);
-    decode_fronts(
-        t,
-        gammas,
-        seed,
-        syndrome,
-        priors,
-        check_var,
-        check_offset,
-        var_message,
-        var_offset,
-        &order[0..checks],
-        leg_state,
-        leg_iterations,
-        leg_weight,
-        rows,
-        correction,
-        posterior,
-        gamma,
-        bias,
-        c_to_v,
-        v_to_c,
-    )
-}
-
 // A decode in index order, of up to 1024 checks.
 fn decode_few(
     t: Settings,
@@ -127,8 +57,10 @@ fn decode_few(
         (now («v_to_c» .exit)) in
         ⌜ decodeOutcome r after ≡ afterLegs (length (now («check_var» .entry))) x end before ⌝ }
 {
+    let checks = syndrome.len();
     let mut order = [0u32; 1024];
-    decode_counting(
+    number(&mut order[0..checks]);
+    decode_fronts(
         t,
         gammas,
         seed,
@@ -138,7 +70,7 @@ fn decode_few(
         check_offset,
         var_message,
         var_offset,
-        &mut order,
+        &order[0..checks],
         leg_state,
         leg_iterations,
         leg_weight,
@@ -195,8 +127,10 @@ fn decode_many(
         (now («v_to_c» .exit)) in
         ⌜ decodeOutcome r after ≡ afterLegs (length (now («check_var» .entry))) x end before ⌝ }
 {
+    let checks = syndrome.len();
     let mut order = [0u32; MAX_CHECKS];
-    decode_counting(
+    number(&mut order[0..checks]);
+    decode_fronts(
         t,
         gammas,
         seed,
@@ -206,7 +140,7 @@ fn decode_many(
         check_offset,
         var_message,
         var_offset,
-        &mut order,
+        &order[0..checks],
         leg_state,
         leg_iterations,
         leg_weight,
