@@ -18,6 +18,12 @@ use Rattle.relay_settings.specs.declared.Settings.{Settings}
 use Rattle.relay_calls.specs.declared.Decoded.{Decoded}
 use Rattle.relay_calls.specs.declared.Decoded.the-variants as Decoded
 
+-- ---- the version
+
+-- the version of the exported calls: raised whenever a call, a list or a code changes its meaning
+abbrev pub version : ℕ
+version = 1
+
 -- ---- answers
 
 -- 1 for true, 0 for false
