@@ -259,8 +259,8 @@ uint8_t chowderkite_published(
     double floats[4],
     uint64_t counts[4]);
 
-/* Tests settings as a decode over so many mechanisms does: 10 to 19. Length: gammas sets times mechanisms, of an explicit
- * source alone. Writes nothing. */
+/* Tests settings as a decode over so many mechanisms does: 1 for the mechanisms, 10 to 19. Length: gammas sets times
+ * mechanisms, of an explicit source alone. Writes nothing. */
 uint64_t chowderkite_check_settings(
     uint8_t schedule,
     double alpha,

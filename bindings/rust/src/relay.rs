@@ -151,7 +151,7 @@ impl RelayConfig {
     ///
     /// # Errors
     ///
-    /// 10 to 19.
+    /// 1 for the mechanisms; 10 to 19.
     pub fn check(&self, mechanisms: usize) -> Result<(), Error> {
         version::check();
         Error::of_code(calls::check_settings(self.lent(), mechanisms))

@@ -76,6 +76,10 @@ fn refusal_1() {
     // The sizes are tested before detectors, which are repeated here.
     let detectors = vec![0; MAX_EDGES + 1];
     refused(BpGraph::from_sparse(1, &[(4.0, &detectors)]));
+    let config = RelayConfig::default();
+    config.check(MAX_MECHANISMS).unwrap();
+    let answer = config.check(MAX_MECHANISMS + 1);
+    assert_refused(answer, Refusal::SizeAboveLimit, None);
     let side = 1025;
     let matrix = vec![1; side * side];
     refused(BpGraph::from_dense(side, vec![4.0; side], &matrix));
