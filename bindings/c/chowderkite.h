@@ -1,12 +1,11 @@
 /* Chowderkite's calls, as the archive libexports.a has them.
  *
+ * Version: chowderkite_version.
  * Graph: chowderkite_build_sparse, _build_dense, _count_edges, _check_graph.
  * Beliefs: chowderkite_beliefs.
- * Relay-BP: chowderkite_published, _alpha_good, _check_settings, _decode, _decode_in_order, _leg_record, _iteration.
+ * Relay-BP: chowderkite_published, _check_settings, _decode, _decode_in_order, _leg_record, _iteration.
  * Refusals: chowderkite_number_of, _place_of.
- * Single numbers: chowderkite_magnitude and those that follow it.
- * Record streams: chowderkite_session_new, _take, _finish, what they stand on (chowderkite_reader_new and those that follow
- * it), and the lines (chowderkite_shot_line and those that follow it).
+ * Record streams: chowderkite_session_new, _take, _finish.
  *
  * What holds for every call:
  *
@@ -25,7 +24,7 @@
  *   its first place. Refusal 30 alone comes after the work; each call that has it says what it leaves.
  * - Once past its tests, refused with 30 or not, a call leaves positive zeroes in its work lists.
  *
- * Link a program with libexports.a, which wants memset of the C library and nothing else.
+ * Link a program with libexports.a, which wants memset and memcpy of the C library and nothing else.
  *
  * Priors are log ratios ln((1 - p) / p), from -30 to 30. They come ready made, since ln is no IEEE 754 operation, and a
  * result must not depend on the library that took it.
@@ -45,6 +44,13 @@
 extern "C" {
 #endif
 
+/* ---- the version: raised whenever a call, a list or a code changes its meaning */
+
+#define CHOWDERKITE_VERSION 1
+
+/* The version of the archive that is linked. Where it is not CHOWDERKITE_VERSION, this header is another archive's. */
+uint64_t chowderkite_version(void);
+
 /* ---- limits */
 
 #define CHOWDERKITE_MAX_CHECKS 65536
@@ -55,7 +61,8 @@ extern "C" {
 /* of a prior's magnitude */
 #define CHOWDERKITE_MAX_PRIOR 30.0
 
-/* ---- codes: 0 where nothing is refused, else the refusal's number plus 65536 times its place */
+/* ---- codes: 0 where nothing is refused, else the refusal's number plus 65536 times its place. No call gives 8, 9, 26 to
+ * 29, or any from 46 on: they are kept for calls to come. */
 
 enum chowderkite_refusal {
     CHOWDERKITE_DONE = 0,
@@ -66,6 +73,8 @@ enum chowderkite_refusal {
     CHOWDERKITE_DETECTOR_OUT_OF_RANGE = 5, /* Place: mechanism */
     CHOWDERKITE_DETECTOR_REPEATED = 6,     /* within its mechanism. Place: mechanism */
     CHOWDERKITE_NO_SUCH_GRAPH = 7,         /* graph lists that no model within the limits builds */
+    CHOWDERKITE_BAD_PROBABILITY = 8,       /* NaN, below 0 or above 1. Place: mechanism */
+    CHOWDERKITE_BAD_CLIP = 9,              /* not finite or not above 0 */
     CHOWDERKITE_BAD_ALPHA = 10,            /* not finite or not above 0 */
     CHOWDERKITE_BAD_GAMMA0 = 11,           /* not finite */
     CHOWDERKITE_BAD_ITERATIONS = 12,       /* pre_iterations 0 or above the limit; those of beliefs above it */
@@ -84,6 +93,10 @@ enum chowderkite_refusal {
                                               Place: the first check in the order that shares a mechanism with a
                                               higher check named before it */
     CHOWDERKITE_STATE_NOT_FINITE = 25,     /* single iteration: a message, posterior or gamma before it */
+    CHOWDERKITE_SEEDS_LENGTH = 26,         /* seeds of a block: not the number of shots */
+    CHOWDERKITE_SHOT_TOO_LARGE = 27,       /* a shot's number too large for its draws */
+    CHOWDERKITE_OBSERVABLE_TOO_LARGE = 28, /* 64 or above. Place: mechanism */
+    CHOWDERKITE_TOO_MANY_STORES = 29,      /* more message stores than 64 bits count */
     CHOWDERKITE_NON_FINITE = 30,           /* a posterior after a leg or a run of beliefs; single iteration: a
                                               posterior or message after it. Place: first mechanism that has one */
     CHOWDERKITE_CUT_RECORD = 40,           /* a stream that ends within a record */
@@ -91,7 +104,19 @@ enum chowderkite_refusal {
     CHOWDERKITE_PAYLOAD_LENGTH = 42,       /* a payload of wrong length for its kind */
     CHOWDERKITE_SHOT_TOO_EARLY = 43,       /* a shot before a model or settings */
     CHOWDERKITE_BEYOND_ROOM = 44,          /* more than the room of a session */
-    CHOWDERKITE_BAD_SCHEDULE = 45          /* a schedule byte other than 0 and 1 */
+    CHOWDERKITE_BAD_SCHEDULE = 45,         /* a schedule byte other than 0 and 1 */
+    CHOWDERKITE_DROPPED_WITH_OTHERS = 46,  /* a shot whose model or settings were dropped */
+    CHOWDERKITE_LINE_NOT_IN_SUBSET = 50,   /* model text: a line outside the subset. Place: line */
+    CHOWDERKITE_CONSTRUCT_LEFT_OUT = 51,   /* a construct that the subset leaves out by name. Place: line */
+    CHOWDERKITE_NUMBER_OUTSIDE_LIMITS = 52, /* a decimal or a target outside the limits. Place: line */
+    CHOWDERKITE_FOREIGN_CHARACTER = 55,    /* shot files: neither bit nor newline. Place: shot */
+    CHOWDERKITE_LINE_LENGTH = 56,          /* a line of wrong length. Place: shot */
+    CHOWDERKITE_CUT_SHOT = 57,             /* the last shot cut, or bytes left over. Place: shot */
+    CHOWDERKITE_FILLING_BIT_SET = 58,      /* a bit that only fills up a byte. Place: shot */
+    CHOWDERKITE_ALIST_MALFORMED = 60,      /* matrix files: a number, or a count of lines or numbers */
+    CHOWDERKITE_ALIST_DEGREE = 61,         /* a degree that differs from its lists */
+    CHOWDERKITE_ALIST_NUMBER = 62,         /* a number out of range or repeated */
+    CHOWDERKITE_ALIST_DISAGREES = 63       /* column and row lists that disagree */
 };
 
 /* The refusal's number, 0 for none. */
@@ -100,16 +125,25 @@ uint64_t chowderkite_number_of(uint64_t code);
 /* The refusal's place. It is 0 too where the refusal has none: ask chowderkite_has_place. */
 uint64_t chowderkite_place_of(uint64_t code);
 
-/* Whether the refusal has a place: 4, 5, 6, 19, 21, 24 and 30 have. */
+/* Whether the refusal has a place: 4, 5, 6, 8, 19, 21, 24, 28, 30, 50 to 52 and 55 to 58 have. */
 static inline int chowderkite_has_place(uint64_t code) {
     switch (chowderkite_number_of(code)) {
     case CHOWDERKITE_BAD_PRIOR:
     case CHOWDERKITE_DETECTOR_OUT_OF_RANGE:
     case CHOWDERKITE_DETECTOR_REPEATED:
+    case CHOWDERKITE_BAD_PROBABILITY:
     case CHOWDERKITE_GAMMA_NOT_FINITE:
     case CHOWDERKITE_SYNDROME_NOT_BINARY:
     case CHOWDERKITE_ORDER_EXCHANGED:
+    case CHOWDERKITE_OBSERVABLE_TOO_LARGE:
     case CHOWDERKITE_NON_FINITE:
+    case CHOWDERKITE_LINE_NOT_IN_SUBSET:
+    case CHOWDERKITE_CONSTRUCT_LEFT_OUT:
+    case CHOWDERKITE_NUMBER_OUTSIDE_LIMITS:
+    case CHOWDERKITE_FOREIGN_CHARACTER:
+    case CHOWDERKITE_LINE_LENGTH:
+    case CHOWDERKITE_CUT_SHOT:
+    case CHOWDERKITE_FILLING_BIT_SET:
         return 1;
     default:
         return 0;
@@ -225,11 +259,8 @@ uint8_t chowderkite_published(
     double floats[4],
     uint64_t counts[4]);
 
-/* 1 if 10 passes an alpha, which is finite and above 0, else 0. Refuses nothing. */
-uint8_t chowderkite_alpha_good(double alpha);
-
-/* Tests settings as a decode over so many mechanisms does: 10 to 19. Length: gammas sets times mechanisms, of an explicit
- * source alone. Writes nothing. */
+/* Tests settings as a decode over so many mechanisms does: 1 for the mechanisms, 10 to 19. Length: gammas sets times
+ * mechanisms, of an explicit source alone. Writes nothing. */
 uint64_t chowderkite_check_settings(
     uint8_t schedule,
     double alpha,
@@ -383,62 +414,34 @@ uint64_t chowderkite_iteration(
     double *posterior, size_t posterior_len,
     double *bias, size_t bias_len);
 
-/* ---- single numbers. None refuses anything. */
-
-/* The magnitude of x. A NaN stays one. */
-double chowderkite_magnitude(double x);
-
-/* Positive infinity. */
-double chowderkite_infinity(void);
-
-/* 1 if x is finite, else 0. */
-uint8_t chowderkite_is_finite(double x);
-
-/* 1 if x is below zero or negative zero, else 0; so 0 of a NaN. */
-uint8_t chowderkite_is_negative(double x);
-
-/* Relay's sign of a message: -1 if it is below zero, else 1. */
-double chowderkite_message_sign(double x);
-
-/* a times b modulo 2^64. */
-uint64_t chowderkite_wrapping_mul(uint64_t a, uint64_t b);
-
-/* SplitMix64: the state after a draw from a state. */
-uint64_t chowderkite_next_state(uint64_t state);
-
-/* SplitMix64: the number that a draw from a state gives. Relayed leg r draws from the state seed xor (r + 1). */
-uint64_t chowderkite_draw(uint64_t state);
-
-/* A draw as a number from 0 to below 1: its top 53 bits times 2^-53. */
-double chowderkite_unit(uint64_t draw);
-
-/* The gamma of a draw: low + (high - low) times chowderkite_unit of it. */
-double chowderkite_gamma(double low, double high, uint64_t draw);
-
 /* ---- record streams
  *
  * A record is a u32 payload length, a u16 kind and the payload, all little-endian; kind 1 is a model, 2 settings, 3 a shot.
  * A session reads a stream byte by byte, decodes its shots, and says what the program shots writes. Its room is 128 checks,
- * 256 mechanisms, 512 edges and 16 relayed legs. The calls below it, over a reader and over single payloads, are for who
- * wants the records themselves. None of these calls refuses anything, but where a code is answered it says what 40 to 45
- * refuse. */
+ * 256 mechanisms, 512 edges and 16 relayed legs. None of these calls refuses anything: what 40 to 45 refuse of a stream, the
+ * lines say. */
 
 /* A session's words; its settings' floats stand beside them. Who only feeds a session need not look at them. */
 enum chowderkite_session {
-    CHOWDERKITE_SESSION_READER = 0,        /* eight words: the reader, as below */
+    CHOWDERKITE_SESSION_READER = 0,        /* eight words: the record's offset, how many of its bytes were taken, its
+                                              payload length, its kind, and of a model checks, mechanisms, edges and
+                                              the sum of its degrees */
     CHOWDERKITE_SESSION_MODEL_LENGTH = 8,  /* of the model's payload */
     CHOWDERKITE_SESSION_HAS_MODEL = 9,     /* not 0 once there is a model */
     CHOWDERKITE_SESSION_HAS_SETTINGS = 10, /* not 0 once there are settings */
     CHOWDERKITE_SESSION_SHOTS = 11,        /* the number of the next shot */
     CHOWDERKITE_SESSION_STOPPED = 12,      /* not 0 once a refusal has ended the run */
     CHOWDERKITE_SESSION_SAID = 13,         /* the length of the line that is to be written now, 0 for none */
-    CHOWDERKITE_SESSION_SETTINGS = 14,     /* seven words: schedule, pre_iterations, num_legs, leg_iterations,
+    CHOWDERKITE_SESSION_SETTINGS = 14      /* seven words: schedule, pre_iterations, num_legs, leg_iterations,
                                               stop_after_converged, explicit, sets */
-    CHOWDERKITE_SESSION_WORDS = 21
 };
 
-/* What the payload of a record within the room has at most. */
+/* How many words and floats a session has, what the payload of a record within the room has at most, and what a line has
+ * room for. */
+#define CHOWDERKITE_SESSION_WORDS 21
+#define CHOWDERKITE_SESSION_FLOATS 4
 #define CHOWDERKITE_MAX_PAYLOAD 5132
+#define CHOWDERKITE_LINE 512
 
 /* A session before the first byte of a stream. */
 void chowderkite_session_new(
@@ -460,86 +463,6 @@ void chowderkite_take(
 size_t chowderkite_finish(
     const size_t words[21],
     const double floats[4],
-    uint8_t line[512]);
-
-/* A reader before the first byte of the record at an offset. Its words: the record's offset, how many of its bytes were
- * taken, its payload length, its kind, and of a model checks, mechanisms, edges and the sum of its degrees. */
-void chowderkite_reader_new(
-    size_t offset,
-    size_t reader[8]);
-
-/* 1 if the record has been read to its end, else 0. */
-uint8_t chowderkite_is_whole(
-    const size_t reader[8]);
-
-/* One byte of the stream; past a whole record the next begins. The payload's bytes are kept as far as the list has room. */
-void chowderkite_push(
-    size_t reader[8],
-    uint8_t byte,
-    uint8_t *payload, size_t payload_len);
-
-/* 41 to 45 of a record that has been read to its end. A byte that is not 0 says that there is a model, or settings. */
-uint64_t chowderkite_verdict(
-    const size_t reader[8],
-    const uint8_t *payload, size_t payload_len,
-    uint8_t has_model,
-    uint8_t has_settings);
-
-/* 40 at the end of a stream, unless it ends with a whole record or holds nothing. */
-uint64_t chowderkite_at_end(
-    const size_t reader[8]);
-
-/* Writes the checks, mechanisms and edges of a model's payload. */
-void chowderkite_read_counts(
-    const uint8_t *payload, size_t payload_len,
-    size_t counts[3]);
-
-/* Fills the lists that chowderkite_build_sparse takes from a model's payload, each as long as it is; lists of more than 256,
- * 257 and 512 are left as they were, all three. */
-void chowderkite_read_model(
-    const uint8_t *payload, size_t payload_len,
-    double *priors, size_t priors_len,
-    uint32_t *detector_offsets, size_t detector_offsets_len,
-    uint32_t *detectors, size_t detectors_len);
-
-/* Writes the floats and counts of a settings' payload, as chowderkite_published does, and answers the schedule. */
-uint8_t chowderkite_read_settings(
-    const uint8_t *payload, size_t payload_len,
-    double floats[4],
-    uint64_t counts[4]);
-
-/* The seed of a shot's payload. The syndrome's bytes stand behind it, from the eighth on. */
-uint64_t chowderkite_read_seed(
-    const uint8_t *payload, size_t payload_len);
-
-/* 1 if a refusal with this number is said of a shot (20, 21, 30), 0 if it ends the run. */
-uint8_t chowderkite_is_of_shot(size_t number);
-
-/* The lines of shots, each written over the front of line: the answer is its length. A shot that was decoded; more than 256
- * bits are no line, and the answer is 0. */
-size_t chowderkite_shot_line(
-    size_t number,
-    uint8_t converged,
-    size_t total,
-    size_t legs,
-    const uint8_t *bits, size_t bits_len,
-    uint8_t line[512]);
-
-/* A shot that was refused. */
-size_t chowderkite_refused_line(
-    size_t number,
-    size_t code,
-    uint8_t line[512]);
-
-/* A refusal that ends the run, with the offset of its record. */
-size_t chowderkite_stopped_line(
-    size_t code,
-    size_t offset,
-    uint8_t line[512]);
-
-/* The end of a run without one. */
-size_t chowderkite_end_line(
-    size_t shots,
     uint8_t line[512]);
 
 #ifdef __cplusplus

@@ -106,9 +106,30 @@ static int is_converged_as_r3(const decoded *d) {
         && state == CHOWDERKITE_CONVERGED && iterations[0] == 2 && memcmp(leg_weight, &weight, sizeof weight) == 0;
 }
 
+/* Whether a session says this of the first bytes of the stream, which it takes one by one. */
+static int says(size_t bytes, const char *wanted) {
+    static uint8_t payload[CHOWDERKITE_MAX_PAYLOAD], model[CHOWDERKITE_MAX_PAYLOAD];
+    size_t words[CHOWDERKITE_SESSION_WORDS], length = 0, i;
+    double floats[CHOWDERKITE_SESSION_FLOATS];
+    uint8_t line[CHOWDERKITE_LINE];
+    char text[1024];
+    chowderkite_session_new(words, floats);
+    for (i = 0; i < bytes; i += 1) {
+        chowderkite_take(words, floats, stream[i], payload, sizeof payload, model, sizeof model, line);
+        memcpy(text + length, line, words[CHOWDERKITE_SESSION_SAID]);
+        length += words[CHOWDERKITE_SESSION_SAID];
+    }
+    i = chowderkite_finish(words, floats, line);
+    memcpy(text + length, line, i);
+    length += i;
+    return length == strlen(wanted) && memcmp(text, wanted, length) == 0;
+}
+
 int main(void) {
     graph g, before_graph;
     memset(&g, 9, sizeof g);
+
+    expect("the archive is of the header's version", chowderkite_version() == CHOWDERKITE_VERSION);
 
     /* A refused call writes nothing, so every list is as it was. */
     {
@@ -206,49 +227,9 @@ int main(void) {
                schedule == CHOWDERKITE_FLOODING && memcmp(floats, wanted_floats, sizeof floats) == 0 && memcmp(counts, wanted_counts, sizeof counts) == 0);
     }
 
-    /* A session over the record stream, byte by byte. */
-    {
-        static uint8_t payload[CHOWDERKITE_MAX_PAYLOAD], model[CHOWDERKITE_MAX_PAYLOAD];
-        const char *const wanted = "shot 0 1 2 1 100\nend 1\n";
-        size_t words[CHOWDERKITE_SESSION_WORDS], length = 0, i;
-        double floats[4];
-        uint8_t line[512];
-        char text[1024];
-        chowderkite_session_new(words, floats);
-        for (i = 0; i < sizeof stream; i += 1) {
-            chowderkite_take(words, floats, stream[i], payload, sizeof payload, model, sizeof model, line);
-            memcpy(text + length, line, words[CHOWDERKITE_SESSION_SAID]);
-            length += words[CHOWDERKITE_SESSION_SAID];
-        }
-        i = chowderkite_finish(words, floats, line);
-        memcpy(text + length, line, i);
-        length += i;
-        expect("document 01's stream: shot 0 1 2 1 100, end 1",
-               length == strlen(wanted) && memcmp(text, wanted, length) == 0);
-    }
-
-    /* A reader over the same bytes: three whole records, the first of them the model. */
-    {
-        uint8_t payload[CHOWDERKITE_MAX_PAYLOAD];
-        size_t reader[8], counts[3] = {0, 0, 0}, records = 0, i;
-        int good = 1;
-        chowderkite_reader_new(0, reader);
-        for (i = 0; i < sizeof stream; i += 1) {
-            chowderkite_push(reader, stream[i], payload, sizeof payload);
-            if (chowderkite_is_whole(reader)) {
-                good = good && chowderkite_verdict(reader, payload, sizeof payload, records > 0, records > 1) == CHOWDERKITE_DONE;
-                if (records == 0) {
-                    chowderkite_read_counts(payload, sizeof payload, counts);
-                }
-                records += 1;
-            }
-        }
-        expect("a reader meets three records, and the model has 2 checks, 3 mechanisms, 4 edges",
-               good && records == 3 && counts[0] == CHECKS && counts[1] == MECHANISMS && counts[2] == EDGES
-                   && chowderkite_at_end(reader) == CHOWDERKITE_DONE);
-        chowderkite_push(reader, 1, payload, sizeof payload);
-        expect("a byte more is a cut record: 40", chowderkite_number_of(chowderkite_at_end(reader)) == CHOWDERKITE_CUT_RECORD);
-    }
+    /* A session over the record stream; and over the same without its last byte, which cuts the shot at 125. */
+    expect("document 01's stream: shot 0 1 2 1 100, end 1", says(sizeof stream, "shot 0 1 2 1 100\nend 1\n"));
+    expect("the stream cut by a byte: stopped 40 125", says(sizeof stream - 1, "stopped 40 125\n"));
 
     printf("%d passed, %d failed\n", passed, failed);
     return failed > 0;

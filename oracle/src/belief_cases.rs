@@ -128,8 +128,18 @@ fn fixed() -> Vec<BeliefCase> {
             }
         }
     }
-    cases.push(nan_sign_decides());
+    cases.extend(nan_sign_decides());
     cases
+}
+
+/// The cases made for a NaN's sign, each of which it decides otherwise: a refusal's place, the bits of beliefs that are accepted, and
+/// whether they are accepted.
+pub fn nan_sign_decides() -> [BeliefCase; 3] {
+    [
+        nan_sign_decides_place(),
+        nan_sign_decides_bits(),
+        nan_sign_decides_acceptance(),
+    ]
 }
 
 /// A refusal whose place hangs on a NaN's sign. In the first iteration check 0 sends mechanism 1
@@ -138,7 +148,7 @@ fn fixed() -> Vec<BeliefCase> {
 /// checks 1, 3 and 5, or become NaN, whose sign doesn't. So those checks either cancel or pile up
 /// with 2, 4 and 6 at mechanism 0, which stays finite or not: place 1 or 0. Two mechanisms of their
 /// own keep the messages of each of these six checks finite.
-pub fn nan_sign_decides() -> BeliefCase {
+fn nan_sign_decides_place() -> BeliefCase {
     let one = probability_of(1.0);
     let mut probabilities = vec![one, one, 0.0];
     let mut detectors = vec![(1..7).collect(), vec![0, 1, 3, 5], vec![0]];
@@ -155,6 +165,66 @@ pub fn nan_sign_decides() -> BeliefCase {
         syndrome: vec![1, 0, 0, 0, 0, 0, 0],
         iterations: 2,
         scale: 1e308,
+        serial: true,
+    }
+}
+
+/// A scale that drives messages to infinity, and differences of them to NaN.
+const OVERFLOWING: f64 = 1.5e308;
+
+/// Accepted with either sign; the belief of mechanism 4, which is on every check, has other bits. Found by a search.
+fn nan_sign_decides_bits() -> BeliefCase {
+    BeliefCase {
+        model: Model {
+            checks: 4,
+            probabilities: vec![0.25, 0.25, 0.25, 0.25, 0.25, 0.75, 0.75, 0.4, 0.75],
+            detectors: vec![
+                vec![0],
+                vec![3],
+                vec![1],
+                vec![0],
+                vec![0, 1, 2, 3],
+                vec![1],
+                vec![2],
+                vec![2],
+                vec![3],
+            ],
+        },
+        syndrome: vec![0, 0, 1, 0],
+        iterations: 2,
+        scale: OVERFLOWING,
+        serial: true,
+    }
+}
+
+/// Accepted with a positive sign; with a negative one refused at mechanism 7, which is on every check. Found by a search.
+fn nan_sign_decides_acceptance() -> BeliefCase {
+    let mut probabilities = vec![probability_of(1.0); 12];
+    // No probability has the prior -1: this one comes within a bit of it.
+    probabilities[2] = 0.731_058_578_630_004_9;
+    probabilities[6] = 0.731_058_578_630_004_9;
+    BeliefCase {
+        model: Model {
+            checks: 5,
+            probabilities,
+            detectors: vec![
+                vec![0],
+                vec![4],
+                vec![0],
+                vec![3],
+                vec![2],
+                vec![1, 3],
+                vec![2],
+                vec![0, 1, 2, 3, 4],
+                vec![3],
+                vec![1],
+                vec![4],
+                vec![1],
+            ],
+        },
+        syndrome: vec![0, 0, 0, 1, 0],
+        iterations: 2,
+        scale: OVERFLOWING,
         serial: true,
     }
 }

@@ -1,7 +1,7 @@
 //! Writes the three lists of cases with the Rust's answers.
 
 use crate::answers::{Decoded, Refusal};
-use crate::belief_cases::{self, BeliefCase};
+use crate::belief_cases::{self, BeliefCase, nan_sign_decides};
 use crate::bits::bits;
 use crate::counted;
 use crate::counted::bp::count::{NanSign, read_nan_sign};
@@ -85,12 +85,13 @@ pub fn run(tally: &mut Tally) {
             "note beliefs: left out because a NaN's sign decides: {here:?} on this processor, {positive:?} with a positive one, {negative:?} with a negative one"
         );
     }
-    // One candidate is made so that it must be left out: the rule is not an empty one.
+    // Some candidates are made so that they must be left out: the rule is not an empty one.
     tally.check(
         "beliefs: a NaN's sign can decide",
-        !beliefs.left_out.is_empty(),
+        beliefs.left_out.len() >= nan_sign_decides().len(),
         &format!("{} left out", beliefs.left_out.len()),
     );
+    made_for_a_nan_sign(tally);
     let decodes = decode_cases::cases();
     order_of_tests(tally);
     features(tally, &beliefs.kept, &decodes);
@@ -114,6 +115,24 @@ pub fn run(tally: &mut Tally) {
     codes(
         "decodes",
         decodes.iter().map(|case| drive::decode(case).err()),
+    );
+}
+
+/// With a NaN's sign read as positive, whatever the processor: the place that is refused, the bits of the mechanism on every check,
+/// and that the third case is accepted.
+fn made_for_a_nan_sign(tally: &mut Tally) {
+    read_nan_sign(NanSign::Positive);
+    let [place, bits, acceptance] = nan_sign_decides().map(|case| counted::drive::beliefs(&case));
+    read_nan_sign(NanSign::AsItIs);
+    let refused = place.err().map(Refusal::pair) == Some((30, 0));
+    let belief = bits.ok().map(|posterior| posterior[4].to_bits());
+    tally.check(
+        "beliefs: a positive NaN's sign",
+        refused && belief == Some(0xffd3_e2fc_eb70_6c4e) && acceptance.is_ok(),
+        &format!(
+            "30 at mechanism 0: {refused}; belief 4: {belief:x?}; accepted: {}",
+            acceptance.is_ok()
+        ),
     );
 }
 

@@ -5,16 +5,17 @@ use std::fmt;
 // A refusal is written down once: its name, its number, when it comes, and what its place counts if it has one.
 macro_rules! refusals {
     ($($(#[$more:meta])* $name:ident = $number:literal, $when:literal $(, at $place:literal)?;)*) => {
-        /// Why a call refused, with document 01's number.
+        /// Why a call refused, with its number.
         ///
-        /// 40 to 45 are missing: they belong to record streams, where [`Shots`](crate::Shots) says them in a line.
+        /// All refusals of the project are here. 40 to 45 belong to record streams, where [`Shots`](crate::Shots) says them in a
+        /// line and no call answers them; 8, 9, 26 to 29 and those from 46 on are kept for calls to come.
         ///
         /// ```
         /// use chowderkite::Refusal;
         ///
         /// assert_eq!(Refusal::BadPrior.number(), 4);
         /// assert_eq!(Refusal::from_number(24), Some(Refusal::OrderExchanged));
-        /// assert_eq!(Refusal::from_number(40), None);
+        /// assert_eq!(Refusal::from_number(39), None);
         /// ```
         #[derive(Clone, Copy, Debug, PartialEq, Eq, PartialOrd, Ord, Hash)]
         pub enum Refusal {
@@ -38,7 +39,7 @@ macro_rules! refusals {
                 }
             }
 
-            /// When it comes, in document 01's words.
+            /// When it comes.
             #[must_use]
             pub const fn meaning(self) -> &'static str {
                 match self {
@@ -46,8 +47,8 @@ macro_rules! refusals {
                 }
             }
 
-            /// What its place counts: `"mechanism"`, `"check"`, or `"flat index"` into explicit gammas. None if it has no
-            /// place.
+            /// What its place counts: `"mechanism"`, `"check"`, `"flat index"` into explicit gammas, `"line"` or `"shot"`. None if
+            /// it has no place.
             #[must_use]
             pub const fn place_counts(self) -> Option<&'static str> {
                 match self {
@@ -68,6 +69,8 @@ refusals! {
     DetectorOutOfRange = 5, "detector out of range", at "mechanism";
     DetectorRepeated = 6, "detector repeated in its mechanism", at "mechanism";
     NoSuchGraph = 7, "graph lists that no model within the limits builds";
+    BadProbability = 8, "probability NaN, below 0 or above 1", at "mechanism";
+    BadClip = 9, "clip not finite or not above 0";
     BadAlpha = 10, "alpha not finite or not above 0";
     BadGamma0 = 11, "gamma0 not finite";
     BadIterations = 12, "pre_iterations 0 or above limit; min-sum iterations above limit";
@@ -85,14 +88,36 @@ refusals! {
     /// It is the first check in the order that shares a mechanism with a higher check named before it.
     OrderExchanged = 24, "decode, CheckSerial: two checks that share a mechanism exchanged", at "check";
     StateNotFinite = 25, "single iteration: message, posterior or gamma not finite";
+    SeedsLength = 26, "block of shots: seed list length not the shot count";
+    ShotTooLarge = 27, "shot number too large for its draws";
+    ObservableTooLarge = 28, "observable number 64 or above", at "mechanism";
+    TooManyStores = 29, "message stores above what 64 bits count";
     /// It is the first mechanism that has one.
     NonFinite = 30,
         "non-finite posterior after a leg or min-sum run; single iteration: non-finite posterior or message after it",
         at "mechanism";
+    CutRecord = 40, "a stream that ends within a record";
+    UnknownKind = 41, "a record of unknown kind";
+    PayloadLength = 42, "a payload of wrong length for its kind";
+    ShotTooEarly = 43, "a shot before a model or settings";
+    BeyondRoom = 44, "a record beyond the room of a session";
+    BadSchedule = 45, "a schedule byte other than 0 and 1";
+    DroppedWithOthers = 46, "a shot whose model or settings were dropped";
+    LineNotInSubset = 50, "model text: a line outside the subset", at "line";
+    ConstructLeftOut = 51, "model text: a construct that the subset leaves out by name", at "line";
+    NumberOutsideLimits = 52, "model text: a decimal or a target outside the limits", at "line";
+    ForeignCharacter = 55, "shot file: a foreign character", at "shot";
+    LineLength = 56, "shot file: a line of wrong length", at "shot";
+    CutShot = 57, "shot file: the last shot cut, or bytes left over", at "shot";
+    FillingBitSet = 58, "shot file: a filling bit set", at "shot";
+    AlistMalformed = 60, "matrix file: a malformed number, or a wrong count of lines or numbers";
+    AlistDegree = 61, "matrix file: a degree that differs from its lists";
+    AlistNumber = 62, "matrix file: a number out of range or repeated";
+    AlistDisagrees = 63, "matrix file: column and row lists that disagree";
 }
 
 impl Refusal {
-    /// The number in document 01's table.
+    /// The number.
     #[must_use]
     pub const fn number(self) -> u16 {
         self as u16

@@ -1,6 +1,6 @@
 //! The Tanner graph.
 
-use crate::{Error, MAX_CHECKS, MAX_EDGES, MAX_MECHANISMS};
+use crate::{version, Error, MAX_CHECKS, MAX_EDGES, MAX_MECHANISMS};
 use chowderkite_sys::calls;
 use chowderkite_sys::lists::{self, Size};
 use std::ops::Range;
@@ -123,6 +123,7 @@ impl BpGraph {
     /// 1 for the counts, 2 for the matrix, 1 for the edges, then 4.
     #[doc(alias = "from_dcm")]
     pub fn from_dense(checks: usize, priors: Vec<f64>, matrix: &[u8]) -> Result<Self, Error> {
+        version::check();
         let size = Size {
             checks,
             mechanisms: priors.len(),
@@ -156,6 +157,7 @@ impl BpGraph {
             priors,
             lists,
         };
+        version::check();
         Error::of_code(calls::check_graph(graph.lent()))?;
         Ok(graph)
     }
@@ -178,6 +180,7 @@ impl BpGraph {
         } else {
             lists::GraphLists::default()
         };
+        version::check();
         Error::of_code(call(&priors, lists.written()))?;
         Ok(Self {
             checks,

@@ -8,6 +8,9 @@
 //!
 //! "Document 01" is the project's scope, which decides behaviour; the numbers from 1 to 30 below are its refusals.
 //!
+//! Before its first call the crate asks the archive that is linked for the version of its calls. It panics if that is not the one
+//! that `chowderkite-sys` declares.
+//!
 //! # Quick start
 //!
 //! Two checks and three mechanisms, which set off the checks {0}, {0, 1} and {1}:
@@ -81,12 +84,14 @@
 #![deny(missing_docs)]
 #![forbid(unsafe_code)]
 
+mod draw;
 mod error;
 mod graph;
 mod iteration;
 mod min_sum;
 mod relay;
 mod shots;
+mod version;
 
 pub use error::{Error, Refusal};
 pub use graph::{BpGraph, GraphLists};

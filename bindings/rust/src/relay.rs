@@ -1,8 +1,9 @@
 //! Relay-BP.
 
-use crate::{BpGraph, Error};
+use crate::draw::Draws;
+use crate::{version, BpGraph, Error};
+use chowderkite_sys::calls;
 use chowderkite_sys::lists::DecodeLists;
-use chowderkite_sys::{calls, chowderkite_draw, chowderkite_gamma, chowderkite_next_state};
 
 /// In which order checks and mechanisms are updated within an iteration.
 #[derive(Clone, Copy, Debug, PartialEq, Eq, Hash)]
@@ -60,11 +61,8 @@ impl GammaSource {
         let (low, high) = gamma_range;
         let mut gammas = Vec::new();
         for leg in 1..=legs as u64 {
-            let mut state = seed ^ (leg + 1);
-            for _ in 0..mechanisms {
-                gammas.push(chowderkite_gamma(low, high, chowderkite_draw(state)));
-                state = chowderkite_next_state(state);
-            }
+            let mut draws = Draws::of_leg(seed, leg);
+            gammas.extend((0..mechanisms).map(|_| draws.gamma(low, high)));
         }
         Self::Explicit { sets: legs, gammas }
     }
@@ -125,6 +123,7 @@ pub struct RelayConfig {
 impl Default for RelayConfig {
     /// The published operating point, as the proved settings have it.
     fn default() -> Self {
+        version::check();
         let (schedule, floats, counts) = calls::published();
         let [alpha, gamma0, low, high] = floats;
         let [pre_iterations, num_legs, leg_iterations, stop_after_converged] =
@@ -152,8 +151,9 @@ impl RelayConfig {
     ///
     /// # Errors
     ///
-    /// 10 to 19.
+    /// 1 for the mechanisms; 10 to 19.
     pub fn check(&self, mechanisms: usize) -> Result<(), Error> {
+        version::check();
         Error::of_code(calls::check_settings(self.lent(), mechanisms))
     }
 

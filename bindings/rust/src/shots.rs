@@ -1,6 +1,7 @@
 //! Record streams.
 
-use chowderkite_sys::streams::{self, Line, MAX_PAYLOAD};
+use crate::version;
+use chowderkite_sys::streams::{self, Line, LINE, MAX_PAYLOAD};
 
 /// A run of the program `shots` over a record stream that is fed in pieces of any size: the proved session, with its lists.
 ///
@@ -36,11 +37,12 @@ impl Shots {
     /// Before the first byte.
     #[must_use]
     pub fn new() -> Self {
+        version::check();
         Self {
             session: streams::session_new(),
             payload: vec![0; MAX_PAYLOAD],
             model: vec![0; MAX_PAYLOAD],
-            line: [0; 512],
+            line: [0; LINE],
         }
     }
 

@@ -28,14 +28,20 @@ fn every_number() {
         .iter()
         .map(|refusal| refusal.number())
         .collect();
-    let wanted: Vec<u16> = (1..=7).chain(10..=25).chain([30]).collect();
+    let wanted: Vec<u16> = (1..=30)
+        .chain(40..=46)
+        .chain(50..=52)
+        .chain(55..=58)
+        .chain(60..=63)
+        .collect();
     assert_eq!(numbers, wanted);
     let with_place: Vec<u16> = Refusal::ALL
         .iter()
         .filter(|refusal| refusal.place_counts().is_some())
         .map(|refusal| refusal.number())
         .collect();
-    assert_eq!(with_place, [4, 5, 6, 19, 21, 24, 30]);
+    let wanted = [4, 5, 6, 8, 19, 21, 24, 28, 30, 50, 51, 52, 55, 56, 57, 58];
+    assert_eq!(with_place, wanted);
 }
 
 #[test]
@@ -70,6 +76,10 @@ fn refusal_1() {
     // The sizes are tested before detectors, which are repeated here.
     let detectors = vec![0; MAX_EDGES + 1];
     refused(BpGraph::from_sparse(1, &[(4.0, &detectors)]));
+    let config = RelayConfig::default();
+    config.check(MAX_MECHANISMS).unwrap();
+    let answer = config.check(MAX_MECHANISMS + 1);
+    assert_refused(answer, Refusal::SizeAboveLimit, None);
     let side = 1025;
     let matrix = vec![1; side * side];
     refused(BpGraph::from_dense(side, vec![4.0; side], &matrix));

@@ -50,22 +50,6 @@ stepLeft code l = record { code = code; lists = l }
 abbrev pub stepLeftBy : StepOutcome → StepLeft
 stepLeftBy o = stepLeft (codeOf (o .answer)) (o .left)
 
--- a decode's lent lists by themselves, in the order of the call
-abbrev pub listsOf : List ℕ → List ℕ → List Float → List ℕ → List ℕ → List Float → List Float → List Float → List Float → List Float → DecodeLists
-listsOf state iterations weight rows correction posterior gamma bias cToV vToC =
-    record {
-      legState = state;
-      legIterations = iterations;
-      legWeight = weight;
-      rows = rows;
-      correction = correction;
-      posterior = posterior;
-      gamma = gamma;
-      bias = bias;
-      cToV = cToV;
-      vToC = vToC;
-    }
-
 -- the code of a decode, its counts, its weight, and its lent lists as the call leaves them
 pub record DecodeLeft : Type 0 where
   pub code : ℕ

@@ -2,7 +2,7 @@
 ghost use mathlib.Core.Path.{_≡_};
 ghost use mathlib.Core.Bool.{not};
 ghost use lib.Dec.{eqb};
-ghost use Rattle.graph_lists.specs.Graph.{graph as graphOf};
+ghost use Rattle.graph_lists.specs.Graph.{graph};
 ghost use Rattle.min_sum.specs.Beliefs.{beliefsLists, beliefs as beliefsOf};
 ghost use Rattle.exports_bodies.specs.Answers.{beliefsLeft, beliefsLeftBy};
 use exports_values::answers::code;
@@ -29,7 +29,13 @@ pub fn beliefs(
     c_to_v: &mut [f64],
     v_to_c: &mut [f64],
 ) -> u64
-    ensures { λ r. ⌜ beliefsLeft r (beliefsLists (now (posterior .exit)) (now («ewa_posterior» .exit)) (now («c_to_v» .exit)) (now («v_to_c» .exit))) ≡ beliefsLeftBy (beliefsOf edges (now (priors .entry)) (graphOf checks mechanisms (now («check_var» .entry)) (now («check_message» .entry)) (now («check_offset» .entry)) (now («var_check» .entry)) (now («var_message» .entry)) (now («var_offset» .entry))) (now (syndrome .entry)) iterations scale (not (eqb serial 0)) (beliefsLists (now (posterior .entry)) (now («ewa_posterior» .entry)) (now («c_to_v» .entry)) (now («v_to_c» .entry)))) ⌝ }
+    ensures { λ r. ⌜ (
+        let g = graph checks mechanisms (now («check_var» .entry)) (now («check_message» .entry)) (now («check_offset» .entry))
+        (now («var_check» .entry)) (now («var_message» .entry)) (now («var_offset» .entry)) in
+        let before = beliefsLists (now (posterior .entry)) (now («ewa_posterior» .entry)) (now («c_to_v» .entry)) (now («v_to_c» .entry)) in
+        let after = beliefsLists (now (posterior .exit)) (now («ewa_posterior» .exit)) (now («c_to_v» .exit)) (now («v_to_c» .exit)) in
+        beliefsLeft r after
+        ≡ beliefsLeftBy (beliefsOf edges (now (priors .entry)) g (now (syndrome .entry)) iterations scale (not (eqb serial 0)) before)) ⌝ }
 {
     let size = Size {
         checks: checks,

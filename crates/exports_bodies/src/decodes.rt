@@ -1,12 +1,12 @@
-// The decodes of `relay`. Settings pass one by one, where `explicit` is 0 for gammas that are drawn. What a decode answers beyond its number goes into two lists of
-// fixed length, which pass as a pointer alone.
+// The decodes of `relay`. Settings pass one by one, where `explicit` is 0 for gammas that are drawn. What a decode answers beyond its
+// number goes into two lists of fixed length, which pass as a pointer alone.
 ghost use mathlib.Core.Path.{_≡_};
 ghost use mathlib.Core.List.{[]};
-ghost use Rattle.graph_lists.specs.Graph.{graph as graphOf};
-ghost use Rattle.relay_settings.specs.Settings.{settingsFault};
-ghost use Rattle.relay_calls.specs.Calls.{decode as decodeOf, decodeInOrder};
+ghost use Rattle.graph_lists.specs.Graph.{graph};
+ghost use Rattle.relay_settings.specs.Settings.{checkSettings};
+ghost use Rattle.relay_calls.specs.Calls.{decodeLists, decode as decodeOf, decodeInOrder};
 ghost use Rattle.exports_values.specs.Codes.{settingsGiven, codeOf};
-ghost use Rattle.exports_bodies.specs.Answers.{listsOf, decodeLeft, decodeLeftBy};
+ghost use Rattle.exports_bodies.specs.Answers.{decodeLeft, decodeLeftBy};
 use exports_values::answers::code;
 use exports_values::given::settings_of;
 use exports_values::told::tell;
@@ -28,7 +28,10 @@ pub fn check_settings(
     mechanisms: usize,
     gammas: &[f64],
 ) -> u64
-    ensures { λ r. ⌜ r ≡ codeOf (settingsFault (settingsGiven schedule alpha gamma0 «pre_iterations» «num_legs» «leg_iterations» «gamma_low» «gamma_high» «stop_after_converged» explicit sets) mechanisms (now (gammas .entry))) ⌝ }
+    ensures { λ r. ⌜ (
+        let settings = settingsGiven schedule alpha gamma0 «pre_iterations» «num_legs» «leg_iterations» «gamma_low» «gamma_high»
+        «stop_after_converged» explicit sets in
+        r ≡ codeOf (checkSettings settings mechanisms (now (gammas .entry)))) ⌝ }
 {
     let t = settings_of(
         schedule as usize,
@@ -86,7 +89,28 @@ pub fn decode_in_order(
     counts: &mut [u64; 3],
     weight: &mut [f64; 1],
 ) -> u64
-    ensures { λ r. ⌜ decodeLeft r (now (counts .exit)) (now (weight .exit)) (listsOf (now («leg_state» .exit)) (now («leg_steps» .exit)) (now («leg_weight» .exit)) (now (rows .exit)) (now (correction .exit)) (now (posterior .exit)) (now (gamma .exit)) (now (bias .exit)) (now («c_to_v» .exit)) (now («v_to_c» .exit))) ≡ decodeLeftBy (decodeInOrder edges (record { graph = graphOf checks mechanisms (now («check_var» .entry)) (now («check_message» .entry)) (now («check_offset» .entry)) (now («var_check» .entry)) (now («var_message» .entry)) (now («var_offset» .entry)); prior = now (priors .entry); settings = settingsGiven schedule alpha gamma0 «pre_iterations» «num_legs» «leg_iterations» «gamma_low» «gamma_high» «stop_after_converged» explicit sets; gammas = now (gammas .entry); order = now (order .entry); syndrome = now (syndrome .entry); seed = seed }) (listsOf (now («leg_state» .entry)) (now («leg_steps» .entry)) (now («leg_weight» .entry)) (now (rows .entry)) (now (correction .entry)) (now (posterior .entry)) (now (gamma .entry)) (now (bias .entry)) (now («c_to_v» .entry)) (now («v_to_c» .entry)))) (now (counts .entry)) (now (weight .entry)) ⌝ }
+    ensures { λ r. ⌜ (
+        let g = graph checks mechanisms (now («check_var» .entry)) (now («check_message» .entry)) (now («check_offset» .entry))
+        (now («var_check» .entry)) (now («var_message» .entry)) (now («var_offset» .entry)) in
+        let settings = settingsGiven schedule alpha gamma0 «pre_iterations» «num_legs» «leg_iterations» «gamma_low» «gamma_high»
+        «stop_after_converged» explicit sets in
+        let before = decodeLists (now («leg_state» .entry)) (now («leg_steps» .entry)) (now («leg_weight» .entry)) (now (rows .entry))
+        (now (correction .entry)) (now (posterior .entry)) (now (gamma .entry)) (now (bias .entry))
+        (now («c_to_v» .entry)) (now («v_to_c» .entry)) in
+        let after = decodeLists (now («leg_state» .exit)) (now («leg_steps» .exit)) (now («leg_weight» .exit)) (now (rows .exit))
+        (now (correction .exit)) (now (posterior .exit)) (now (gamma .exit)) (now (bias .exit))
+        (now («c_to_v» .exit)) (now («v_to_c» .exit)) in
+        decodeLeft r (now (counts .exit)) (now (weight .exit)) after
+        ≡ decodeLeftBy (decodeInOrder edges (record {
+          graph = g;
+          prior = now (priors .entry);
+          settings = settings;
+          gammas = now (gammas .entry);
+          order = now (order .entry);
+          syndrome = now (syndrome .entry);
+          seed = seed;
+        }) before)
+        (now (counts .entry)) (now (weight .entry))) ⌝ }
 {
     let size = Size {
         checks: checks,
@@ -173,7 +197,28 @@ pub fn decode(
     counts: &mut [u64; 3],
     weight: &mut [f64; 1],
 ) -> u64
-    ensures { λ r. ⌜ decodeLeft r (now (counts .exit)) (now (weight .exit)) (listsOf (now («leg_state» .exit)) (now («leg_steps» .exit)) (now («leg_weight» .exit)) (now (rows .exit)) (now (correction .exit)) (now (posterior .exit)) (now (gamma .exit)) (now (bias .exit)) (now («c_to_v» .exit)) (now («v_to_c» .exit))) ≡ decodeLeftBy (decodeOf edges (record { graph = graphOf checks mechanisms (now («check_var» .entry)) (now («check_message» .entry)) (now («check_offset» .entry)) (now («var_check» .entry)) (now («var_message» .entry)) (now («var_offset» .entry)); prior = now (priors .entry); settings = settingsGiven schedule alpha gamma0 «pre_iterations» «num_legs» «leg_iterations» «gamma_low» «gamma_high» «stop_after_converged» explicit sets; gammas = now (gammas .entry); order = []; syndrome = now (syndrome .entry); seed = seed }) (listsOf (now («leg_state» .entry)) (now («leg_steps» .entry)) (now («leg_weight» .entry)) (now (rows .entry)) (now (correction .entry)) (now (posterior .entry)) (now (gamma .entry)) (now (bias .entry)) (now («c_to_v» .entry)) (now («v_to_c» .entry)))) (now (counts .entry)) (now (weight .entry)) ⌝ }
+    ensures { λ r. ⌜ (
+        let g = graph checks mechanisms (now («check_var» .entry)) (now («check_message» .entry)) (now («check_offset» .entry))
+        (now («var_check» .entry)) (now («var_message» .entry)) (now («var_offset» .entry)) in
+        let settings = settingsGiven schedule alpha gamma0 «pre_iterations» «num_legs» «leg_iterations» «gamma_low» «gamma_high»
+        «stop_after_converged» explicit sets in
+        let before = decodeLists (now («leg_state» .entry)) (now («leg_steps» .entry)) (now («leg_weight» .entry)) (now (rows .entry))
+        (now (correction .entry)) (now (posterior .entry)) (now (gamma .entry)) (now (bias .entry))
+        (now («c_to_v» .entry)) (now («v_to_c» .entry)) in
+        let after = decodeLists (now («leg_state» .exit)) (now («leg_steps» .exit)) (now («leg_weight» .exit)) (now (rows .exit))
+        (now (correction .exit)) (now (posterior .exit)) (now (gamma .exit)) (now (bias .exit))
+        (now («c_to_v» .exit)) (now («v_to_c» .exit)) in
+        decodeLeft r (now (counts .exit)) (now (weight .exit)) after
+        ≡ decodeLeftBy (decodeOf edges (record {
+          graph = g;
+          prior = now (priors .entry);
+          settings = settings;
+          gammas = now (gammas .entry);
+          order = [];
+          syndrome = now (syndrome .entry);
+          seed = seed;
+        }) before)
+        (now (counts .entry)) (now (weight .entry))) ⌝ }
 {
     let size = Size {
         checks: checks,

@@ -1,7 +1,7 @@
 // The calls of `graph`. An answer passes as its code, and sizes as numbers.
 ghost use mathlib.Core.Path.{_≡_};
-ghost use Rattle.graph_lists.specs.Graph.{graph as graphOf};
-ghost use Rattle.graph_lists.specs.Model.{buildSparse, countEdges, buildDense, graphFault};
+ghost use Rattle.graph_lists.specs.Graph.{graph};
+ghost use Rattle.graph_lists.specs.Model.{buildSparse, buildDense, graphFault};
 ghost use Rattle.exports_values.specs.Codes.{codeOf};
 ghost use Rattle.exports_bodies.specs.Answers.{graphLeft, graphLeftBy};
 use exports_values::answers::code;
@@ -22,7 +22,13 @@ pub fn build_sparse(
     var_message: &mut [u32],
     var_offset: &mut [u32],
 ) -> u64
-    ensures { λ r. ⌜ graphLeft r (graphOf checks mechanisms (now («check_var» .exit)) (now («check_message» .exit)) (now («check_offset» .exit)) (now («var_check» .exit)) (now («var_message» .exit)) (now («var_offset» .exit))) ≡ graphLeftBy (buildSparse edges (now (priors .entry)) (now («detector_offsets» .entry)) (now (detectors .entry)) (graphOf checks mechanisms (now («check_var» .entry)) (now («check_message» .entry)) (now («check_offset» .entry)) (now («var_check» .entry)) (now («var_message» .entry)) (now («var_offset» .entry)))) ⌝ }
+    ensures { λ r. ⌜ (
+        let g = graph checks mechanisms (now («check_var» .entry)) (now («check_message» .entry)) (now («check_offset» .entry))
+        (now («var_check» .entry)) (now («var_message» .entry)) (now («var_offset» .entry)) in
+        let after = graph checks mechanisms (now («check_var» .exit)) (now («check_message» .exit)) (now («check_offset» .exit))
+        (now («var_check» .exit)) (now («var_message» .exit)) (now («var_offset» .exit)) in
+        graphLeft r after
+        ≡ graphLeftBy (buildSparse edges (now (priors .entry)) (now («detector_offsets» .entry)) (now (detectors .entry)) g)) ⌝ }
 {
     let size = Size {
         checks: checks,
@@ -43,13 +49,6 @@ pub fn build_sparse(
     ))
 }
 
-// `graph::count_edges`.
-pub fn count_edges(matrix: &[u8]) -> usize
-    ensures { λ r. ⌜ r ≡ countEdges (now (matrix .entry)) ⌝ }
-{
-    graph::count_edges(matrix)
-}
-
 // `graph::build_dense`.
 pub fn build_dense(
     checks: usize,
@@ -63,7 +62,12 @@ pub fn build_dense(
     var_message: &mut [u32],
     var_offset: &mut [u32],
 ) -> u64
-    ensures { λ r. ⌜ graphLeft r (graphOf checks mechanisms (now («check_var» .exit)) (now («check_message» .exit)) (now («check_offset» .exit)) (now («var_check» .exit)) (now («var_message» .exit)) (now («var_offset» .exit))) ≡ graphLeftBy (buildDense (now (priors .entry)) (now (matrix .entry)) (graphOf checks mechanisms (now («check_var» .entry)) (now («check_message» .entry)) (now («check_offset» .entry)) (now («var_check» .entry)) (now («var_message» .entry)) (now («var_offset» .entry)))) ⌝ }
+    ensures { λ r. ⌜ (
+        let g = graph checks mechanisms (now («check_var» .entry)) (now («check_message» .entry)) (now («check_offset» .entry))
+        (now («var_check» .entry)) (now («var_message» .entry)) (now («var_offset» .entry)) in
+        let after = graph checks mechanisms (now («check_var» .exit)) (now («check_message» .exit)) (now («check_offset» .exit))
+        (now («var_check» .exit)) (now («var_message» .exit)) (now («var_offset» .exit)) in
+        graphLeft r after ≡ graphLeftBy (buildDense (now (priors .entry)) (now (matrix .entry)) g)) ⌝ }
 {
     code(graph::build_dense(
         checks,
@@ -92,7 +96,10 @@ pub fn check_graph(
     var_message: &[u32],
     var_offset: &[u32],
 ) -> u64
-    ensures { λ r. ⌜ r ≡ codeOf (graphFault edges (now (priors .entry)) (graphOf checks mechanisms (now («check_var» .entry)) (now («check_message» .entry)) (now («check_offset» .entry)) (now («var_check» .entry)) (now («var_message» .entry)) (now («var_offset» .entry)))) ⌝ }
+    ensures { λ r. ⌜ (
+        let g = graph checks mechanisms (now («check_var» .entry)) (now («check_message» .entry)) (now («check_offset» .entry))
+        (now («var_check» .entry)) (now («var_message» .entry)) (now («var_offset» .entry)) in
+        r ≡ codeOf (graphFault edges (now (priors .entry)) g)) ⌝ }
 {
     let size = Size {
         checks: checks,

@@ -2,10 +2,8 @@
 // and lists out.
 pub mod beliefs;
 pub mod decodes;
-pub mod floats;
 pub mod graphs;
 pub mod legs;
 pub mod point;
-pub mod reading;
 pub mod sessions;
 pub mod steps;

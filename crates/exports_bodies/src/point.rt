@@ -1,5 +1,5 @@
-// The published operating point: four floats (alpha, gamma0, the interval's ends) and four counts (pre_iterations, num_legs, leg_iterations, stop_after_converged). The
-// answer is the byte of its schedule; its gammas are drawn.
+// The published operating point: four floats (alpha, gamma0, the interval's ends) and four counts (pre_iterations, num_legs,
+// leg_iterations, stop_after_converged). The answer is the byte of its schedule; its gammas are drawn.
 ghost use mathlib.Core.Path.{_≡_};
 ghost use Rattle.relay_settings.specs.Settings.{published as publishedOf};
 ghost use Rattle.exports_values.specs.Codes.{byteOf, floatsIn, countsIn};

@@ -1,6 +1,6 @@
 // The single iteration of `relay`. A schedule passes as a byte: 0 is Flooding, and any other is CheckSerial.
 ghost use mathlib.Core.Path.{_≡_};
-ghost use Rattle.graph_lists.specs.Graph.{graph as graphOf};
+ghost use Rattle.graph_lists.specs.Graph.{graph};
 ghost use Rattle.relay_step.specs.Step.{state};
 ghost use Rattle.relay_calls.specs.Calls.{stepLists, iterationCall};
 ghost use Rattle.exports_values.specs.Codes.{scheduleGiven};
@@ -31,7 +31,14 @@ pub fn iteration(
     posterior: &mut [f64],
     bias: &mut [f64],
 ) -> u64
-    ensures { λ r. ⌜ stepLeft r (stepLists (state (now («c_to_v» .exit)) (now («v_to_c» .exit)) (now (posterior .exit))) (now (bias .exit))) ≡ stepLeftBy (iterationCall edges (now (priors .entry)) (graphOf checks mechanisms (now («check_var» .entry)) (now («check_message» .entry)) (now («check_offset» .entry)) (now («var_check» .entry)) (now («var_message» .entry)) (now («var_offset» .entry))) (scheduleGiven schedule) alpha (now (gamma .entry)) (now (syndrome .entry)) (now (order .entry)) (stepLists (state (now («c_to_v» .entry)) (now («v_to_c» .entry)) (now (posterior .entry))) (now (bias .entry)))) ⌝ }
+    ensures { λ r. ⌜ (
+        let g = graph checks mechanisms (now («check_var» .entry)) (now («check_message» .entry)) (now («check_offset» .entry))
+        (now («var_check» .entry)) (now («var_message» .entry)) (now («var_offset» .entry)) in
+        let before = stepLists (state (now («c_to_v» .entry)) (now («v_to_c» .entry)) (now (posterior .entry))) (now (bias .entry)) in
+        let after = stepLists (state (now («c_to_v» .exit)) (now («v_to_c» .exit)) (now (posterior .exit))) (now (bias .exit)) in
+        stepLeft r after
+        ≡ stepLeftBy (iterationCall edges (now (priors .entry)) g (scheduleGiven schedule) alpha (now (gamma .entry)) (now (syndrome .entry))
+        (now (order .entry)) before)) ⌝ }
 {
     let size = Size {
         checks: checks,

@@ -6,7 +6,7 @@ use mathlib.Core.Bool.{true, false}
 use lib.Dec.{eqb}
 use borrow.Author.Tests.{eq-eqb, ne-eqb}
 use Rattle.refusals.specs.declared.Refusal.{Refusal}
-use Rattle.refusals.specs.declared.Refusal.the-variants.{SizeAboveLimit, ModelListLength, BadDetectorOffsets, BadPrior, DetectorOutOfRange, DetectorRepeated, NoSuchGraph, BadAlpha, BadGamma0, BadIterations, TooManyLegs, BadLegIterations, BadGammaInterval, BadStop, NoGammaSets, GammaSetsLength, GammaNotFinite, SyndromeLength, SyndromeNotBinary, LentListLength, OrderNotEachOnce, OrderExchanged, StateNotFinite, NonFinite, CutRecord, UnknownKind, PayloadLength, ShotTooEarly, BeyondRoom, BadSchedule}
+use Rattle.refusals.specs.declared.Refusal.the-variants as Refusal
 use Rattle.refusals.specs.declared.Answer.{Answer}
 use Rattle.refusals.specs.declared.Answer.the-variants.{Refused}
 use Rattle.refusals.specs.declared.Place.{Place}
@@ -16,36 +16,54 @@ use Rattle.exports_values.specs.Codes.{placeCode, codeOf}
 
 -- a refusal's number is far below 65,536
 pub number-small : (r : Refusal) → numberOf r < 65536
-number-small SizeAboveLimit = omega arith
-number-small ModelListLength = omega arith
-number-small BadDetectorOffsets = omega arith
-number-small (BadPrior place) = omega arith
-number-small (DetectorOutOfRange place) = omega arith
-number-small (DetectorRepeated place) = omega arith
-number-small NoSuchGraph = omega arith
-number-small BadAlpha = omega arith
-number-small BadGamma0 = omega arith
-number-small BadIterations = omega arith
-number-small TooManyLegs = omega arith
-number-small BadLegIterations = omega arith
-number-small BadGammaInterval = omega arith
-number-small BadStop = omega arith
-number-small NoGammaSets = omega arith
-number-small GammaSetsLength = omega arith
-number-small (GammaNotFinite place) = omega arith
-number-small SyndromeLength = omega arith
-number-small (SyndromeNotBinary place) = omega arith
-number-small LentListLength = omega arith
-number-small OrderNotEachOnce = omega arith
-number-small (OrderExchanged place) = omega arith
-number-small StateNotFinite = omega arith
-number-small (NonFinite place) = omega arith
-number-small CutRecord = omega arith
-number-small UnknownKind = omega arith
-number-small PayloadLength = omega arith
-number-small ShotTooEarly = omega arith
-number-small BeyondRoom = omega arith
-number-small BadSchedule = omega arith
+number-small Refusal.SizeAboveLimit = omega arith
+number-small Refusal.ModelListLength = omega arith
+number-small Refusal.BadDetectorOffsets = omega arith
+number-small (Refusal.BadPrior place) = omega arith
+number-small (Refusal.DetectorOutOfRange place) = omega arith
+number-small (Refusal.DetectorRepeated place) = omega arith
+number-small Refusal.NoSuchGraph = omega arith
+number-small (Refusal.BadProbability place) = omega arith
+number-small Refusal.BadClip = omega arith
+number-small Refusal.BadAlpha = omega arith
+number-small Refusal.BadGamma0 = omega arith
+number-small Refusal.BadIterations = omega arith
+number-small Refusal.TooManyLegs = omega arith
+number-small Refusal.BadLegIterations = omega arith
+number-small Refusal.BadGammaInterval = omega arith
+number-small Refusal.BadStop = omega arith
+number-small Refusal.NoGammaSets = omega arith
+number-small Refusal.GammaSetsLength = omega arith
+number-small (Refusal.GammaNotFinite place) = omega arith
+number-small Refusal.SyndromeLength = omega arith
+number-small (Refusal.SyndromeNotBinary place) = omega arith
+number-small Refusal.LentListLength = omega arith
+number-small Refusal.OrderNotEachOnce = omega arith
+number-small (Refusal.OrderExchanged place) = omega arith
+number-small Refusal.StateNotFinite = omega arith
+number-small Refusal.SeedsLength = omega arith
+number-small Refusal.ShotTooLarge = omega arith
+number-small (Refusal.ObservableTooLarge place) = omega arith
+number-small Refusal.TooManyStores = omega arith
+number-small (Refusal.NonFinite place) = omega arith
+number-small Refusal.CutRecord = omega arith
+number-small Refusal.UnknownKind = omega arith
+number-small Refusal.PayloadLength = omega arith
+number-small Refusal.ShotTooEarly = omega arith
+number-small Refusal.BeyondRoom = omega arith
+number-small Refusal.BadSchedule = omega arith
+number-small Refusal.DroppedWithOthers = omega arith
+number-small (Refusal.LineNotInSubset place) = omega arith
+number-small (Refusal.ConstructLeftOut place) = omega arith
+number-small (Refusal.NumberOutsideLimits place) = omega arith
+number-small (Refusal.ForeignCharacter place) = omega arith
+number-small (Refusal.LineLength place) = omega arith
+number-small (Refusal.CutShot place) = omega arith
+number-small (Refusal.FillingBitSet place) = omega arith
+number-small Refusal.AlistMalformed = omega arith
+number-small Refusal.AlistDegree = omega arith
+number-small Refusal.AlistNumber = omega arith
+number-small Refusal.AlistDisagrees = omega arith
 
 -- 65,536 times a place leaves room for it
 pub place-small : (p : Place) → placeCode p < 281474976710656

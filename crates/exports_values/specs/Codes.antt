@@ -18,6 +18,12 @@ use Rattle.relay_settings.specs.declared.Settings.{Settings}
 use Rattle.relay_calls.specs.declared.Decoded.{Decoded}
 use Rattle.relay_calls.specs.declared.Decoded.the-variants as Decoded
 
+-- ---- the version
+
+-- the version of the exported calls: raised whenever a call, a list or a code changes its meaning
+abbrev pub version : ℕ
+version = 1
+
 -- ---- answers
 
 -- 1 for true, 0 for false
@@ -25,7 +31,7 @@ abbrev pub bitOf : Bool → ℕ
 bitOf true = 1
 bitOf false = 0
 
--- 65,536 times the place, 0 where there is none. The remainder keeps the code within 64 bits for every number; no place of docs/REFERENCE.md reaches 2^32, for
+-- 65,536 times the place, 0 where there is none. The remainder keeps the code within 64 bits for every number; no place of a refusal reaches 2^32, for
 -- the largest is an index of at most 65,535 times 65,536 gammas.
 abbrev pub placeCode : Place → ℕ
 placeCode Nowhere = 0

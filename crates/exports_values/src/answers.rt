@@ -1,6 +1,6 @@
-// How answers pass: a bool as 1 or 0, an answer as one number.
+// How answers pass: a bool as 1 or 0, an answer as one number. And the version of all that passes.
 ghost use mathlib.Core.Path.{_≡_};
-ghost use Rattle.exports_values.specs.Codes.{bitOf, placeCode, codeOf, numberIn, placeIn};
+ghost use Rattle.exports_values.specs.Codes.{bitOf, placeCode, codeOf, numberIn, placeIn, version as versionOf};
 use refusals::Answer;
 use refusals::Place;
 use refusals::number_of;
@@ -48,4 +48,11 @@ pub fn place_in(code: u64) -> u64
     ensures { λ r. ⌜ r ≡ placeIn code ⌝ }
 {
     code / 65536
+}
+
+// The version of the exported calls.
+pub fn version() -> u64
+    ensures { λ r. ⌜ r ≡ versionOf ⌝ }
+{
+    1
 }

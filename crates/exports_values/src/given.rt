@@ -39,7 +39,9 @@ pub fn settings_of(
     explicit: usize,
     sets: usize,
 ) -> Settings
-    ensures { λ r. ⌜ r ≡ settingsGiven schedule alpha gamma0 «pre_iterations» «num_legs» «leg_iterations» «gamma_low» «gamma_high» «stop_after_converged» explicit sets ⌝ }
+    ensures { λ r. ⌜
+        r ≡ settingsGiven schedule alpha gamma0 «pre_iterations» «num_legs» «leg_iterations» «gamma_low» «gamma_high»
+        «stop_after_converged» explicit sets ⌝ }
 {
     let order = schedule_of(schedule);
     let source = source_of(explicit, sets);

@@ -147,19 +147,20 @@ fn large(case: u64, random: &mut SplitMix64, counts: &mut Counts) {
     counts.note(DECIDED, u64::from(decided));
 }
 
-/// The case made for a NaN's sign: read as negative it comes out otherwise, whatever this processor leaves there.
+/// The cases made for a NaN's sign: read as negative they come out otherwise, whatever this processor leaves there.
 fn made(_: u64, random: &mut SplitMix64, counts: &mut Counts) {
-    let name = "beliefs, the case made for a NaN's sign";
-    let case = nan_sign_decides();
-    let decided = compare(name, &case, random, counts);
-    counts.note(DECIDED, u64::from(decided));
-    let (positive, negative) = (
-        told_by(NanSign::Positive, &case),
-        told_by(NanSign::Negative, &case),
-    );
-    counts.check(name, Ok(()), positive != negative, || {
-        format!("{positive:?} with either sign")
-    });
+    let name = "beliefs, the cases made for a NaN's sign";
+    for case in nan_sign_decides() {
+        let decided = compare(name, &case, random, counts);
+        counts.note(DECIDED, u64::from(decided));
+        let (positive, negative) = (
+            told_by(NanSign::Positive, &case),
+            told_by(NanSign::Negative, &case),
+        );
+        counts.check(name, Ok(()), positive != negative, || {
+            format!("{positive:?} with either sign")
+        });
+    }
 }
 
 /// What document 01's table says before the run: the tests of the graph, then 12, 20 and 22.

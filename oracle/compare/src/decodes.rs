@@ -7,7 +7,8 @@ use crate::given::{Given, model_of};
 use crate::rounds::{Part, Rate};
 use crate::steps::random_order;
 use crate::table::{
-    MOST_TURNS, test, wanted_alpha, wanted_lengths, wanted_lists, wanted_names, wanted_syndrome,
+    MOST_COUNT, MOST_TURNS, test, wanted_alpha, wanted_lengths, wanted_lists, wanted_mechanisms,
+    wanted_names, wanted_syndrome,
 };
 use oracle::answers::{Decoded, Refusal};
 use oracle::bits::is_zero;
@@ -333,9 +334,10 @@ fn published(_: u64, _: &mut SplitMix64, counts: &mut Counts) {
     });
 }
 
-/// What document 01's table says of settings over as many mechanisms: 10 to 19.
+/// What document 01's table says of settings over as many mechanisms: 1, 10 to 19.
 fn wanted_settings(settings: Settings, gammas: &[f64], mechanisms: usize) -> Answer {
     let finite = |value: f64| value.is_finite();
+    wanted_mechanisms(mechanisms)?;
     wanted_alpha(settings.alpha)?;
     test(finite(settings.gamma0), 11)?;
     test((1..=MOST_TURNS).contains(&settings.pre_iterations), 12)?;
@@ -462,7 +464,11 @@ fn damaged(_: u64, random: &mut SplitMix64, counts: &mut Counts) {
         seed: case.seed,
         order: random.once_in(2).then_some(&order),
     };
-    let mechanisms = given.size.mechanisms;
+    // The settings alone are also asked about over as many mechanisms as no graph has.
+    let mechanisms = match random.below(16) {
+        0 => random.pick(&[MOST_COUNT, MOST_COUNT + 1, 1 << 32, usize::MAX]),
+        _ => given.size.mechanisms,
+    };
     let wanted = wanted_settings(settings, &gammas, mechanisms);
     let answer = proved::check_settings(settings, &gammas, mechanisms);
     counts.check("settings, damaged", wanted, answer == wanted, || {

@@ -128,6 +128,11 @@ fn told(size: Size, lists: &Lists) -> Option<GraphCase> {
     })
 }
 
+/// 1, of the mechanisms alone.
+pub fn wanted_mechanisms(mechanisms: usize) -> Answer {
+    test(mechanisms <= MOST_COUNT, 1)
+}
+
 pub fn wanted_alpha(alpha: f64) -> Answer {
     test(alpha.is_finite() && alpha > 0.0, 10)
 }

@@ -1,36 +1,18 @@
-//! The calls of the crate `exports`, in safe Rust, over lists of any length: the crate of `bindings/rust` makes lists that fit, and
-//! so can't ask for most refusals.
+//! The calls of the crates `exports` and `exports_compare`, in safe Rust, over lists of any length: the crate of `bindings/rust` makes
+//! lists that fit, and so can't ask for most refusals.
 
-#![forbid(unsafe_code)]
+mod single;
+pub mod streams;
 
 use chowderkite_sys::calls;
 
 pub use calls::count_edges;
 pub use chowderkite_sys::lists::{DecodeLists as Decode, GraphLists as Lists, Size};
-pub use chowderkite_sys::streams;
-pub use chowderkite_sys::{
-    chowderkite_draw as draw, chowderkite_gamma as gamma, chowderkite_infinity as infinity,
-    chowderkite_magnitude as magnitude, chowderkite_message_sign as message_sign,
-    chowderkite_next_state as next_state, chowderkite_number_of as number_of,
-    chowderkite_place_of as place_of, chowderkite_unit as unit,
-    chowderkite_wrapping_mul as wrapping_mul,
+pub use chowderkite_sys::{chowderkite_number_of as number_of, chowderkite_place_of as place_of};
+pub use single::{
+    alpha_good, draw, gamma, infinity, is_finite, is_negative, is_of_shot, magnitude, message_sign,
+    next_state, unit, wrapping_mul,
 };
-
-pub fn alpha_good(alpha: f64) -> bool {
-    chowderkite_sys::chowderkite_alpha_good(alpha) == 1
-}
-
-pub fn is_of_shot(number: u64) -> bool {
-    chowderkite_sys::chowderkite_is_of_shot(number as usize) == 1
-}
-
-pub fn is_finite(x: f64) -> bool {
-    chowderkite_sys::chowderkite_is_finite(x) == 1
-}
-
-pub fn is_negative(x: f64) -> bool {
-    chowderkite_sys::chowderkite_is_negative(x) == 1
-}
 
 /// What a call answers: nothing, or a refusal's number and place in document 01's table. The place is 0 where it has none.
 pub type Answer = Result<(), (u64, u64)>;

@@ -1,4 +1,4 @@
-//! The 41 calls of the archive `libexports.a`, declared for Rust. The build links the archive.
+//! The 17 calls of the archive `libexports.a`, declared for Rust. The build links the archive.
 //!
 //! A slice passes as a pointer and then its length, an array as a pointer alone, and an answer as a code: 0, or a refusal's
 //! number plus 65,536 times its place. `bindings/c/chowderkite.h` says of each call which lengths its lists have, what it leaves
@@ -28,7 +28,13 @@ pub mod calls;
 pub mod lists;
 pub mod streams;
 
+/// The version of the calls that are declared here; [`chowderkite_version`] answers that of the archive that is linked.
+pub const VERSION: u64 = 1;
+
 unsafe extern "C" {
+    /// The version of the calls: raised whenever a call, a list or a code changes its meaning.
+    pub safe fn chowderkite_version() -> u64;
+
     /// Builds the graph of a sparse model.
     pub unsafe fn chowderkite_build_sparse(
         checks: usize,
@@ -137,9 +143,6 @@ unsafe extern "C" {
     /// Writes the published operating point: alpha, gamma0, gamma_low, gamma_high; pre_iterations, num_legs, leg_iterations,
     /// stop_after_converged. Answers its schedule.
     pub unsafe fn chowderkite_published(floats: *mut [f64; 4], counts: *mut [u64; 4]) -> u8;
-
-    /// 1 if 10 passes an alpha, else 0.
-    pub safe fn chowderkite_alpha_good(alpha: f64) -> u8;
 
     /// Tests settings over so many mechanisms.
     pub unsafe fn chowderkite_check_settings(
@@ -334,123 +337,6 @@ unsafe extern "C" {
 
     /// A refusal's place, out of its code; 0 too where it has none.
     pub safe fn chowderkite_place_of(code: u64) -> u64;
-
-    /// The magnitude of `x`.
-    pub safe fn chowderkite_magnitude(x: f64) -> f64;
-
-    /// Positive infinity.
-    pub safe fn chowderkite_infinity() -> f64;
-
-    /// 1 if `x` is finite, else 0.
-    pub safe fn chowderkite_is_finite(x: f64) -> u8;
-
-    /// 1 if `x` is below zero or negative zero, else 0; so 0 of a NaN.
-    pub safe fn chowderkite_is_negative(x: f64) -> u8;
-
-    /// Relay's sign of a message: -1 if it is below zero, else 1.
-    pub safe fn chowderkite_message_sign(x: f64) -> f64;
-
-    /// `a` times `b` modulo 2^64.
-    pub safe fn chowderkite_wrapping_mul(a: u64, b: u64) -> u64;
-
-    /// SplitMix64: the state after a draw from a state.
-    pub safe fn chowderkite_next_state(state: u64) -> u64;
-
-    /// SplitMix64: the number that a draw from a state gives.
-    pub safe fn chowderkite_draw(state: u64) -> u64;
-
-    /// A draw as a number from 0 to below 1.
-    pub safe fn chowderkite_unit(draw: u64) -> f64;
-
-    /// The gamma of a draw.
-    pub safe fn chowderkite_gamma(low: f64, high: f64, draw: u64) -> f64;
-
-    /// A reader before the first byte of the record at an offset.
-    pub unsafe fn chowderkite_reader_new(offset: usize, reader: *mut [usize; 8]);
-
-    /// 1 if the record has been read to its end, else 0.
-    pub unsafe fn chowderkite_is_whole(reader: *const [usize; 8]) -> u8;
-
-    /// One byte of the stream, to a reader.
-    pub unsafe fn chowderkite_push(
-        reader: *mut [usize; 8],
-        byte: u8,
-        payload: *mut u8,
-        payload_len: usize,
-    );
-
-    /// 41 to 45 of a record that has been read to its end.
-    pub unsafe fn chowderkite_verdict(
-        reader: *const [usize; 8],
-        payload: *const u8,
-        payload_len: usize,
-        has_model: u8,
-        has_settings: u8,
-    ) -> u64;
-
-    /// 40 at the end of a stream, unless it ends with a whole record or holds nothing.
-    pub unsafe fn chowderkite_at_end(reader: *const [usize; 8]) -> u64;
-
-    /// Writes the checks, mechanisms and edges of a model's payload.
-    pub unsafe fn chowderkite_read_counts(
-        payload: *const u8,
-        payload_len: usize,
-        counts: *mut [usize; 3],
-    );
-
-    /// Fills the lists of a sparse model from its payload.
-    pub unsafe fn chowderkite_read_model(
-        payload: *const u8,
-        payload_len: usize,
-        priors: *mut f64,
-        priors_len: usize,
-        detector_offsets: *mut u32,
-        detector_offsets_len: usize,
-        detectors: *mut u32,
-        detectors_len: usize,
-    );
-
-    /// Writes the floats and counts of a settings' payload, as `chowderkite_published` does. Answers the schedule.
-    pub unsafe fn chowderkite_read_settings(
-        payload: *const u8,
-        payload_len: usize,
-        floats: *mut [f64; 4],
-        counts: *mut [u64; 4],
-    ) -> u8;
-
-    /// The seed of a shot's payload.
-    pub unsafe fn chowderkite_read_seed(payload: *const u8, payload_len: usize) -> u64;
-
-    /// 1 if a refusal with this number is said of a shot, 0 if it ends the run.
-    pub safe fn chowderkite_is_of_shot(number: usize) -> u8;
-
-    /// The line of a shot that was decoded.
-    pub unsafe fn chowderkite_shot_line(
-        number: usize,
-        converged: u8,
-        total: usize,
-        legs: usize,
-        bits: *const u8,
-        bits_len: usize,
-        line: *mut [u8; 512],
-    ) -> usize;
-
-    /// The line of a shot that was refused.
-    pub unsafe fn chowderkite_refused_line(
-        number: usize,
-        code: usize,
-        line: *mut [u8; 512],
-    ) -> usize;
-
-    /// The line of a refusal that ends the run.
-    pub unsafe fn chowderkite_stopped_line(
-        code: usize,
-        offset: usize,
-        line: *mut [u8; 512],
-    ) -> usize;
-
-    /// The line at the end of a run without one.
-    pub unsafe fn chowderkite_end_line(shots: usize, line: *mut [u8; 512]) -> usize;
 
     /// A session before the first byte of a stream.
     pub unsafe fn chowderkite_session_new(words: *mut [usize; 21], floats: *mut [f64; 4]);

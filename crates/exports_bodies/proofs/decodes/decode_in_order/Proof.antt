@@ -45,7 +45,12 @@ same-length-10 c = c .before .before .before .before .before .before .before .be
 
 returns : tie.Need-returns
 returns c =
-    let e = rw (c .before .before .before .before .before .before .before .before .before .before .before .before .before .before .before .before .before .before .before .before .before .before .before .before .before .before .before .before .before .before .before .before .before .before .settings-of .ensures) at (c .before .before .before .before .before .before .before .before .before .before .before .before .before .before .before .before .before .before .before .before .before .before .before .decode-in-order .ensures) in
+    let e =
+    rw (c .before .before .before .before .before .before .before .before .before .before .before .before
+    .before .before .before .before .before .before .before .before .before .before .before .before
+    .before .before .before .before .before .before .before .before .before .before .settings-of .ensures)
+    at (c .before .before .before .before .before .before .before .before .before .before .before .before
+    .before .before .before .before .before .before .before .before .before .before .before .decode-in-order .ensures) in
     decode-left-as _ _ _ _ _ _ _ _ (c .tell .ensures .0) (c .tell .ensures .1 .0) (c .tell .ensures .1 .1) e
 
 pub decode-in-order-spec : {M : Type 1} → statement M

@@ -1,7 +1,7 @@
 -- `exports_bodies::sessions::take` meets its contract: the words and floats of the session that `stream_session::take` leaves, and its lists. Assumes nothing.
 use mathlib.Core.Path.{_∙_, ap}
 use Rattle.stream_session.specs.Shots.{Left}
-use Rattle.exports_words.specs.Words.{sessionWords, sessionFloats}
+use Rattle.exports_session.specs.Words.{sessionWords, sessionFloats}
 use borrow.Author.Needs.{needs}
 use Rattle.exports_bodies.proofs.sessions.take.Statement.{statement}
 use Rattle.exports_bodies.proofs.sessions.take.Tie as tie
@@ -23,8 +23,13 @@ same-length-2 c = search needs
 
 returns : tie.Need-returns
 returns c =
-    let e = rw (c .before .before .before .before .before .before .before .before .before .before .before .session-of .ensures) at (c .before .before .before .before .before .before .before .take .ensures) in
-    (c .put-session .ensures .0 ∙ ap (λ (l : Left). sessionWords (l .taken .now .session)) e, (c .put-session .ensures .1 ∙ ap (λ (l : Left). sessionFloats (l .taken .now .session)) e, (ap (λ (l : Left). l .kept) e, (ap (λ (l : Left). l .taken .model) e, ap (λ (l : Left). l .taken .now .line) e))))
+    let e = rw (c .before .before .before .before .before .before .before .before .before .before .before .session-of .ensures) at (c .before .before .before .before .before .before .before .take .ensures) in (
+      c .put-session .ensures .0 ∙ ap (λ (l : Left). sessionWords (l .taken .now .session)) e,
+      (
+        c .put-session .ensures .1 ∙ ap (λ (l : Left). sessionFloats (l .taken .now .session)) e,
+        (ap (λ (l : Left). l .kept) e, (ap (λ (l : Left). l .taken .model) e, ap (λ (l : Left). l .taken .now .line) e)),
+      ),
+    )
 
 pub take-spec : {M : Type 1} → statement M
 take-spec = tie.close (tie.spec session-of-requires take-requires put-session-requires same-length same-length-2 returns)
