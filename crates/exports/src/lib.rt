@@ -17,7 +17,8 @@ ghost use Rattle.relay_calls.specs.Calls.{decodeLists, stepLists, iterationCall
 ghost use Rattle.stream_session.specs.Shots.{startSession, byteTaken, endText};
 ghost use Rattle.exports_values.specs.Codes.{codeOf, numberIn, placeIn, scheduleGiven, settingsGiven, byteOf, floatsIn, countsIn, version};
 ghost use Rattle.exports_session.specs.Words.{sessionOf, sessionWords, sessionFloats};
-ghost use Rattle.exports_bodies.specs.Answers.{graphLeft, graphLeftBy, beliefsLeft, beliefsLeftBy, stepLeft, stepLeftBy, decodeLeft, decodeLeftBy};
+ghost use Rattle.exports_bodies.specs.Answers.{graphLeft, graphLeftBy, beliefsLeft, beliefsLeftBy, stepLeft, stepLeftBy, decodeLeft};
+ghost use Rattle.exports_bodies.specs.Answers.{decodeLeftBy};
 use exports_bodies::beliefs;
 use exports_bodies::decodes;
 use exports_bodies::graphs;
@@ -510,7 +511,8 @@ pub extern "C" fn chowderkite_iteration(
         let before = stepLists (state (now («c_to_v» .entry)) (now («v_to_c» .entry)) (now (posterior .entry))) (now (bias .entry)) in
         let after = stepLists (state (now («c_to_v» .exit)) (now («v_to_c» .exit)) (now (posterior .exit))) (now (bias .exit)) in
         stepLeft r after
-        ≡ stepLeftBy (iterationCall edges (now (priors .entry)) g (scheduleGiven schedule) alpha (now (gamma .entry)) (now (syndrome .entry))
+        ≡ stepLeftBy (iterationCall edges (now (priors .entry)) g (scheduleGiven schedule) alpha (now (gamma .entry)) (now
+        (syndrome .entry))
         (now (order .entry)) before)) ⌝ }
 {
     steps::iteration(

@@ -37,7 +37,8 @@ pub fn iteration(
         let before = stepLists (state (now («c_to_v» .entry)) (now («v_to_c» .entry)) (now (posterior .entry))) (now (bias .entry)) in
         let after = stepLists (state (now («c_to_v» .exit)) (now («v_to_c» .exit)) (now (posterior .exit))) (now (bias .exit)) in
         stepLeft r after
-        ≡ stepLeftBy (iterationCall edges (now (priors .entry)) g (scheduleGiven schedule) alpha (now (gamma .entry)) (now (syndrome .entry))
+        ≡ stepLeftBy (iterationCall edges (now (priors .entry)) g (scheduleGiven schedule) alpha (now (gamma .entry)) (now
+        (syndrome .entry))
         (now (order .entry)) before)) ⌝ }
 {
     let size = Size {
