@@ -1,4 +1,4 @@
-/* Model G of document 01 through the C calls, each answer compared with what document 01 says of it. A program of your own
+/* Model G of the reference through the C calls, each answer compared with what the reference says of it. A program of your own
  * can start from this one: a model, lists that fit it, then beliefs and decodes over the same lists.
  *
  * Run by bindings/c/run. The last line says 'N passed, M failed'; the exit status is 1 if any failed. */
@@ -16,7 +16,7 @@ static const uint32_t detector_offsets[MECHANISMS + 1] = {0, 1, 3, 4};
 static const uint32_t detectors[EDGES] = {0, 0, 1, 1};
 static const uint8_t syndrome[CHECKS] = {1, 0};
 
-/* The same model as a record stream, with settings and one shot: document 01's example, 141 bytes. */
+/* The same model as a record stream, with settings and one shot: the reference's example, 141 bytes. */
 static const uint8_t stream[141] = {
     64, 0, 0, 0, 1, 0, 2, 0, 0, 0, 3, 0, 0, 0, 4, 0,
     0, 0, 0, 0, 0, 0, 0, 0, 16, 64, 1, 0, 0, 0, 0, 0,
@@ -228,7 +228,7 @@ int main(void) {
     }
 
     /* A session over the record stream; and over the same without its last byte, which cuts the shot at 125. */
-    expect("document 01's stream: shot 0 1 2 1 100, end 1", says(sizeof stream, "shot 0 1 2 1 100\nend 1\n"));
+    expect("the reference's stream: shot 0 1 2 1 100, end 1", says(sizeof stream, "shot 0 1 2 1 100\nend 1\n"));
     expect("the stream cut by a byte: stopped 40 125", says(sizeof stream - 1, "stopped 40 125\n"));
 
     printf("%d passed, %d failed\n", passed, failed);

@@ -1,9 +1,9 @@
-//! What the Rust answers, in document 01's numbers, whichever copy of the files gave it.
+//! What the Rust answers, in the reference's numbers, whichever copy of the files gave it.
 
 use crate::line::Line;
 use pecos_decoder_core::errors::DecoderError;
 
-/// A refusal's number and place in document 01's table; place 0 where it has none.
+/// A refusal's number and place in the reference's table; place 0 where it has none.
 #[derive(Clone, Copy, Debug, PartialEq, Eq)]
 pub struct Refusal {
     pub code: usize,
@@ -111,7 +111,7 @@ impl Decoded {
     }
 }
 
-/// Document 01's number and place for an error of the Rust. Its message tells the cases apart,
+/// The reference's number and place for an error of the Rust. Its message tells the cases apart,
 /// for the error type has few; a message of no known form stops the oracle.
 pub fn refusal(error: &DecoderError, mechanisms: usize) -> Refusal {
     let (code, place) = match error {

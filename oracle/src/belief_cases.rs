@@ -54,7 +54,7 @@ impl BeliefCase {
         line.float(self.scale);
         line.count(usize::from(self.serial));
         line.answer(answer, |posterior, line| line.floats(posterior));
-        // The Rust leaves its beliefs standing; document 01 has the port zero them.
+        // The Rust leaves its beliefs standing; the reference has the port zero them.
         if let Err(Refusal { code: 30, .. }) = answer {
             line.floats(&vec![0.0; priors.len()]);
         }

@@ -92,7 +92,7 @@ fn replay(tally: &mut Tally, name: &str, lines: impl Iterator<Item = String>) {
 }
 
 /// Refusals of the Rust that the lists can't hold: probabilities that are no log ratio of ours,
-/// lists of wrong length, and sizes above document 01's limits.
+/// lists of wrong length, and sizes above the reference's limits.
 fn extra_refusals(tally: &mut Tally) {
     let mut refused = Vec::new();
     for probability in [f64::NAN, f64::INFINITY, -0.1, 1.5] {

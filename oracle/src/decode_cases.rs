@@ -12,7 +12,7 @@ const MOST_LEGS: usize = 16;
 /// Where the gammas of relayed legs come from.
 #[derive(Clone, Debug)]
 pub enum Source {
-    /// Document 01's draw from the shot's seed; the Rust gets it as explicit sets.
+    /// The reference's draw from the shot's seed; the Rust gets it as explicit sets.
     Seeded,
     Explicit(Vec<Vec<f64>>),
 }
@@ -40,7 +40,7 @@ pub struct DecodeCase {
 }
 
 impl Settings {
-    /// What document 01's small runs use: alpha 1, gamma0 0, no relayed legs.
+    /// What the reference's small runs use: alpha 1, gamma0 0, no relayed legs.
     pub fn plain(serial: bool, pre_iterations: usize) -> Self {
         Self {
             serial,
@@ -60,7 +60,7 @@ impl Settings {
         matches!(self.source, Source::Explicit(_))
     }
 
-    /// Document 01's default operating point.
+    /// The reference's default operating point.
     pub fn default_point() -> Self {
         Self {
             serial: false,
@@ -143,7 +143,7 @@ pub fn cases() -> Vec<DecodeCase> {
     cases
 }
 
-/// Document 01's small runs and its default operating point.
+/// The reference's small runs and its default operating point.
 fn fixed() -> Vec<DecodeCase> {
     let case = |model: Model, settings: Settings, syndrome: Vec<u8>| DecodeCase {
         model,
@@ -250,7 +250,7 @@ fn good() -> DecodeCase {
     }
 }
 
-/// Every refusal of settings and syndrome that the Rust shares with document 01, alone and by
+/// Every refusal of settings and syndrome that the Rust shares with the reference, alone and by
 /// twos, so that the order of the tests shows; beside each the number that must come first.
 pub fn spoiled() -> Vec<(usize, DecodeCase)> {
     let mut cases = Vec::new();

@@ -1,4 +1,4 @@
-//! The published Rust as an oracle: document 01's small runs, fixed lists of cases with the Rust's
+//! The published Rust as an oracle: the reference's small runs, fixed lists of cases with the Rust's
 //! answers, and a count of the branches that those cases take. A library, so that the comparison and the benchmark draw
 //! the same models.
 

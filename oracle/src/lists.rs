@@ -34,7 +34,7 @@ pub struct LeftOut {
     negative: Result<Vec<f64>, Refusal>,
 }
 
-/// Document 01 has a NaN's sign positive in the port and leaves it open in the Rust. So a case is
+/// The reference has a NaN's sign positive in the port and leaves it open in the Rust. So a case is
 /// listed only if the answer is the same with every NaN's sign read as this processor leaves it,
 /// as positive, and as negative.
 pub fn beliefs() -> Beliefs {
@@ -153,7 +153,7 @@ fn sparse_and_dense_agree(tally: &mut Tally, graphs: &[GraphCase]) {
     );
 }
 
-/// Where two things are wrong, the lower number of document 01 must be the Rust's answer.
+/// Where two things are wrong, the lower number of the reference must be the Rust's answer.
 fn order_of_tests(tally: &mut Tally) {
     let spoiled = decode_cases::spoiled();
     let first = |(code, case): &&(usize, DecodeCase)| {

@@ -57,7 +57,7 @@ impl Model {
         }
     }
 
-    /// Document 01's G: detectors {0}, {0,1}, {1}, priors 4.
+    /// The reference's G: detectors {0}, {0,1}, {1}, priors 4.
     pub fn g() -> Self {
         Self {
             checks: 2,

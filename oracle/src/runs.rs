@@ -1,4 +1,4 @@
-//! Document 01's small runs R1 to R11 on the Rust.
+//! The reference's small runs R1 to R11 on the Rust.
 
 use crate::belief_cases::BeliefCase;
 use crate::bits::bits;

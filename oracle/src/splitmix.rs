@@ -1,4 +1,4 @@
-//! SplitMix64, the public algorithm: the source of the cases, and of document 01's seeded gammas.
+//! SplitMix64, the public algorithm: the source of the cases, and of the reference's seeded gammas.
 
 #[derive(Clone)]
 pub struct SplitMix64 {
@@ -70,7 +70,7 @@ impl SplitMix64 {
     }
 }
 
-/// The gamma sets of the relayed legs 1 to `legs`, as document 01 draws them.
+/// The gamma sets of the relayed legs 1 to `legs`, as the reference draws them.
 pub fn relay_sets(seed: u64, legs: usize, mechanisms: usize, low: f64, high: f64) -> Vec<Vec<f64>> {
     (1..=legs as u64)
         .map(|leg| {

@@ -60,7 +60,7 @@ fn judge(empty: f64, single: f64) -> Result<(), String> {
     }
     Err(format!(
         "float sums don't start at negative zero on this toolchain: the empty sum has bits {:016x}, \
-         the sum of -0.0 has {:016x}. Document 01 rests on a toolchain where both are {wanted:016x}",
+         the sum of -0.0 has {:016x}. The reference rests on a toolchain where both are {wanted:016x}",
         empty.to_bits(),
         single.to_bits()
     ))

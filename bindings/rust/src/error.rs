@@ -1,4 +1,4 @@
-//! Refusals: document 01's table, and the error that carries one.
+//! Refusals: the reference's table, and the error that carries one.
 
 use std::fmt;
 
@@ -159,7 +159,7 @@ impl Error {
         self.refusal
     }
 
-    /// Its number in document 01's table.
+    /// Its number in the reference's table.
     #[must_use]
     pub const fn number(&self) -> u16 {
         self.refusal.number()

@@ -6,7 +6,7 @@
 //! answers: it computes and refuses nothing itself. Plain Rust, tested and not proved, are this passing on, how [`RelayState`]
 //! starts a leg, how [`GammaSource::drawn`] repeats a shot's draws, and how [`Shots`] gathers lines.
 //!
-//! "Document 01" is the project's scope, which decides behaviour; the numbers from 1 to 30 below are its refusals.
+//! The reference, docs/REFERENCE.md, decides behaviour; the numbers below are its refusals.
 //!
 //! Before its first call the crate asks the archive that is linked for the version of its calls. It panics if that is not the one
 //! that `chowderkite-sys` declares.

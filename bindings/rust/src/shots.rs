@@ -5,13 +5,13 @@ use chowderkite_sys::streams::{self, Line, LINE, MAX_PAYLOAD};
 
 /// A run of the program `shots` over a record stream that is fed in pieces of any size: the proved session, with its lists.
 ///
-/// Document 01 has the stream's records and the lines; `./shots --help` and `tools/stream` in the repository say the same. Its room is
+/// The reference has the stream's records and the lines; `./shots --help` and `tools/stream` in the repository say the same. Its room is
 /// 128 checks, 256 mechanisms, 512 edges and 16 relayed legs.
 ///
 /// ```
 /// use chowderkite::Shots;
 ///
-/// // Model G, settings, and one shot: document 01's example.
+/// // Model G, settings, and one shot: the reference's example.
 /// let stream = include_bytes!(concat!(env!("CARGO_MANIFEST_DIR"), "/../../examples/g.stream"));
 /// let mut shots = Shots::new();
 /// let mut text = shots.feed(&stream[..70]);

@@ -157,7 +157,7 @@ fn stack_of_a_decode() {
     thread.spawn(decodes).unwrap().join().unwrap();
 }
 
-/// Document 01's place of 24, plainly: the first check in the order that shares a mechanism with a higher check before it.
+/// The reference's place of 24, plainly: the first check in the order that shares a mechanism with a higher check before it.
 fn exchanged(graph: &BpGraph, order: &[u32]) -> Option<usize> {
     let share = |one: u32, other: u32| {
         let mechanisms = graph.mechanisms(one as usize);

@@ -1,4 +1,4 @@
-//! Each refusal of document 01's table that has to do with this crate, with its place.
+//! Each refusal of the reference's table that has to do with this crate, with its place.
 
 mod common;
 

@@ -1,4 +1,4 @@
-//! Document 01's twelve small runs.
+//! The reference's twelve small runs.
 
 mod common;
 

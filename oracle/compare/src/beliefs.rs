@@ -163,7 +163,7 @@ fn made(_: u64, random: &mut SplitMix64, counts: &mut Counts) {
     }
 }
 
-/// What document 01's table says before the run: the tests of the graph, then 12, 20 and 22.
+/// What the reference's table says before the run: the tests of the graph, then 12, 20 and 22.
 fn wanted_before(given: &Given, run: Run, lists: &Beliefs) -> Answer {
     wanted_lists(given)?;
     let size = given.size;

@@ -334,7 +334,7 @@ fn published(_: u64, _: &mut SplitMix64, counts: &mut Counts) {
     });
 }
 
-/// What document 01's table says of settings over as many mechanisms: 1, 10 to 19.
+/// What the reference's table says of settings over as many mechanisms: 1, 10 to 19.
 fn wanted_settings(settings: Settings, gammas: &[f64], mechanisms: usize) -> Answer {
     let finite = |value: f64| value.is_finite();
     wanted_mechanisms(mechanisms)?;

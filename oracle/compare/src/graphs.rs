@@ -1,5 +1,5 @@
 //! The calls of the crate `graph` against the Rust: every list on small and on large models, and damaged models and lists
-//! against what document 01's table says of them, with the Rust's own error beside it where it has one.
+//! against what the reference's table says of them, with the Rust's own error beside it where it has one.
 
 use crate::counts::Counts;
 use crate::damage::{damage_common, damage_lists, damage_sparse, nudge_length};

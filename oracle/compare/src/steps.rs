@@ -197,7 +197,7 @@ fn compare(
     );
 }
 
-/// What document 01's table says before the step: 1, 2, 4, 7, 10, 20, 21, 22, 23, 25.
+/// What the reference's table says before the step: 1, 2, 4, 7, 10, 20, 21, 22, 23, 25.
 fn wanted_before(given: &Given, case: &Case) -> Answer {
     wanted_lists(given)?;
     let size = given.size;

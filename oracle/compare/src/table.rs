@@ -1,4 +1,4 @@
-//! What document 01's table says of models and graph lists, in the order of its tests, and the tests that several calls over them
+//! What the reference's table says of models and graph lists, in the order of its tests, and the tests that several calls over them
 //! have. Written from the table and apart from the proved code.
 
 use crate::given::{Given, rust};

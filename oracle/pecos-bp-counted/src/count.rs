@@ -18,7 +18,7 @@ static NAN_SIGN: AtomicU8 = AtomicU8::new(0);
 pub enum NanSign {
     /// Whatever the processor put there, as in the published file.
     AsItIs,
-    /// Positive, as document 01 has it for the port.
+    /// Positive, as the reference has it for the port.
     Positive,
     /// Negative, the other possibility.
     Negative,

@@ -1,4 +1,4 @@
-//! A generator that must not be used. Document 01 replaces the published draw by one of its own,
+//! A generator that must not be used. The reference replaces the published draw by one of its own,
 //! so every oracle run hands in explicit gamma sets and none may come here.
 
 pub struct PecosRng;

@@ -14,7 +14,7 @@ pub use single::{
     next_state, unit, wrapping_mul,
 };
 
-/// What a call answers: nothing, or a refusal's number and place in document 01's table. The place is 0 where it has none.
+/// What a call answers: nothing, or a refusal's number and place in the reference's table. The place is 0 where it has none.
 pub type Answer = Result<(), (u64, u64)>;
 
 fn answer(code: u64) -> Answer {

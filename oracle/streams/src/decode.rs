@@ -32,7 +32,7 @@ fn graph(model: &Model) -> BpGraph {
     with_priors(graph.expect("4 to 6 let the model through"), &priors)
 }
 
-/// The Rust's outcome. The seeded draw is document 01's and not PECOS's, so the Rust gets its gammas as explicit sets.
+/// The Rust's outcome. The seeded draw is the reference's and not PECOS's, so the Rust gets its gammas as explicit sets.
 pub fn decode(
     model: &Model,
     settings: &Settings,

@@ -1,4 +1,4 @@
-//! What `shots` writes for a stream: document 01's rules of the stream, over the whole input as one slice, written apart from the
+//! What `shots` writes for a stream: the reference's rules of the stream, over the whole input as one slice, written apart from the
 //! crates. The decodes are the Rust's.
 
 use crate::decode::{Decoded, NotFinite, decode};

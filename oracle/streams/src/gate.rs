@@ -43,7 +43,7 @@ impl Case {
     }
 }
 
-/// Document 01's 141 bytes.
+/// The reference's 141 bytes.
 pub fn document() -> Vec<u8> {
     Stream::of_g().shot(7, &[1, 0]).bytes
 }
@@ -107,7 +107,7 @@ pub fn run(tally: &mut Tally, list: bool) {
     let text = expect::run(&document).text;
     let wanted = "shot 0 1 2 1 100\nend 1\n";
     tally.check(
-        "document 01's stream",
+        "the reference's stream",
         document.len() == 141 && text == wanted,
         &format!("{} bytes, {text:?}", document.len()),
     );

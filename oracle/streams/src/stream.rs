@@ -46,7 +46,7 @@ impl Model {
         }
     }
 
-    /// Document 01's G.
+    /// The reference's G.
     pub fn g() -> Self {
         Self::new(2, &[(4.0, &[0]), (4.0, &[0, 1]), (4.0, &[1])])
     }
@@ -162,7 +162,7 @@ impl Stream {
         Self::default()
     }
 
-    /// Document 01's model and settings of its 141 bytes, without the shot.
+    /// The reference's model and settings of its 141 bytes, without the shot.
     pub fn of_g() -> Self {
         Self::new()
             .model(&Model::g())

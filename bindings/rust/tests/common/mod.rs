@@ -3,12 +3,12 @@
 
 use chowderkite::{BpGraph, GammaSource, LegOutcome, RelayConfig, RelayOutcome, Schedule};
 
-/// Document 01's G: 2 checks; detectors {0}, {0,1}, {1}; priors 4.
+/// The reference's G: 2 checks; detectors {0}, {0,1}, {1}; priors 4.
 pub fn model_g() -> BpGraph {
     BpGraph::from_sparse(2, &[(4.0, vec![0]), (4.0, vec![0, 1]), (4.0, vec![1])]).unwrap()
 }
 
-/// The settings of document 01's runs: alpha 1, gamma0 0, no relayed legs.
+/// The settings of the reference's runs: alpha 1, gamma0 0, no relayed legs.
 pub fn plain(schedule: Schedule, pre_iterations: usize) -> RelayConfig {
     RelayConfig {
         schedule,

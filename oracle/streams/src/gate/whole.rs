@@ -12,7 +12,7 @@ fn nothing() -> Model {
 pub(super) fn whole_runs(cases: &mut Cases) {
     let g = Model::g();
     let plain = Settings::plain(0, 2);
-    cases.runs(&[0], "document 01's", Stream::new().raw(&document()));
+    cases.runs(&[0], "the reference's", Stream::new().raw(&document()));
     cases.runs(&[], "no input", Stream::new());
     cases.runs(&[], "a model alone", Stream::new().model(&g));
     cases.runs(&[], "settings alone", Stream::new().settings(&plain));
@@ -88,7 +88,7 @@ pub(super) fn whole_runs(cases: &mut Cases) {
     cases.runs(&[0; 6], "seeds, and a stop above every leg", seeds);
 }
 
-/// Document 01's small runs, as far as a stream can ask for them.
+/// The reference's small runs, as far as a stream can ask for them.
 pub(super) fn document_runs(cases: &mut Cases) {
     let on = |model: &Model, settings: Settings, syndrome: &[u8]| {
         Stream::new()
