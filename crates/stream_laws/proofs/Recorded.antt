@@ -115,7 +115,7 @@ module _ (r : Rec) (sayable : Sayable r) (offset : ℕ) (room : List ℕ) (large
       → take (lengthSaid (encoded r)) (payloadKept (r .payload) room) ≡ r .payload
   unfolding verdict
   kept-whole hasModel hasSettings d =
-      let p = passed hasModel hasSettings _ _ _ _ _ _ _ _ d in
+      let p = passed hasModel hasSettings _ d in
       let l = fits-room _ _ _ _ _ _ _ (p .size-good) (p .room-good) in
       let n = said r sayable offset room in
       rw (n, kept-front (r .payload) room (omega (arith, l, n, large))) (take-append-seam (r .payload) (drop (length (r .payload)) room))

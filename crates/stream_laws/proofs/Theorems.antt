@@ -11,7 +11,7 @@ use lib.ListN.{length, take, drop, length-drop}
 use lib.Seq.{length-take-le}
 use borrow.Author.Tests.{leb-true, leb-false, eqb-true, ne-eqb}
 use Rattle.numbers.proofs.Cases.{either, and-both}
-use Rattle.stream_grammar.specs.Stream.{seed, syndrome, AreBytes, Rec, rec, Sayable, AllSayable, none, more, encode, stream, lengthSaid, kindSaid, isComplete, checks, mechanisms, edges, degrees, legs, lengthGood, timeGood, roomGood, judge, leftOver, isOfShot}
+use Rattle.stream_grammar.specs.Stream.{seed, syndrome, AreBytes, Rec, rec, Sayable, AllSayable, none, more, encode, stream, lengthSaid, kindSaid, isComplete, checks, mechanisms, edges, degrees, legs, lengthGood, timeGood, roomGood, claimsOf, judge, leftOver, isOfShot}
 use Rattle.refusals.specs.declared.Answer.{Answer}
 use Rattle.refusals.specs.declared.Answer.the-variants.{Done}
 use Rattle.relay_settings.specs.declared.Settings.{Settings}
@@ -179,18 +179,18 @@ module _ (hasModel hasSettings : Bool) (p : List ℕ) where
   -- a model has at most 128 checks, 256 mechanisms and 512 edges, is as long as its counts say, and its degrees add up to its edges
   pub model-let-through : judge hasModel hasSettings 1 p ≡ Done → ModelWithin (length p) (checks p) (mechanisms p) (edges p) (degrees (mechanisms p) p)
   unfolding judge
-  model-let-through d = let t = passed hasModel hasSettings 1 _ _ _ _ _ _ _ d in model-within _ _ _ _ _ _ (t .size-good) (t .room-good)
+  model-let-through d = let t = passed hasModel hasSettings (claimsOf 1 p) d in model-within _ _ _ _ _ _ (t .size-good) (t .room-good)
 
   -- settings have 49 bytes and at most 16 relayed legs
   pub settings-let-through : judge hasModel hasSettings 2 p ≡ Done → (length p ≡ 49) × (legs p ≤ 16)
   unfolding judge lengthGood roomGood
-  settings-let-through d = let t = passed hasModel hasSettings 2 _ _ _ _ _ _ _ d in (eqb-true (length p) 49 (t .size-good), leb-true (legs p) 16 (t .room-good))
+  settings-let-through d = let t = passed hasModel hasSettings (claimsOf 2 p) d in (eqb-true (length p) 49 (t .size-good), leb-true (legs p) 16 (t .room-good))
 
   -- a shot has a seed, at most 128 bytes of a syndrome, and a model and settings before it
   pub shot-let-through : judge hasModel hasSettings 3 p ≡ Done → (8 ≤ length p) × (length p ≤ 136) × (hasModel ≡ true) × (hasSettings ≡ true)
   unfolding judge lengthGood timeGood roomGood
   shot-let-through d =
-      let t = passed hasModel hasSettings 3 _ _ _ _ _ _ _ d in
+      let t = passed hasModel hasSettings (claimsOf 3 p) d in
       let b = and-both hasModel hasSettings (t .time-good) in
       (leb-true 8 (length p) (t .size-good), leb-true (length p) 136 (t .room-good), b .0, b .1)
 
