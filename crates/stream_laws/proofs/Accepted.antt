@@ -7,11 +7,12 @@ use borrow.Author.Tests.{leb-true, eqb-true}
 use Rattle.numbers.proofs.Cases.{and-both}
 use Rattle.refusals.specs.declared.Answer.the-variants.{Done}
 use Rattle.refusals.proofs.Tests.{or-done, unless-done}
-use Rattle.stream_grammar.specs.Stream.{countsFit, lengthGood, timeGood, roomGood, Claims, tested}
+use Rattle.stream_grammar.specs.Stream.{kindGood, countsFit, lengthGood, timeGood, roomGood, Claims, tested}
 
 module _ (hasModel hasSettings : Bool) (x : Claims) where
-  -- 42, 43 and 44 hold
+  -- 41 to 44 hold
   pub record Passed : Type 0 where
+    pub kind-good : kindGood (x .kind) ≡ true
     pub size-good : lengthGood (x .kind) (x .size) (x .mechanisms) (x .edges) (x .degrees) ≡ true
     pub time-good : timeGood (x .kind) hasModel hasSettings ≡ true
     pub room-good : roomGood (x .kind) (x .size) (x .checks) (x .mechanisms) (x .edges) (x .legs) ≡ true
@@ -24,7 +25,7 @@ module _ (hasModel hasSettings : Bool) (x : Claims) where
       let b = or-done _ _ (a .1) in
       let c = or-done _ _ (b .1) in
       let d = or-done _ _ (c .1) in
-      record { size-good = unless-done _ _ (b .0); time-good = unless-done _ _ (c .0); room-good = unless-done _ _ (d .0) }
+      record { kind-good = unless-done _ _ (a .0); size-good = unless-done _ _ (b .0); time-good = unless-done _ _ (c .0); room-good = unless-done _ _ (d .0) }
 
 -- a model within the room, as long as its counts say, whose degrees add up to its edges
 pub record ModelWithin (size checks mechanisms edges sum : ℕ) : Type 0 where

@@ -12,4 +12,5 @@ pub mod Theorems
 pub mod Recorded
 pub mod Written
 pub mod Ended
+pub mod Accepting
 pub mod ShotsTheorems
