@@ -1,7 +1,7 @@
 -- A session that keeps the model's bytes and the settings says what the payloads accepted last say. Assumes nothing.
 use Prim.Native.Nat.{ℕ, _+_, _%_, _^_, _≤_}
 use mathlib.Core.Path.{_≡_, refl, sym, ap, subst, _∙_}
-use mathlib.Core.Bool.{Bool, true, false, cond, false≢true}
+use mathlib.Core.Bool.{Bool, true, false, cond}
 use mathlib.Core.List.{List, [], _∷_, _++_, append-nil}
 use mathlib.Core.Option.{Option, none, some}
 use native.Mathlib.Omega.{arith}
@@ -9,7 +9,6 @@ use lib.Dec.{eqb, leb}
 use lib.ListN.{length, take, drop, replicate}
 use lib.Seq.{take-append-seam}
 use borrow.Author.Tests.{leb-true, eqb-false}
-use Rattle.numbers.specs.Loops.{over}
 use Rattle.numbers.proofs.Cases.{and-both}
 use Rattle.refusals.specs.declared.Refusal.{Refusal}
 use Rattle.refusals.specs.declared.Answer.{Answer}
@@ -18,14 +17,14 @@ use Rattle.refusals.specs.Refusal.{numberOf}
 use Rattle.relay_settings.specs.declared.Settings.{Settings}
 use Rattle.relay_calls.specs.declared.Decoded.{Decoded}
 use Rattle.relay_calls.specs.declared.Decoded.the-variants as Decoded
-use Rattle.stream_grammar.specs.Stream.{Rec, Sayable, AllSayable, none as noRecord, more, encode, mechanisms, isOfShot, kindSaid as kindOfHead, kindGood, lengthGood, timeGood, roomGood, claimsOf, judge, leftOver}
+use Rattle.stream_grammar.specs.Stream.{Rec, Sayable, AllSayable, more, mechanisms, isOfShot, kindSaid as kindOfHead, kindGood, timeGood, claimsOf, judge, leftOver}
 use Rattle.stream_grammar.specs.Fields.{settingsRead}
 use Rattle.stream_lines.specs.Lines.{shotLine, refusedLine, stoppedLine, unlessTooLong}
 use Rattle.stream_reader.specs.Reading.{holding, payloadKept}
 use Rattle.stream_table.specs.Table.{modelFault, settingsAnswer, Decoding, shotDecoded}
 use Rattle.stream_session.specs.declared.Session.{Session}
-use Rattle.stream_session.specs.Shots.{Told, told, Taken, taken, known, goesOn, stops, says, refuses, finds, answers, tells, shotTaken, settingsTaken, modelTaken, kindTaken, recordJudged, reads, lastText, textOf}
-use Rattle.stream_session.specs.Text.{Heard, heard, isThere, thePayload, Said, said, endsRun, modelSaid, settingsSaid, lineSaid, shotSaid, decodeOf, kindSaid, judgedSaid, recordSaid, recordsText}
+use Rattle.stream_session.specs.Shots.{Told, Taken, taken, known, goesOn, stops, says, refuses, finds, answers, tells, shotTaken, settingsTaken, modelTaken, kindTaken, recordJudged, reads, lastText, textOf}
+use Rattle.stream_session.specs.Text.{Heard, isThere, thePayload, Said, endsRun, modelSaid, settingsSaid, lineSaid, shotSaid, decodeOf, kindSaid, judgedSaid, recordSaid, recordsText}
 use Rattle.stream_session.proofs.Cases.{chosen, other}
 use Rattle.stream_laws.proofs.Accepted.{passed}
 use Rattle.stream_laws.proofs.Encoding.{encoded, kind-said}

@@ -1,20 +1,26 @@
 -- What a reader may rely on of `shots`: what its session says, byte by byte, is what the grammar and the table say of the records, on every input. Assumes nothing.
 use Prim.Native.Nat.{ℕ, _≤_}
 use mathlib.Core.Path.{_≡_, refl, sym, ap, _∙_}
-use mathlib.Core.Bool.{false, false≢true}
+use mathlib.Core.Bool.{Bool, true, false, false≢true}
 use mathlib.Core.List.{List, [], _∷_, _++_, append-assoc, foldl-append}
 use mathlib.Core.Option.{some}
 use lib.ListN.{length, take}
-use Rattle.stream_grammar.specs.Stream.{AreBytes, Rec, AllSayable, stream, isComplete}
+use Rattle.refusals.specs.declared.Refusal.{Refusal}
+use Rattle.refusals.specs.declared.Answer.the-variants.{Done}
+use Rattle.refusals.specs.Refusal.{numberOf}
+use Rattle.relay_calls.specs.declared.Decoded.the-variants as Decoded
+use Rattle.stream_grammar.specs.Stream.{AreBytes, Rec, AllSayable, stream, isComplete, judge, isOfShot}
 use Rattle.stream_reader.specs.Reading.{fresh, held, fed, payloadKept}
+use Rattle.stream_table.specs.Table.{modelFault, settingsAnswer}
 use Rattle.stream_session.specs.declared.Session.{Session}
 use Rattle.stream_session.specs.Shots.{Left, startSession, byteTaken, lastText, endText, textOf, sessionText}
 use Rattle.stream_session.specs.Pieces.{nextByte, pieceTaken, pieceText, restText}
-use Rattle.stream_session.specs.Text.{nothingHeard, recordsText}
-use Rattle.stream_laws.proofs.Theorems.{Apart, told-apart, meets, ends-at}
+use Rattle.stream_session.specs.Text.{nothingHeard, decodeOf, recordsText}
+use Rattle.stream_laws.proofs.Theorems.{Apart, told-apart, meets, ends-at, settings-let-through}
 use Rattle.stream_laws.proofs.Written.{metText, written-met}
 use Rattle.stream_laws.proofs.Ended.{met-told}
 use Rattle.stream_laws.proofs.Accepting.{kept-model, kept-said}
+use Rattle.stream_laws.proofs.Refusing.{shot-refused}
 
 -- "`shots` reads standard input": of records and what is left over it writes what the grammar and the table say, with each refusal's number and offset, each shot over the
 -- very payloads of the last model and the last settings accepted, where the lists that keep a payload and a model have 5,132 bytes, the longest within the room
@@ -66,6 +72,13 @@ pieces-left xs ys l = foldl-append nextByte l xs ys
 -- "Later models and settings replace earlier ones": a model that finds room is kept whole, so the shots behind it are decoded over its very payload
 pub keeps-the-model : (p model : List ℕ) → length p ≤ length model → take (length p) (payloadKept p model) ≡ p
 keeps-the-model = kept-model
+
+-- "Then a model by 1 to 6, settings by 10 to 16, a shot by 20, 21 and 30": over a model and settings that were accepted a shot is refused with 20, 21 or 30 alone, so no shot
+-- ends a run past 41 to 45
+pub shot-refusals : (hasModel hasSettings : Bool) (model settings p : List ℕ) (r : Refusal) → modelFault model ≡ Done
+    → judge hasModel hasSettings 2 settings ≡ Done → settingsAnswer settings ≡ Done → decodeOf model settings p .answer ≡ Decoded.Refused r → isOfShot (numberOf r) ≡ true
+unfolding decodeOf
+shot-refusals hasModel hasSettings model settings p r m j s e = shot-refused model settings p r m s (settings-let-through hasModel hasSettings settings j .1) e
 
 -- ---- two results that a contract allows coincide
 
