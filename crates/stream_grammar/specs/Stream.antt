@@ -169,18 +169,46 @@ roomGood kind size checks mechanisms edges legs =
 unfoldable pub scheduleGood : ℕ → ℕ → Bool
 scheduleGood kind schedule = not (eqb kind 2) || leb schedule 1
 
--- 41 to 45, one after the other
-unfoldable pub tested : Bool → Bool → ℕ → ℕ → ℕ → ℕ → ℕ → ℕ → ℕ → ℕ → Answer
-tested hasModel hasSettings kind size checks mechanisms edges sum legs schedule =
-    orElse (unless (kindGood kind) UnknownKind)
-    (orElse (unless (lengthGood kind size mechanisms edges sum) PayloadLength)
-    (orElse (unless (timeGood kind hasModel hasSettings) ShotTooEarly)
-    (orElse (unless (roomGood kind size checks mechanisms edges legs) BeyondRoom) (unless (scheduleGood kind schedule) BadSchedule))))
+-- what a record says of itself, as far as 41 to 45 look: size is its payload's, and degrees their sum
+pub record Claims : Type 0 where
+  pub kind : ℕ
+  pub size : ℕ
+  pub checks : ℕ
+  pub mechanisms : ℕ
+  pub edges : ℕ
+  pub degrees : ℕ
+  pub legs : ℕ
+  pub schedule : ℕ
 
--- 41 to 45 of a whole record
+abbrev pub claims : ℕ → ℕ → ℕ → ℕ → ℕ → ℕ → ℕ → ℕ → Claims
+claims kind size checks mechanisms edges degrees legs schedule =
+    record {
+      kind = kind;
+      size = size;
+      checks = checks;
+      mechanisms = mechanisms;
+      edges = edges;
+      degrees = degrees;
+      legs = legs;
+      schedule = schedule;
+    }
+
+-- 41 to 45, one after the other
+unfoldable pub tested : Bool → Bool → Claims → Answer
+tested hasModel hasSettings x =
+    orElse (unless (kindGood (x .kind)) UnknownKind)
+    (orElse (unless (lengthGood (x .kind) (x .size) (x .mechanisms) (x .edges) (x .degrees)) PayloadLength)
+    (orElse (unless (timeGood (x .kind) hasModel hasSettings) ShotTooEarly)
+    (orElse (unless (roomGood (x .kind) (x .size) (x .checks) (x .mechanisms) (x .edges) (x .legs)) BeyondRoom)
+    (unless (scheduleGood (x .kind) (x .schedule)) BadSchedule))))
+
+-- what a whole record says
+abbrev pub claimsOf : ℕ → List ℕ → Claims
+claimsOf kind p = claims kind (length p) (checks p) (mechanisms p) (edges p) (degrees (mechanisms p) p) (legs p) (scheduleByte p)
+
+-- 41 to 45 of it
 unfoldable pub judge : Bool → Bool → ℕ → List ℕ → Answer
-judge hasModel hasSettings kind p =
-    tested hasModel hasSettings kind (length p) (checks p) (mechanisms p) (edges p) (degrees (mechanisms p) p) (legs p) (scheduleByte p)
+judge hasModel hasSettings kind p = tested hasModel hasSettings (claimsOf kind p)
 
 -- 40: bytes that are left over, from 1 on, are a cut record
 unfoldable pub leftOver : List ℕ → Answer

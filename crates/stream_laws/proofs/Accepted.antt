@@ -7,24 +7,25 @@ use borrow.Author.Tests.{leb-true, eqb-true}
 use Rattle.numbers.proofs.Cases.{and-both}
 use Rattle.refusals.specs.declared.Answer.the-variants.{Done}
 use Rattle.refusals.proofs.Tests.{or-done, unless-done}
-use Rattle.stream_grammar.specs.Stream.{countsFit, lengthGood, timeGood, roomGood, tested}
+use Rattle.stream_grammar.specs.Stream.{kindGood, countsFit, lengthGood, timeGood, roomGood, Claims, tested}
 
-module _ (hasModel hasSettings : Bool) (kind size checks mechanisms edges sum legs schedule : ℕ) where
-  -- 42, 43 and 44 hold
+module _ (hasModel hasSettings : Bool) (x : Claims) where
+  -- 41 to 44 hold
   pub record Passed : Type 0 where
-    pub size-good : lengthGood kind size mechanisms edges sum ≡ true
-    pub time-good : timeGood kind hasModel hasSettings ≡ true
-    pub room-good : roomGood kind size checks mechanisms edges legs ≡ true
+    pub kind-good : kindGood (x .kind) ≡ true
+    pub size-good : lengthGood (x .kind) (x .size) (x .mechanisms) (x .edges) (x .degrees) ≡ true
+    pub time-good : timeGood (x .kind) hasModel hasSettings ≡ true
+    pub room-good : roomGood (x .kind) (x .size) (x .checks) (x .mechanisms) (x .edges) (x .legs) ≡ true
 
   -- read off the tests
-  pub passed : tested hasModel hasSettings kind size checks mechanisms edges sum legs schedule ≡ Done → Passed
+  pub passed : tested hasModel hasSettings x ≡ Done → Passed
   unfolding tested
   passed e =
       let a = or-done _ _ e in
       let b = or-done _ _ (a .1) in
       let c = or-done _ _ (b .1) in
       let d = or-done _ _ (c .1) in
-      record { size-good = unless-done _ _ (b .0); time-good = unless-done _ _ (c .0); room-good = unless-done _ _ (d .0) }
+      record { kind-good = unless-done _ _ (a .0); size-good = unless-done _ _ (b .0); time-good = unless-done _ _ (c .0); room-good = unless-done _ _ (d .0) }
 
 -- a model within the room, as long as its counts say, whose degrees add up to its edges
 pub record ModelWithin (size checks mechanisms edges sum : ℕ) : Type 0 where

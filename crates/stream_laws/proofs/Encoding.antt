@@ -35,7 +35,7 @@ bytesOf-number (x ∷ xs) f =
     rw (m, d, bytesOf-number xs (λ i. f (suc i)))
 
 -- a number's bytes are bytes
-bytes-bytesOf : (n k : ℕ) → AreBytes (bytesOf n k)
+pub bytes-bytesOf : (n k : ℕ) → AreBytes (bytesOf n k)
 unfolding bytesOf
 bytes-bytesOf zero k i = omega arith
 bytes-bytesOf (suc n) k zero = omega arith

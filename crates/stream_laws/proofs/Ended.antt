@@ -13,10 +13,18 @@ use Rattle.stream_laws.proofs.Along.{endOf}
 use Rattle.stream_laws.proofs.Theorems.{offsetAfter}
 use Rattle.stream_session.specs.declared.Session.{Session}
 use Rattle.stream_session.specs.Shots.{Taken, reads, lastText, endText, textOf}
-use Rattle.stream_session.specs.Text.{recordSaid, recordsText}
 use Rattle.stream_session.proofs.Cases.{other}
-use Rattle.stream_laws.proofs.Recorded.{record-told}
+use Rattle.stream_laws.proofs.Recorded.{recordKept, record-told}
 use Rattle.stream_laws.proofs.Written.{metText}
+
+-- records from an offset on, with the lists that keep, until a refusal ends the run; then what is left over
+unfoldable pub keptText : List Rec → ℕ → List ℕ → Session → List ℕ → List ℕ → List ℕ
+keptText [] offset rest s model line = lastText (s .shots) offset (leftOver rest)
+keptText (r ∷ rs) offset rest s model line =
+    let t = recordKept s offset r model line in
+    textOf (t .now)
+    ++ cond (t .now .session .stopped) []
+    (keptText rs ((offset + (6 + length (r .payload))) % 2 ^ 64) rest (t .now .session) (t .model) (t .now .line))
 
 -- two ways to go on that are the same where the run does go on
 on : (b : Bool) (x y : List ℕ) → (b ≡ false → x ≡ y) → cond b [] x ≡ cond b [] y
@@ -29,13 +37,13 @@ pub met-told : (rs : List Rec) (rest : List ℕ) (offset : ℕ) (room : List ℕ
     → 5132 ≤ length room
     → s .stopped ≡ false
     → ((n : ℕ) → endOf (lastText n) final ≡ lastText n (offsetAfter rs offset) (leftOver rest))
-    → metText (toMeet rs offset room) final s model line ≡ recordsText rs offset rest s model line
-unfolding metText toMeet recordsText endText reads
+    → metText (toMeet rs offset room) final s model line ≡ keptText rs offset rest s model line
+unfolding metText toMeet keptText endText reads
 met-told [] rest offset room final s model line a l h e = other (s .stopped) _ _ h ∙ e (s .shots)
 met-told (r ∷ rs) rest offset room final s model line (more a others) l h e =
     let o = (offset + (6 + length (r .payload))) % 2 ^ 64 in
     let kept = payloadKept (r .payload) room in
-    let t = recordSaid s offset r model line in
+    let t = recordKept s offset r model line in
     ap
     (λ (t : Taken). textOf (t .now) ++ cond (t .now .session .stopped) [] (metText (toMeet rs o kept) final (t .now .session) (t .model) (t .now .line)))
     (record-told r a offset room l s model line)

@@ -80,8 +80,21 @@ unfolding added lengthSaid kindSaid checks mechanisms edges
 holding-more offset xs b f h s =
     let xs′ = xs ++ (b ∷ []) in
     let t : (length xs + 1) % 2 ^ 64 ≡ length xs′ = mod-eq-of-lt (omega arith) ∙ sym (length-append xs (b ∷ [])) in
-    rw
-    (t, field-grows 4 0 xs b (omega arith) f h, field-grows 2 4 xs b (omega arith) f h, sum-grows xs b f h, number-drop 4 0 6 xs, number-drop 4 4 6 xs, number-drop 4 8 6 xs, field-grows 4 6 xs b (omega arith) f h, field-grows 4 10 xs b (omega arith) f h, field-grows 4 14 xs b (omega arith) f h, number-drop 4 0 6 xs′, number-drop 4 4 6 xs′, number-drop 4 8 6 xs′)
+    rw (
+      t,
+      field-grows 4 0 xs b (omega arith) f h,
+      field-grows 2 4 xs b (omega arith) f h,
+      sum-grows xs b f h,
+      number-drop 4 0 6 xs,
+      number-drop 4 4 6 xs,
+      number-drop 4 8 6 xs,
+      field-grows 4 6 xs b (omega arith) f h,
+      field-grows 4 10 xs b (omega arith) f h,
+      field-grows 4 14 xs b (omega arith) f h,
+      number-drop 4 0 6 xs′,
+      number-drop 4 4 6 xs′,
+      number-drop 4 8 6 xs′,
+    )
 
 -- what is kept, one byte of the payload further
 pub kept-more : (p room : List ℕ) (b : ℕ) → set (payloadKept p room) (length p) b ≡ payloadKept (p ++ (b ∷ [])) room

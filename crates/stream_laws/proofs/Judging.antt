@@ -11,7 +11,7 @@ use Rattle.numbers.proofs.Cases.{equal-or-not}
 use Rattle.refusals.specs.declared.Answer.{Answer}
 use Rattle.refusals.specs.declared.Refusal.the-variants.{UnknownKind, PayloadLength}
 use Rattle.refusals.specs.Tests.{unless, orElse}
-use Rattle.stream_grammar.specs.Stream.{lengthSaid, kindSaid, checks, mechanisms, edges, degrees, legs, scheduleByte, kindGood, lengthGood, roomGood, scheduleGood, tested, judge}
+use Rattle.stream_grammar.specs.Stream.{lengthSaid, kindSaid, checks, mechanisms, edges, degrees, legs, scheduleByte, kindGood, lengthGood, roomGood, scheduleGood, claims, tested, judge}
 use Rattle.stream_reader.specs.Reading.{holding, payloadKept, verdict}
 use Rattle.stream_laws.proofs.Kept.{kept-number, kept-byte}
 
@@ -25,7 +25,8 @@ module _ (hasModel hasSettings : Bool) (kind : ℕ) (p room : List ℕ) (r : 49 
   -- 41 to 45 by what is kept
   abbrev byKept : Answer
   byKept =
-      tested hasModel hasSettings kind (length p) (checks p) (mechanisms p) (edges p) (degrees (mechanisms p) p) (legs (payloadKept p room)) (scheduleByte (payloadKept p room))
+      let q = payloadKept p room in
+      tested hasModel hasSettings (claims kind (length p) (checks p) (mechanisms p) (edges p) (degrees (mechanisms p) p) (legs q) (scheduleByte q))
 
   -- a model or a shot: neither legs nor schedule are looked at
   others : (kind ≡ 2 → ⊥) → byKept ≡ judge hasModel hasSettings kind p

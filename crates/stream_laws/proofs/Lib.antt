@@ -8,8 +8,11 @@ pub mod Kept
 pub mod Judging
 pub mod Accepted
 pub mod ReadBack
+pub mod Streamed
 pub mod Theorems
 pub mod Recorded
 pub mod Written
 pub mod Ended
+pub mod Accepting
+pub mod Refusing
 pub mod ShotsTheorems

@@ -17,7 +17,7 @@ use Rattle.refusals.specs.Refusal.{numberOf}
 use Rattle.relay_calls.specs.declared.Decoded.{Decoded}
 use Rattle.relay_calls.specs.declared.Decoded.the-variants as Decoded
 use Rattle.stream_reader.specs.declared.Reader.{Reader}
-use Rattle.stream_grammar.specs.Stream.{Rec, Sayable, lengthSaid, mechanisms, isOfShot, lengthGood, roomGood}
+use Rattle.stream_grammar.specs.Stream.{Rec, Sayable, lengthSaid, mechanisms, isOfShot, lengthGood, roomGood, judge}
 use Rattle.stream_reader.specs.Reading.{holding, payloadKept, verdict}
 use Rattle.stream_laws.proofs.Accepted.{passed, model-within}
 use Rattle.stream_laws.proofs.Kept.{kept-front}
@@ -27,7 +27,6 @@ use Rattle.stream_laws.proofs.Theorems.{judges}
 use Rattle.stream_table.specs.Table.{modelFault, settingsAnswer, shotDecoded}
 use Rattle.stream_session.specs.declared.Session.{Session}
 use Rattle.stream_session.specs.Shots.{Told, Taken, taken, stops, says, refuses, finds, answers, tells, shotTaken, goesOn, settingsTaken, modelTaken, kindTaken, recordJudged, recordTaken, reads}
-use Rattle.stream_session.specs.Text.{recordSaid}
 
 -- ---- the reader stays
 
@@ -89,7 +88,7 @@ record-stays s kept model line =
 -- ---- the payload finds room, where 41 to 45 let it through
 
 -- by its kind
-fits-room : (kind size c m e sum l : ℕ) → lengthGood kind size m e sum ≡ true → roomGood kind size c m e l ≡ true → size ≤ 5132
+pub fits-room : (kind size c m e sum l : ℕ) → lengthGood kind size m e sum ≡ true → roomGood kind size c m e l ≡ true → size ≤ 5132
 unfolding lengthGood roomGood
 fits-room kind size c m e sum l h k = ⊎-elim one (λ n. ⊎-elim (two n) (three n) (equal-or-not kind 2)) (equal-or-not kind 1)
   where
@@ -104,6 +103,16 @@ fits-room kind size c m e sum l h k = ⊎-elim one (λ n. ⊎-elim (two n) (thre
 
 -- ---- a record that is met
 
+-- a record at an offset: as the grammar and the table answer, with what was known before it and the lists that keep
+unfoldable pub recordKept : Session → ℕ → Rec → List ℕ → List ℕ → Taken
+recordKept s offset r model line =
+    recordJudged
+    (reads s (holding offset (encoded r)))
+    (judge (s .known .«has_model») (s .known .«has_settings») (r .kind) (r .payload))
+    (r .payload)
+    model
+    line
+
 -- a refused payload is not looked at
 same-payload : (s : Session) (a : Answer) (q p model line : List ℕ) → (a ≡ Done → q ≡ p) → recordJudged s a q model line ≡ recordJudged s a p model line
 same-payload s Done q p model line h = ap (λ x. kindTaken s x model line) (h refl)
@@ -115,14 +124,14 @@ module _ (r : Rec) (sayable : Sayable r) (offset : ℕ) (room : List ℕ) (large
       → take (lengthSaid (encoded r)) (payloadKept (r .payload) room) ≡ r .payload
   unfolding verdict
   kept-whole hasModel hasSettings d =
-      let p = passed hasModel hasSettings _ _ _ _ _ _ _ _ d in
+      let p = passed hasModel hasSettings _ d in
       let l = fits-room _ _ _ _ _ _ _ (p .size-good) (p .room-good) in
       let n = said r sayable offset room in
       rw (n, kept-front (r .payload) room (omega (arith, l, n, large))) (take-append-seam (r .payload) (drop (length (r .payload)) room))
 
   -- it is told as the grammar and the table say
-  pub record-told : (s : Session) (model line : List ℕ) → recordTaken (reads s (holding offset (encoded r))) (payloadKept (r .payload) room) model line ≡ recordSaid s offset r model line
-  unfolding recordTaken recordSaid reads
+  pub record-told : (s : Session) (model line : List ℕ) → recordTaken (reads s (holding offset (encoded r))) (payloadKept (r .payload) room) model line ≡ recordKept s offset r model line
+  unfolding recordTaken recordKept reads
   record-told s model line =
       same-payload _ _ _ _ model line (kept-whole (s .known .«has_model») (s .known .«has_settings»))
       ∙ ap (λ a. recordJudged (reads s (holding offset (encoded r))) a (r .payload) model line) (judges (s .known .«has_model») (s .known .«has_settings») r offset room sayable (omega (arith, large)))

@@ -1,47 +1,84 @@
 -- What a reader may rely on of `shots`: what its session says, byte by byte, is what the grammar and the table say of the records, on every input. Assumes nothing.
 use Prim.Native.Nat.{ℕ, _≤_}
 use mathlib.Core.Path.{_≡_, refl, sym, ap, _∙_}
-use mathlib.Core.Bool.{false}
-use mathlib.Core.List.{List, _++_}
-use lib.ListN.{length, take, drop}
-use lib.Seq.{take-append-seam}
-use Rattle.stream_grammar.specs.Stream.{AreBytes, Rec, AllSayable, stream, isComplete}
+use mathlib.Core.Bool.{Bool, true, false, false≢true}
+use mathlib.Core.List.{List, [], _∷_, _++_, append-assoc, foldl-append}
+use mathlib.Core.Option.{some}
+use lib.ListN.{length, take}
+use Rattle.refusals.specs.declared.Refusal.{Refusal}
+use Rattle.refusals.specs.declared.Answer.the-variants.{Done}
+use Rattle.refusals.specs.Refusal.{numberOf}
+use Rattle.relay_calls.specs.declared.Decoded.the-variants as Decoded
+use Rattle.stream_grammar.specs.Stream.{AreBytes, Rec, AllSayable, stream, isComplete, judge, isOfShot}
 use Rattle.stream_reader.specs.Reading.{fresh, held, fed, payloadKept}
+use Rattle.stream_table.specs.Table.{modelFault, settingsAnswer}
 use Rattle.stream_session.specs.declared.Session.{Session}
-use Rattle.stream_session.specs.Shots.{Left, startSession, byteTaken, lastText, endText, sessionText}
-use Rattle.stream_session.specs.Text.{recordsText}
-use Rattle.stream_laws.proofs.Kept.{kept-front}
-use Rattle.stream_laws.proofs.Theorems.{Apart, told-apart, meets, ends-at}
+use Rattle.stream_session.specs.Shots.{Left, startSession, byteTaken, lastText, endText, textOf, sessionText}
+use Rattle.stream_session.specs.Pieces.{nextByte, pieceTaken, pieceText, restText}
+use Rattle.stream_session.specs.Text.{nothingHeard, decodeOf, recordsText}
+use Rattle.stream_laws.proofs.Theorems.{Apart, told-apart, meets, ends-at, settings-let-through}
 use Rattle.stream_laws.proofs.Written.{metText, written-met}
 use Rattle.stream_laws.proofs.Ended.{met-told}
+use Rattle.stream_laws.proofs.Accepting.{kept-model, kept-said}
+use Rattle.stream_laws.proofs.Refusing.{shot-refused}
 
--- "`shots` reads standard input": of records and what is left over it writes what the grammar and the table say, with each refusal's number and offset, where a payload of
--- 5,132 bytes can be kept, the longest within the room
-pub writes : (rs : List Rec) (rest room model line : List ℕ) → AllSayable rs → AreBytes rest → isComplete rest ≡ false → 5132 ≤ length room
-    → sessionText (stream rs ++ rest) startSession room model line ≡ recordsText rs 0 rest startSession model line
-writes rs rest room model line s f c l =
+-- "`shots` reads standard input": of records and what is left over it writes what the grammar and the table say, with each refusal's number and offset, each shot over the
+-- very payloads of the last model and the last settings accepted, where the lists that keep a payload and a model have 5,132 bytes, the longest within the room
+pub writes : (rs : List Rec) (rest room model line : List ℕ) → AllSayable rs → AreBytes rest → isComplete rest ≡ false → 5132 ≤ length room → 5132 ≤ length model
+    → sessionText (stream rs ++ rest) startSession room model line ≡ recordsText rs 0 rest (some nothingHeard)
+writes rs rest room model line s f c l m =
     let final = fed (stream rs ++ rest) (held (fresh 0) room) .reader in
     written-met (stream rs ++ rest) startSession room model line refl
     ∙ ap (λ hs. metText hs final startSession model line) (meets rs rest 0 room s f c)
     ∙ met-told rs rest 0 room final startSession model line s l refl (λ n. ends-at (lastText n) (λ a b. refl) rs rest 0 room s f c)
+    ∙ kept-said rs 0 rest startSession model line nothingHeard s
+    (record {
+      goes = refl;
+      number = refl;
+      modelThere = refl;
+      settingsThere = refl;
+      modelKept = λ e. absurd (false≢true e);
+      settingsKept = λ e. absurd (false≢true e);
+      room = m;
+    })
 
 -- every input is such a stream
 pub record Written (xs room model line : List ℕ) : Type 0 where
   pub parts : Apart xs
-  pub text : sessionText xs startSession room model line ≡ recordsText (parts .records) 0 (parts .rest) startSession model line
+  pub text : sessionText xs startSession room model line ≡ recordsText (parts .records) 0 (parts .rest) (some nothingHeard)
 
 -- and what is written of it
-pub every-input : (xs room model line : List ℕ) → AreBytes xs → 5132 ≤ length room → Written xs room model line
-every-input xs room model line f l =
+pub every-input : (xs room model line : List ℕ) → AreBytes xs → 5132 ≤ length room → 5132 ≤ length model → Written xs room model line
+every-input xs room model line f l m =
     let t = told-apart xs f in
     record {
       parts = t;
-      text = ap (λ ys. sessionText ys startSession room model line) (t .same) ∙ writes (t .records) (t .rest) room model line (t .sayable) (t .bytes) (t .cut) l;
+      text = ap (λ ys. sessionText ys startSession room model line) (t .same) ∙ writes (t .records) (t .rest) room model line (t .sayable) (t .bytes) (t .cut) l m;
     }
+
+-- "in pieces of any size": the text of two pieces is what is said while the first is taken, and then the text of the second from what the first leaves
+pub pieces-text : (xs ys : List ℕ) (l : Left) → restText (xs ++ ys) l ≡ pieceText xs l ++ restText ys (pieceTaken xs l)
+unfolding sessionText pieceText pieceTaken
+pieces-text [] ys l = refl
+pieces-text (x ∷ xs) ys l =
+    let n = nextByte l x in
+    ap (λ (zs : List ℕ). textOf (n .taken .now) ++ zs) (pieces-text xs ys n) ∙ sym (append-assoc (textOf (n .taken .now)) (pieceText xs n) (restText ys (pieceTaken xs n)))
+
+-- and two pieces leave what the second leaves behind the first
+pub pieces-left : (xs ys : List ℕ) (l : Left) → pieceTaken (xs ++ ys) l ≡ pieceTaken ys (pieceTaken xs l)
+unfolding pieceTaken
+pieces-left xs ys l = foldl-append nextByte l xs ys
 
 -- "Later models and settings replace earlier ones": a model that finds room is kept whole, so the shots behind it are decoded over its very payload
 pub keeps-the-model : (p model : List ℕ) → length p ≤ length model → take (length p) (payloadKept p model) ≡ p
-keeps-the-model p model h = rw (kept-front p model h) (take-append-seam p (drop (length p) model))
+keeps-the-model = kept-model
+
+-- "Then a model by 1 to 6, settings by 10 to 16, a shot by 20, 21 and 30": over a model and settings that were accepted a shot is refused with 20, 21 or 30 alone, so no shot
+-- ends a run past 41 to 45
+pub shot-refusals : (hasModel hasSettings : Bool) (model settings p : List ℕ) (r : Refusal) → modelFault model ≡ Done
+    → judge hasModel hasSettings 2 settings ≡ Done → settingsAnswer settings ≡ Done → decodeOf model settings p .answer ≡ Decoded.Refused r → isOfShot (numberOf r) ≡ true
+unfolding decodeOf
+shot-refusals hasModel hasSettings model settings p r m j s e = shot-refused model settings p r m s (settings-let-through hasModel hasSettings settings j .1) e
 
 -- ---- two results that a contract allows coincide
 

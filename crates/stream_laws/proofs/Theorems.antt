@@ -1,17 +1,17 @@
 -- What a reader of this crate may rely on: the grammar tells every stream apart into records and what is left over; the reader meets those records, at their
 -- offsets, whatever the pieces, and judges each as the grammar does; and what is encoded is read back. Assumes nothing.
 use mathlib.Core.Path.{_≡_, refl, sym, ap, _∙_}
-use mathlib.Core.Bool.{Bool, true, false}
+use mathlib.Core.Bool.{Bool, true, false, true≢false}
 use mathlib.Core.List.{List, [], _∷_, _++_, foldl-append, append-assoc, append-nil}
 use mathlib.Core.Logic.{⊎-elim}
 use Prim.Native.Nat.{ℕ, zero, suc, _+_, _-_, _%_, _^_, _<_, _≤_}
 use native.Mathlib.Nat.{mod-eq-of-lt}
 use native.Mathlib.Omega.{arith}
-use lib.ListN.{length, take, drop, length-drop}
-use lib.Seq.{length-take-le}
-use borrow.Author.Tests.{leb-true, leb-false, eqb-true, ne-eqb}
+use lib.ListN.{length, getD, take, drop, length-append, length-drop}
+use lib.Seq.{length-take-le, take-at, drop-at}
+use borrow.Author.Tests.{leb-true, leb-false, le-leb, eqb-true, ne-eqb}
 use Rattle.numbers.proofs.Cases.{either, and-both}
-use Rattle.stream_grammar.specs.Stream.{seed, syndrome, AreBytes, Rec, rec, Sayable, AllSayable, none, more, encode, stream, lengthSaid, kindSaid, isComplete, checks, mechanisms, edges, degrees, legs, lengthGood, timeGood, roomGood, judge, leftOver, isOfShot}
+use Rattle.stream_grammar.specs.Stream.{seed, syndrome, AreBytes, number, numberAt, Rec, rec, Sayable, AllSayable, none, more, encode, stream, lengthSaid, kindSaid, isComplete, checks, mechanisms, edges, degrees, legs, lengthGood, timeGood, roomGood, claimsOf, judge, leftOver, isOfShot}
 use Rattle.refusals.specs.declared.Answer.{Answer}
 use Rattle.refusals.specs.declared.Answer.the-variants.{Done}
 use Rattle.relay_settings.specs.declared.Settings.{Settings}
@@ -20,11 +20,12 @@ use Rattle.stream_grammar.specs.declared.Counts.{Counts}
 use Rattle.stream_grammar.specs.Fields.{offset, countsRead, ModelLists, modelRead, settingsRead}
 use Rattle.stream_reader.specs.Reading.{fresh, holding, isWhole, opened, payloadKept, Held, held, pushed, fed, met, toMeet, verdict, atEnd}
 use Rattle.stream_grammar.proofs.Bytes.{bytes-take, bytes-drop, number-bound}
-use Rattle.stream_laws.proofs.Encoding.{encoded, length-said, kind-said, payload-said, complete-is}
+use Rattle.stream_laws.proofs.Encoding.{encoded, length-said, kind-said, payload-said, length-encode, complete-is}
 use Rattle.stream_laws.proofs.Whole.{read-all}
 use Rattle.stream_grammar.specs.Payloads.{encodeShot, SettingsFields, encodeSettings, Mechanism, encodeModel}
 use Rattle.stream_laws.proofs.Judging.{judged}
 use Rattle.stream_laws.proofs.ReadBack.{shot-seed, shot-syndrome, SettingsFit, SettingsRead, settings-read, ModelFit, ModelRead, model-read}
+use Rattle.stream_laws.proofs.Streamed.{model-judged, model-fits, GoodModel, settings-judged, GoodSettings, ShotFields, noShot, GoodShot, shotPayload, shot-judged, allRecords, all-sayable}
 use Rattle.stream_laws.proofs.Along.{met-append, met-cut, met-then, endOf, end-then, follows, to-its-end}
 use Rattle.stream_laws.proofs.Degrees.{degrees-rise}
 use Rattle.stream_laws.proofs.Accepted.{passed, ModelWithin, model-within}
@@ -58,6 +59,31 @@ pub shot-back : (s : ℕ) (ys : List ℕ) → s < 2 ^ 64 → (seed (encodeShot s
 shot-back s ys h = (shot-seed s ys h, shot-syndrome s ys)
 
 -- ---- every input is records, and what is left over
+
+-- bytes that begin with a record's are complete
+begins : (r : Rec) (ys : List ℕ) → Sayable r → (xs : List ℕ) → xs ≡ encoded r ++ ys → isComplete xs ≡ true
+unfolding isComplete
+begins r ys y xs e =
+    let n : lengthSaid xs ≡ length (r .payload) = ap lengthSaid e ∙ length-said (r .kind) (r .payload) ys (y .size) in
+    let l : length xs ≡ (6 + length (r .payload)) + length ys = ap length e ∙ length-append (encoded r) ys ∙ ap (λ k. k + length ys) (length-encode (r .kind) (r .payload)) in
+    le-leb (6 + lengthSaid xs) (length xs) (omega (arith, n, l))
+
+-- two records that begin the same bytes are one, and so is what follows
+same-first : (r r′ : Rec) → Sayable r → Sayable r′ → (ys ys′ : List ℕ) → encoded r ++ ys ≡ encoded r′ ++ ys′ → (r ≡ r′) × (ys ≡ ys′)
+same-first r r′ y z ys ys′ e =
+    let p = r .payload in
+    let p′ = r′ .payload in
+    let k : r .kind ≡ r′ .kind = sym (kind-said (r .kind) p ys (y .kind)) ∙ ap kindSaid e ∙ kind-said (r′ .kind) p′ ys′ (z .kind) in
+    let n : length p ≡ length p′ = sym (length-said (r .kind) p ys (y .size)) ∙ ap lengthSaid e ∙ length-said (r′ .kind) p′ ys′ (z .size) in
+    let b : p ++ ys ≡ p′ ++ ys′ = sym (payload-said (r .kind) p ys) ∙ ap (drop 6) e ∙ payload-said (r′ .kind) p′ ys′ in
+    let q : p ≡ p′ = sym (take-at p ys (length p) refl) ∙ ap (take (length p)) b ∙ take-at p′ ys′ (length p) (sym n) in
+    let t : ys ≡ ys′ = sym (drop-at p ys (length p) refl) ∙ ap (drop (length p)) b ∙ drop-at p′ ys′ (length p) (sym n) in
+    (ap (λ (i : ℕ). rec i p) k ∙ ap (λ (x : List ℕ). rec (r′ .kind) x) q, t)
+
+-- no bytes are no whole record
+nothing-cut : isComplete [] ≡ false
+unfolding isComplete lengthSaid numberAt number
+nothing-cut = refl
 
 -- bytes that begin with no whole record lie within one
 within : (xs : List ℕ) → isComplete xs ≡ false → length xs ≤ 6 + lengthSaid xs
@@ -120,6 +146,22 @@ told-apart xs f = go (suc (length xs)) xs f (omega arith)
         (λ (c : isComplete ys ≡ false). nothing ys g c)
         (either (isComplete ys))
 
+-- only so: two ways to tell bytes apart into such records and such a rest are one
+apart-once : (rs rs′ : List Rec) (rest rest′ : List ℕ) → AllSayable rs → AllSayable rs′ → isComplete rest ≡ false → isComplete rest′ ≡ false
+    → stream rs ++ rest ≡ stream rs′ ++ rest′ → (rs ≡ rs′) × (rest ≡ rest′)
+unfolding stream
+apart-once [] [] rest rest′ s t c d e = (refl, e)
+apart-once [] (r ∷ rs) rest rest′ s (more y t) c d e = absurd (true≢false (sym (begins r (stream rs ++ rest′) y rest (e ∙ append-assoc (encoded r) (stream rs) rest′)) ∙ c))
+apart-once (r ∷ rs) [] rest rest′ (more y s) t c d e = absurd (true≢false (sym (begins r (stream rs ++ rest) y rest′ (sym e ∙ append-assoc (encoded r) (stream rs) rest)) ∙ d))
+apart-once (r ∷ rs) (r′ ∷ rs′) rest rest′ (more y s) (more z t) c d e =
+    let w = same-first r r′ y z (stream rs ++ rest) (stream rs′ ++ rest′) (sym (append-assoc (encoded r) (stream rs) rest) ∙ e ∙ append-assoc (encoded r′) (stream rs′) rest′) in
+    let v = apart-once rs rs′ rest rest′ s t c d (w .1) in
+    (ap (λ (q : Rec). q ∷ rs) (w .0) ∙ ap (λ (qs : List Rec). r′ ∷ qs) (v .0), v .1)
+
+-- so bytes that are records, one after the other, are told apart into those
+pub told-apart-once : (rs : List Rec) → AllSayable rs → (t : Apart (stream rs)) → (t .records ≡ rs) × (t .rest ≡ [])
+told-apart-once rs s t = apart-once (t .records) rs (t .rest) [] (t .sayable) s (t .cut) nothing-cut (sym (t .same) ∙ sym (append-nil (stream rs)))
+
 -- ---- the reader
 
 -- judging in pieces equals judging whole: what is held after two pieces, and the records met in them
@@ -173,24 +215,57 @@ judges hasModel hasSettings r offset room s h =
     judged hasModel hasSettings offset xs room (to-its-end r s offset room) h in
     ap (λ q. verdict hasModel hasSettings (holding offset xs) (payloadKept q room)) (sym p) ∙ j ∙ ap (λ q. judge hasModel hasSettings (kindSaid xs) q) p ∙ ap (λ q. judge hasModel hasSettings q (r .payload)) k
 
+-- ---- what is encoded and streamed comes back
+
+-- "All numbers are little-endian. A record is ..": a model, settings and shots within the room, encoded and streamed, are records that a stream can hold; the stream is
+-- told apart into them alone, and the reader meets them and nothing else; 41 to 45 let each through in turn; and their fields are those encoded, floats by their bits
+pub record StreamedBack (c : ℕ) (ms : List Mechanism) (ds : List ℕ) (s : SettingsFields) (xs : List ShotFields) : Type 0 where
+  pub sayable : AllSayable (allRecords c ms ds s xs)
+  pub apart : (t : Apart (stream (allRecords c ms ds s xs))) → (t .records ≡ allRecords c ms ds s xs) × (t .rest ≡ [])
+  pub met : (room : List ℕ) → met (stream (allRecords c ms ds s xs)) (held (fresh 0) room) ≡ toMeet (allRecords c ms ds s xs) 0 room
+  pub modelGood : judge false false 1 (encodeModel c ms ds) ≡ Done
+  pub settingsGood : judge true false 2 (encodeSettings s) ≡ Done
+  pub shotsGood : (i : ℕ) → i < length xs → judge true true 3 (shotPayload (getD xs i noShot)) ≡ Done
+  pub modelBack : ModelRead c ms ds (encodeModel c ms ds)
+  pub settingsBack : SettingsRead s (encodeSettings s)
+  pub shotsBack : (i : ℕ) → i < length xs
+      → (seed (shotPayload (getD xs i noShot)) ≡ getD xs i noShot .seed) × (syndrome (shotPayload (getD xs i noShot)) ≡ getD xs i noShot .syndrome)
+
+pub streamed-back : (c : ℕ) (ms : List Mechanism) (ds : List ℕ) (s : SettingsFields) (xs : List ShotFields) → GoodModel c ms ds → GoodSettings s
+    → ((i : ℕ) → i < length xs → GoodShot (getD xs i noShot)) → StreamedBack c ms ds s xs
+streamed-back c ms ds s xs m t f =
+    let rs = allRecords c ms ds s xs in
+    let a = all-sayable c ms ds s xs m t f in
+    record {
+      sayable = a;
+      apart = told-apart-once rs a;
+      met = λ room. ap (λ ys. met ys (held (fresh 0) room)) (sym (append-nil (stream rs))) ∙ meets rs [] 0 room a (λ i. omega arith) nothing-cut;
+      modelGood = model-judged c ms ds m false false;
+      settingsGood = settings-judged s t true false;
+      shotsGood = λ i h. shot-judged (getD xs i noShot) (f i h);
+      modelBack = model-back c ms ds (model-fits c ms ds m);
+      settingsBack = settings-back s (t .fit);
+      shotsBack = λ i h. shot-back (getD xs i noShot .seed) (getD xs i noShot .syndrome) (f i h .seedFits);
+    }
+
 -- ---- what 41 to 45 let through is within the room
 
 module _ (hasModel hasSettings : Bool) (p : List ℕ) where
   -- a model has at most 128 checks, 256 mechanisms and 512 edges, is as long as its counts say, and its degrees add up to its edges
   pub model-let-through : judge hasModel hasSettings 1 p ≡ Done → ModelWithin (length p) (checks p) (mechanisms p) (edges p) (degrees (mechanisms p) p)
   unfolding judge
-  model-let-through d = let t = passed hasModel hasSettings 1 _ _ _ _ _ _ _ d in model-within _ _ _ _ _ _ (t .size-good) (t .room-good)
+  model-let-through d = let t = passed hasModel hasSettings (claimsOf 1 p) d in model-within _ _ _ _ _ _ (t .size-good) (t .room-good)
 
   -- settings have 49 bytes and at most 16 relayed legs
   pub settings-let-through : judge hasModel hasSettings 2 p ≡ Done → (length p ≡ 49) × (legs p ≤ 16)
   unfolding judge lengthGood roomGood
-  settings-let-through d = let t = passed hasModel hasSettings 2 _ _ _ _ _ _ _ d in (eqb-true (length p) 49 (t .size-good), leb-true (legs p) 16 (t .room-good))
+  settings-let-through d = let t = passed hasModel hasSettings (claimsOf 2 p) d in (eqb-true (length p) 49 (t .size-good), leb-true (legs p) 16 (t .room-good))
 
   -- a shot has a seed, at most 128 bytes of a syndrome, and a model and settings before it
   pub shot-let-through : judge hasModel hasSettings 3 p ≡ Done → (8 ≤ length p) × (length p ≤ 136) × (hasModel ≡ true) × (hasSettings ≡ true)
   unfolding judge lengthGood timeGood roomGood
   shot-let-through d =
-      let t = passed hasModel hasSettings 3 _ _ _ _ _ _ _ d in
+      let t = passed hasModel hasSettings (claimsOf 3 p) d in
       let b = and-both hasModel hasSettings (t .time-good) in
       (leb-true 8 (length p) (t .size-good), leb-true (length p) 136 (t .room-good), b .0, b .1)
 

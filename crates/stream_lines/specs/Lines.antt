@@ -15,6 +15,10 @@ digits (suc k) n = cond (ltb n 10) ((48 + n) ∷ []) (digits k (n / 10) ++ ((48 
 unfoldable pub decimal : ℕ → List ℕ
 decimal n = digits 20 n
 
+-- a number behind a word
+abbrev pub numbered : List ℕ → ℕ → List ℕ
+numbered word n = word ++ decimal n
+
 -- `shot `
 abbrev pub shotWord : List ℕ
 shotWord = 115 ∷ 104 ∷ 111 ∷ 116 ∷ 32 ∷ []
@@ -55,19 +59,23 @@ bitsAfter (b ∷ bs) = space ++ map bitDigit (b ∷ bs)
 -- a shot that was decoded: its number, converged or not, total iterations, legs, bits
 unfoldable pub shotLine : ℕ → Bool → ℕ → ℕ → List ℕ → List ℕ
 shotLine n converged total legs bits =
-    ((((((((shotWord ++ decimal n) ++ space) ++ decimal (flag converged)) ++ space) ++ decimal total) ++ space) ++ decimal legs) ++ bitsAfter bits) ++ newline
+    ((((numbered shotWord n ++ numbered space (flag converged)) ++ numbered space total) ++ numbered space legs) ++ bitsAfter bits) ++ newline
+
+-- a line of two words, each with a number behind it
+unfoldable pub numbersLine : List ℕ → ℕ → List ℕ → ℕ → List ℕ
+numbersLine v a w b = (numbered v a ++ numbered w b) ++ newline
 
 -- a shot that was refused, with 20, 21 or 30
 unfoldable pub refusedLine : ℕ → ℕ → List ℕ
-refusedLine n code = (((shotWord ++ decimal n) ++ refusedWord) ++ decimal code) ++ newline
+refusedLine n code = numbersLine shotWord n refusedWord code
 
 -- a refusal that ends the run: its number, and the offset of the record
 unfoldable pub stoppedLine : ℕ → ℕ → List ℕ
-stoppedLine code offset = (((stoppedWord ++ decimal code) ++ space) ++ decimal offset) ++ newline
+stoppedLine code offset = numbersLine stoppedWord code space offset
 
 -- the end of a run without one: how many shots there were
 unfoldable pub endLine : ℕ → List ℕ
-endLine shots = (endWord ++ decimal shots) ++ newline
+endLine shots = numbered endWord shots ++ newline
 
 -- the line, or nothing where there are more bits than the room has mechanisms, 256
 unfoldable pub unlessTooLong : List ℕ → List ℕ → List ℕ

@@ -5,8 +5,8 @@ ghost use Prim.Native.Nat.{_+_, _<_, _≤_};
 ghost use lib.ListN.{length};
 ghost use Rattle.numbers.specs.Loops.{over};
 ghost use Rattle.stream_lines.specs.Writing.{Put};
-ghost use Rattle.stream_lines.specs.Lines.{digits, decimal, flag as flagOf, bitDigit, bitsAfter, shotLine, refusedLine, stoppedLine};
-ghost use Rattle.stream_lines.specs.Lines.{endLine, unlessTooLong};
+ghost use Rattle.stream_lines.specs.Lines.{digits, decimal, numbered, flag as flagOf, bitDigit, bitsAfter, shotLine};
+ghost use Rattle.stream_lines.specs.Lines.{numbersLine, refusedLine, stoppedLine, endLine, unlessTooLong};
 use numbers::limits::ROOM_LINE;
 use numbers::limits::ROOM_MECHANISMS;
 
@@ -110,6 +110,16 @@ fn flag(b: bool) -> usize
     0
 }
 
+// Writes a word and a number.
+fn put_numbered(word: &[u8], n: usize, out: &mut [u8], at: usize) -> usize
+    requires { ⌜ at + (length (now word) + 20) ≤ length (now out) ⌝ }
+    ensures { λ r. ⌜
+        (r ≤ at + (length (now (word .entry)) + 20)) × Put (numbered (now (word .entry)) n) (now (out .entry)) at (now (out .exit)) r ⌝ }
+{
+    let next = put_word(word, out, at);
+    put_decimal(n, out, next)
+}
+
 // A shot that was decoded. More than 256 bits are no line: nothing is said.
 pub fn shot_line(
     number: usize,
@@ -127,45 +137,44 @@ pub fn shot_line(
     if ROOM_MECHANISMS < bits.len() {
         return 0;
     }
-    let a = put_word(b"shot ", out, 0);
-    let b = put_decimal(number, out, a);
-    let c = put_word(b" ", out, b);
-    let d = put_decimal(flag(converged), out, c);
-    let e = put_word(b" ", out, d);
-    let f = put_decimal(total, out, e);
-    let g = put_word(b" ", out, f);
-    let h = put_decimal(legs, out, g);
-    let i = put_after(bits, out, h);
-    put_word(b"\n", out, i)
+    let a = put_numbered(b"shot ", number, out, 0);
+    let b = put_numbered(b" ", flag(converged), out, a);
+    let c = put_numbered(b" ", total, out, b);
+    let d = put_numbered(b" ", legs, out, c);
+    let e = put_after(bits, out, d);
+    put_word(b"\n", out, e)
+}
+
+// A line of two words, each with a number behind it.
+fn numbers_line(first: &[u8], a: usize, second: &[u8], b: usize, out: &mut [u8; ROOM_LINE]) -> usize
+    requires { ⌜ length (now first) + length (now second) ≤ 64 ⌝ }
+    ensures { λ r. ⌜
+        (r ≡ length (numbersLine (now (first .entry)) a (now (second .entry)) b))
+        × (now (out .exit) ≡ over (numbersLine (now (first .entry)) a (now (second .entry)) b) (now (out .entry))) ⌝ }
+{
+    let x = put_numbered(first, a, out, 0);
+    let y = put_numbered(second, b, out, x);
+    put_word(b"\n", out, y)
 }
 
 // A shot that was refused.
 pub fn refused_line(number: usize, code: usize, out: &mut [u8; ROOM_LINE]) -> usize
     ensures { λ r. ⌜ (r ≡ length (refusedLine number code)) × (now (out .exit) ≡ over (refusedLine number code) (now (out .entry))) ⌝ }
 {
-    let a = put_word(b"shot ", out, 0);
-    let b = put_decimal(number, out, a);
-    let c = put_word(b" refused ", out, b);
-    let d = put_decimal(code, out, c);
-    put_word(b"\n", out, d)
+    numbers_line(b"shot ", number, b" refused ", code, out)
 }
 
 // A refusal that ends the run.
 pub fn stopped_line(code: usize, offset: usize, out: &mut [u8; ROOM_LINE]) -> usize
     ensures { λ r. ⌜ (r ≡ length (stoppedLine code offset)) × (now (out .exit) ≡ over (stoppedLine code offset) (now (out .entry))) ⌝ }
 {
-    let a = put_word(b"stopped ", out, 0);
-    let b = put_decimal(code, out, a);
-    let c = put_word(b" ", out, b);
-    let d = put_decimal(offset, out, c);
-    put_word(b"\n", out, d)
+    numbers_line(b"stopped ", code, b" ", offset, out)
 }
 
 // The end of a run without one.
 pub fn end_line(shots: usize, out: &mut [u8; ROOM_LINE]) -> usize
     ensures { λ r. ⌜ (r ≡ length (endLine shots)) × (now (out .exit) ≡ over (endLine shots) (now (out .entry))) ⌝ }
 {
-    let a = put_word(b"end ", out, 0);
-    let b = put_decimal(shots, out, a);
-    put_word(b"\n", out, b)
+    let a = put_numbered(b"end ", shots, out, 0);
+    put_word(b"\n", out, a)
 }

@@ -9,7 +9,7 @@ use Rattle.refusals.specs.declared.Refusal.the-variants.{CutRecord}
 use Rattle.refusals.specs.declared.Answer.{Answer}
 use Rattle.refusals.specs.Tests.{unless}
 use Rattle.stream_reader.specs.declared.Reader.{Reader}
-use Rattle.stream_grammar.specs.Stream.{Rec, encode, lengthSaid, kindSaid, checks, mechanisms, edges, degrees, legs, scheduleByte, tested}
+use Rattle.stream_grammar.specs.Stream.{Rec, encode, lengthSaid, kindSaid, checks, mechanisms, edges, degrees, legs, scheduleByte, claims, tested}
 
 -- a reader before the first byte of the record at an offset
 abbrev pub fresh : ℕ → Reader
@@ -99,7 +99,8 @@ toMeet (r ∷ rs) offset room =
 -- 41 to 45 of a record that has been read to its end
 unfoldable pub verdict : Bool → Bool → Reader → List ℕ → Answer
 verdict hasModel hasSettings r kept =
-    tested hasModel hasSettings (r .kind) (r .length) (r .checks) (r .mechanisms) (r .edges) (r .degrees) (legs kept) (scheduleByte kept)
+    tested hasModel hasSettings
+    (claims (r .kind) (r .length) (r .checks) (r .mechanisms) (r .edges) (r .degrees) (legs kept) (scheduleByte kept))
 
 -- at the end of the input: 40, unless it ends with a whole record or holds nothing
 unfoldable pub atEnd : Reader → Answer

@@ -1,3 +1,4 @@
 -- The definitions that the contracts of this crate and of those above it cite.
 pub mod Shots
+pub mod Pieces
 pub mod Text

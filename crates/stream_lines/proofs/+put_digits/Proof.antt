@@ -74,7 +74,12 @@ put-digits-returns-2 : (t : ℕ) → put-digits-lts.Need-returns-2 (
   put-digits-below t,
   put-digits.Post,
 ) (put-digits-at t) put-digits.Post
-put-digits-returns-2 t c = (omega (arith, pos-of-ne-zero (c .before .before .before .before .before .before .if1 .left), c .before .before .put .ensures .0), retext _ _ _ _ _ _ (digits-one _ _ _ (c .before .before .before .before .before .before .if1 .left) (c .before .before .before .before .before .if2 .taken) (c .before .before .before .before .digit .ensures)) (c .before .before .put .ensures .1))
+put-digits-returns-2 t c =
+    let small = c .before .before .before .before .before in
+    let some = small .before in (
+      omega (arith, pos-of-ne-zero (some .if1 .left), c .before .before .put .ensures .0),
+      retext _ _ _ _ _ _ (digits-one _ _ _ (some .if1 .left) (small .if2 .taken) (c .before .before .before .before .digit .ensures)) (c .before .before .put .ensures .1),
+    )
 
 put-digits-sub-put-digits : (t : ℕ) → put-digits-lts.Need-sub-put-digits (
   digit-reads.Asked,
@@ -116,7 +121,8 @@ put-digits-put-requires-2 : (t : ℕ) → put-digits-lts.Need-put-requires-2 (
   put-digits.Post,
 ) (put-digits-at t) put-digits.Post
 put-digits-put-requires-2 t c κs =
-    omega (arith, pos-of-ne-zero (c .before .before .before .before .before .before .before .if1 .left), c .before .before .before .before .before .before .before .before .before .pre .1, c .before .before .before .before .put-digits .ensures .0, c .before .before .before .before .put-digits .kept .1 .1 .0)
+    let tenth = c .before .before .before .before in
+    omega (arith, pos-of-ne-zero (c .before .before .before .before .before .before .before .if1 .left), c .before .before .before .before .before .before .before .before .before .pre .1, tenth .put-digits .ensures .0, tenth .put-digits .kept .1 .1 .0)
 
 put-digits-same-length-2 : (t : ℕ) → put-digits-lts.Need-same-length-2 (
   digit-reads.Asked,
@@ -136,7 +142,14 @@ put-digits-returns-3 : (t : ℕ) → put-digits-lts.Need-returns-3 (
   put-digits-below t,
   put-digits.Post,
 ) (put-digits-at t) put-digits.Post
-put-digits-returns-3 t c = (omega (arith, pos-of-ne-zero (c .before .before .before .before .before .before .before .before .before .before .if1 .left), c .before .before .put2 .ensures .0, c .before .before .before .before .before .before .before .put-digits .ensures .0), retext _ _ _ _ _ _ (digits-last _ _ _ (c .before .before .before .before .before .before .before .before .before .before .if1 .left) (c .before .before .before .before .before .before .before .before .before .if2 .left) (c .before .before .before .before .digit2 .ensures)) (then _ _ _ _ _ _ _ _ (c .before .before .before .before .before .before .before .put-digits .ensures .1) (c .before .before .put2 .ensures .1)))
+put-digits-returns-3 t c =
+    let tenth = c .before .before .before .before .before .before .before in
+    let large = tenth .before .before in
+    let some = large .before in (
+      omega (arith, pos-of-ne-zero (some .if1 .left), c .before .before .put2 .ensures .0, tenth .put-digits .ensures .0),
+      retext _ _ _ _ _ _ (digits-last _ _ _ (some .if1 .left) (large .if2 .left) (c .before .before .before .before .digit2 .ensures))
+          (then _ _ _ _ _ _ _ _ (tenth .put-digits .ensures .1) (c .before .before .put2 .ensures .1)),
+    )
 
 pub +put-digits-spec : {M : Type 1} → statement M
 +put-digits-spec = close μ-put-digits λ t. put-digits-lts.spec (

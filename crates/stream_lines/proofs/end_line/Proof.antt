@@ -1,11 +1,16 @@
--- `stream_lines::end_line` meets its contract. Part by part.
--- Assumes nothing.
+-- `stream_lines::end_line` meets its contract. Part by part. Assumes nothing.
+use native.Mathlib.Omega.{arith}
 use Rattle.stream_lines.specs.Lines.{endLine}
 use Rattle.stream_lines.proofs.Puts.{then, line}
-use native.Mathlib.Omega.{arith}
 use borrow.Author.Needs.{needs}
 use Rattle.stream_lines.proofs.end_line.Statement.{statement}
 use Rattle.stream_lines.proofs.end_line.Tie as tie
+
+slice-aggregate-put-numbered : tie.Need-slice-aggregate-put-numbered
+slice-aggregate-put-numbered c = search needs
+
+put-numbered-requires : tie.Need-put-numbered-requires
+put-numbered-requires c κs = search needs
 
 slice-aggregate-put-word : tie.Need-slice-aggregate-put-word
 slice-aggregate-put-word c = search needs
@@ -13,26 +18,20 @@ slice-aggregate-put-word c = search needs
 put-word-requires : tie.Need-put-word-requires
 put-word-requires c κs = search needs
 
-put-decimal-requires : tie.Need-put-decimal-requires
-put-decimal-requires c κs = search needs
-
-slice-aggregate-put-word-2 : tie.Need-slice-aggregate-put-word-2
-slice-aggregate-put-word-2 c = search needs
-
-put-word-requires-2 : tie.Need-put-word-requires-2
-put-word-requires-2 c κs = search needs
-
 returns : tie.Need-returns
 unfolding endLine
-returns c = line _ _ _ _ (then _ _ _ _ _ _ _ _ (then _ _ _ _ _ _ _ _ (c .before .before .before .before .before .put-word .ensures .1) (c .before .before .before .put-decimal .ensures .1)) (c .put-word2 .ensures .1)) (omega (arith, c .before .before .before .before .before .put-word .ensures .0, c .before .before .before .put-decimal .ensures .0, c .put-word2 .ensures .0)) (omega (arith, c .before .before .before .before .before .put-word .kept .1 .0, c .before .before .before .put-decimal .kept .1 .0, c .put-word2 .kept .1 .0))
+returns c =
+    let a = c .before .before .before in
+    line _ _ _ _ (then _ _ _ _ _ _ _ _ (a .put-numbered .ensures .1) (c .put-word .ensures .1))
+    (omega (arith, a .put-numbered .ensures .0, c .put-word .ensures .0))
+    (omega (arith, a .put-numbered .kept .1 .1 .0, c .put-word .kept .1 .0))
 
 pub end-line-spec : {M : Type 1} → statement M
 end-line-spec =
     tie.close
     (tie.spec
+    slice-aggregate-put-numbered
+    put-numbered-requires
     slice-aggregate-put-word
     put-word-requires
-    put-decimal-requires
-    slice-aggregate-put-word-2
-    put-word-requires-2
     returns)

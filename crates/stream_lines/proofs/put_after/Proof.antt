@@ -22,7 +22,14 @@ same-length : tie.Need-same-length
 same-length c = search needs
 
 returns-2 : tie.Need-returns-2
-returns-2 c = (omega (arith, c .before .before .put-bits .ensures .0, c .before .before .before .before .before .before .put-word .ensures .0), retext _ _ _ _ _ _ (after-some (c .before .before .before .before .before .before .before .before .before .before .before .before .args .bits .now) (c .before .before .before .before .before .before .before .before .before .if1 .left)) (then _ _ _ _ _ _ _ _ (c .before .before .before .before .before .before .put-word .ensures .1) (c .before .before .put-bits .ensures .1)))
+returns-2 c =
+    let bits = c .before .before in
+    let space = bits .before .before .before .before in
+    let some = space .before .before .before in (
+      omega (arith, bits .put-bits .ensures .0, space .put-word .ensures .0),
+      retext _ _ _ _ _ _ (after-some (some .before .before .before .args .bits .now) (some .if1 .left))
+          (then _ _ _ _ _ _ _ _ (space .put-word .ensures .1) (bits .put-bits .ensures .1)),
+    )
 
 pub put-after-spec : {M : Type 1} → statement M
 put-after-spec =

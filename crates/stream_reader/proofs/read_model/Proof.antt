@@ -57,7 +57,11 @@ same-length-3 : tie.Need-same-length-3
 same-length-3 c = search needs
 
 returns-2 : tie.Need-returns-2
-returns-2 c = lists-read _ _ _ _ _ _ _ (sym (tested (c .before .before .before .before .before .before .before .before .before .before .before .before .before)) ∙ not-false _ (c .before .before .before .before .before .before .before .before .before .before .before .before .if1 .left)) (c .before .before .before .before .before .before .before .before .before .before .priors-in .ensures) (c .before .before .before .before .before .before .offsets-in .ensures) (c .before .before .detectors-in .ensures)
+returns-2 c =
+    lists-read _ _ _ _ _ _ _ (sym (tested (c .before .before .before .before .before .before .before .before .before .before .before .before .before)) ∙ not-false _
+    (c .before .before .before .before .before .before .before .before .before .before .before .before .if1 .left))
+    (c .before .before .before .before .before .before .before .before .before .before .priors-in .ensures)
+    (c .before .before .before .before .before .before .offsets-in .ensures) (c .before .before .detectors-in .ensures)
 
 pub read-model-spec : {M : Type 1} → statement M
 read-model-spec =

@@ -56,7 +56,25 @@ or-else-requires-4 c κs = search needs
 
 returns : tie.Need-returns
 unfolding verdict tested
-returns c = rw (c .or-else4 .ensures, c .before .or-else3 .ensures, c .before .before .or-else2 .ensures, c .before .before .before .or-else .ensures, c .before .before .before .before .unless5 .ensures, c .before .before .before .before .before .unless4 .ensures, c .before .before .before .before .before .before .unless3 .ensures, c .before .before .before .before .before .before .before .time-good .ensures, c .before .before .before .before .before .before .before .before .unless2 .ensures, c .before .before .before .before .before .before .before .before .before .unless .ensures, c .before .before .before .before .before .before .before .before .before .before .kind-good .ensures, c .before .before .before .before .before .before .before .before .before .before .before .schedule-good .ensures, c .before .before .before .before .before .before .before .before .before .before .before .before .schedule-byte .ensures, c .before .before .before .before .before .before .before .before .before .before .before .before .before .room-good .ensures, c .before .before .before .before .before .before .before .before .before .before .before .before .before .before .legs .ensures, c .before .before .before .before .before .before .before .before .before .before .before .before .before .before .before .length-good .ensures)
+returns c =
+    rw (
+      c .or-else4 .ensures,
+      c .before .or-else3 .ensures,
+      c .before .before .or-else2 .ensures,
+      c .before .before .before .or-else .ensures,
+      c .before .before .before .before .unless5 .ensures,
+      c .before .before .before .before .before .unless4 .ensures,
+      c .before .before .before .before .before .before .unless3 .ensures,
+      c .before .before .before .before .before .before .before .time-good .ensures,
+      c .before .before .before .before .before .before .before .before .unless2 .ensures,
+      c .before .before .before .before .before .before .before .before .before .unless .ensures,
+      c .before .before .before .before .before .before .before .before .before .before .kind-good .ensures,
+      c .before .before .before .before .before .before .before .before .before .before .before .schedule-good .ensures,
+      c .before .before .before .before .before .before .before .before .before .before .before .before .schedule-byte .ensures,
+      c .before .before .before .before .before .before .before .before .before .before .before .before .before .room-good .ensures,
+      c .before .before .before .before .before .before .before .before .before .before .before .before .before .before .legs .ensures,
+      c .before .before .before .before .before .before .before .before .before .before .before .before .before .before .before .length-good .ensures,
+    )
 
 pub verdict-spec : {M : Type 1} → statement M
 verdict-spec =

@@ -46,7 +46,11 @@ add-result-3 : tie.Need-add-result-3
 add-result-3 c = search needs
 
 returns : tie.Need-returns
-returns c = (number-4 (c .before .before .before .before .before .args .at) (c .before .before .before .before .before .args .bytes .now) _ _ _ _ (c .before .before .before .byte-at .ensures .0) (c .before .before .byte-at2 .ensures .0) (c .before .byte-at3 .ensures .0) (c .byte-at4 .ensures .0), omega arith)
+returns c = (
+  number-4 (c .before .before .before .before .before .args .at) (c .before .before .before .before .before .args .bytes .now) _ _ _ _
+      (c .before .before .before .byte-at .ensures .0) (c .before .before .byte-at2 .ensures .0) (c .before .byte-at3 .ensures .0) (c .byte-at4 .ensures .0),
+  omega arith,
+)
 
 pub number4-spec : {M : Type 1} → statement M
 number4-spec =

@@ -42,7 +42,14 @@ loop-less : tie.Need-loop-less Inv-loop μ-loop
 loop-less c = simp length-set (omega arith)
 
 loop-again : tie.Need-loop-again Inv-loop μ-loop
-loop-again c = let l = c .before .before .before .loop in (simp length-set (omega arith), simp length-set (omega arith), table-turn _ _ (l .m) _ (c .before .before .loop-test .taken) (l .inv .2) (l .inv .3), offset-turn _ (l .m) _ _ _ (l .inv .3) (c .before .degree .ensures) (c .wrapping-add-u32 .ensures))
+loop-again c =
+    let l = c .before .before .before .loop in (
+      simp length-set (omega arith),
+      simp length-set (omega arith),
+      table-turn _ _ (l .m) _ (c .before .before .loop-test .taken) (l .inv .2) (l .inv .3),
+      offset-turn _ (l .m) _ _ _ (l .inv .3) (c .before .degree .ensures)
+          (c .wrapping-add-u32 .ensures),
+    )
 
 same-length : tie.Need-same-length Inv-loop μ-loop
 same-length c = omega arith

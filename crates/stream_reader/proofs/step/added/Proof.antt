@@ -28,7 +28,16 @@ summed-requires c κs = search needs
 
 returns : tie.Need-returns
 unfolding added
-returns c = rw (c .summed .ensures, c .before .grown5 .ensures, c .before .before .grown4 .ensures, c .before .before .before .grown3 .ensures, c .before .before .before .before .grown2 .ensures, c .before .before .before .before .before .grown .ensures, c .before .before .before .before .before .before .wrapping-add-usize .ensures)
+returns c =
+    rw (
+      c .summed .ensures,
+      c .before .grown5 .ensures,
+      c .before .before .grown4 .ensures,
+      c .before .before .before .grown3 .ensures,
+      c .before .before .before .before .grown2 .ensures,
+      c .before .before .before .before .before .grown .ensures,
+      c .before .before .before .before .before .before .wrapping-add-usize .ensures,
+    )
 
 pub added-spec : {M : Type 1} → statement M
 added-spec =
