@@ -17,14 +17,14 @@ use Rattle.refusals.specs.Refusal.{numberOf}
 use Rattle.relay_settings.specs.declared.Settings.{Settings}
 use Rattle.relay_calls.specs.declared.Decoded.{Decoded}
 use Rattle.relay_calls.specs.declared.Decoded.the-variants as Decoded
-use Rattle.stream_grammar.specs.Stream.{Rec, Sayable, AllSayable, more, mechanisms, isOfShot, kindSaid as kindOfHead, kindGood, timeGood, claimsOf, judge, leftOver}
+use Rattle.stream_grammar.specs.Stream.{Rec, Sayable, AllSayable, more, mechanisms, isOfShot, payloadSaid as kindOfHead, kindGood, timeGood, claimsOf, judge, leftOver}
 use Rattle.stream_grammar.specs.Fields.{settingsRead}
 use Rattle.stream_lines.specs.Lines.{shotLine, refusedLine, stoppedLine, unlessTooLong}
 use Rattle.stream_reader.specs.Reading.{holding, payloadKept}
 use Rattle.stream_table.specs.Table.{modelFault, settingsAnswer, Decoding, shotDecoded}
 use Rattle.stream_session.specs.declared.Session.{Session}
 use Rattle.stream_session.specs.Shots.{Told, Taken, taken, known, goesOn, stops, says, refuses, finds, answers, tells, shotTaken, settingsTaken, modelTaken, kindTaken, recordJudged, reads, lastText, textOf}
-use Rattle.stream_session.specs.Text.{Heard, isThere, thePayload, Said, endsRun, modelSaid, settingsSaid, lineSaid, shotSaid, decodeOf, kindSaid, judgedSaid, recordSaid, recordsText}
+use Rattle.stream_session.specs.Text.{Heard, isThere, thePayload, Said, endsRun, modelSaid, settingsSaid, lineSaid, shotSaid, decodeOf, payloadSaid, judgedSaid, recordSaid, recordsText}
 use Rattle.stream_session.proofs.Cases.{chosen, other}
 use Rattle.stream_laws.proofs.Accepted.{passed}
 use Rattle.stream_laws.proofs.Encoding.{encoded, kind-said}
@@ -170,8 +170,8 @@ module _ (s : Session) (model : List ℕ) (h : Heard) (a : Agrees s model h) whe
   -- a record past 41 to 45, by its kind: no shot comes without a model and settings
   kind-tells : (p line : List ℕ) → length p ≤ 5132
       → (eqb (s .reader .kind) 1 ≡ false → eqb (s .reader .kind) 2 ≡ false → (isThere (h .model) ≡ true) × (isThere (h .settings) ≡ true))
-      → Tells (kindTaken s p model line) (kindSaid h (s .reader .offset) (s .reader .kind) p)
-  unfolding kindTaken kindSaid
+      → Tells (kindTaken s p model line) (payloadSaid h (s .reader .offset) (s .reader .kind) p)
+  unfolding kindTaken payloadSaid
   kind-tells p line l f =
       by-test (eqb (s .reader .kind) 1) _ _ _ _ (λ _. model-tells (modelFault p) p line l)
       (λ n. by-test (eqb (s .reader .kind) 2) _ _ _ _ (λ _. settings-tells (settingsAnswer p) p line) (λ m. shot-tells p line (f n m .0) (f n m .1)))

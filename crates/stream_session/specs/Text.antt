@@ -84,15 +84,15 @@ unfoldable pub decodeOf : List ℕ → List ℕ → List ℕ → Decoding
 decodeOf model settings p = shotDecoded model (settingsRead settings) p (lentNumbers roomMechanisms (mechanisms model))
 
 -- a record past 41 to 45, by its kind
-unfoldable pub kindSaid : Heard → ℕ → ℕ → List ℕ → Said
-kindSaid h offset kind p =
+unfoldable pub payloadSaid : Heard → ℕ → ℕ → List ℕ → Said
+payloadSaid h offset kind p =
     let d = decodeOf (thePayload (h .model)) (thePayload (h .settings)) p in
     cond (eqb kind 1) (modelSaid h offset p (modelFault p))
     (cond (eqb kind 2) (settingsSaid h offset p (settingsAnswer p)) (shotSaid h offset (d .answer) (d .correction)))
 
 -- a record, which 41 to 45 answer so
 abbrev pub judgedSaid : Heard → ℕ → ℕ → List ℕ → Answer → Said
-judgedSaid h offset kind p Done = kindSaid h offset kind p
+judgedSaid h offset kind p Done = payloadSaid h offset kind p
 judgedSaid h offset kind p (Refused r) = endsRun offset r
 
 -- a record at an offset
