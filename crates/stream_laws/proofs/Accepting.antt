@@ -17,7 +17,7 @@ use Rattle.refusals.specs.Refusal.{numberOf}
 use Rattle.relay_settings.specs.declared.Settings.{Settings}
 use Rattle.relay_calls.specs.declared.Decoded.{Decoded}
 use Rattle.relay_calls.specs.declared.Decoded.the-variants as Decoded
-use Rattle.stream_grammar.specs.Stream.{Rec, Sayable, AllSayable, more, mechanisms, isOfShot, payloadSaid as kindOfHead, kindGood, timeGood, claimsOf, judge, leftOver}
+use Rattle.stream_grammar.specs.Stream.{Rec, Sayable, AllSayable, more, mechanisms, isOfShot, kindSaid, kindGood, timeGood, claimsOf, judge, leftOver}
 use Rattle.stream_grammar.specs.Fields.{settingsRead}
 use Rattle.stream_lines.specs.Lines.{shotLine, refusedLine, stoppedLine, unlessTooLong}
 use Rattle.stream_reader.specs.Reading.{holding, payloadKept}
@@ -210,7 +210,7 @@ record-tells r offset s model line h y a =
     let p = r .payload in
     let x = reads s (holding offset (encoded r)) in
     let b : Agrees x model h = record { goes = a .goes; number = a .number; modelThere = a .modelThere; settingsThere = a .settingsThere; modelKept = a .modelKept; settingsKept = a .settingsKept; room = a .room } in
-    let k : kindOfHead (encoded r) ≡ r .kind = ap kindOfHead (sym (append-nil (encoded r))) ∙ kind-said (r .kind) p [] (y .kind) in
+    let k : kindSaid (encoded r) ≡ r .kind = ap kindSaid (sym (append-nil (encoded r))) ∙ kind-said (r .kind) p [] (y .kind) in
     let j = judge (isThere (h .model)) (isThere (h .settings)) (r .kind) p in
     let same : judge (s .known .«has_model») (s .known .«has_settings») (r .kind) p ≡ j =
     ap (λ v. judge v (s .known .«has_settings») (r .kind) p) (a .modelThere) ∙ ap (λ v. judge (isThere (h .model)) v (r .kind) p) (a .settingsThere) in
