@@ -10,8 +10,11 @@ fn stream(bytes: &[u8]) {
     let mut payload = [0u8; 5132];
     let mut model = [0u8; 5132];
     let mut line = [0u8; 512];
-    let s = stream_writing::piece(Session::new(), bytes, &mut payload, &mut model, &mut line);
-    stream_writing::end(s, &mut line);
+    let p = stream_writing::piece(Session::new(), bytes, &mut payload, &mut model, &mut line);
+    if p.written {
+        let s = p.session;
+        stream_writing::end(s, &mut line);
+    }
 }
 
 // A byte as a number.

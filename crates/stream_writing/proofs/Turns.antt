@@ -1,11 +1,14 @@
 -- One byte more of a piece. Assumes nothing.
 use Prim.Native.Nat.{ℕ, _+_, _<_, _≤_}
-use mathlib.Core.Path.{_≡_, refl}
+use mathlib.Core.Path.{_≡_, refl, ap, _∙_}
+use mathlib.Core.Bool.{Bool, true}
 use mathlib.Core.List.{List, foldl}
+use native.Mathlib.Omega.{arith}
 use lib.ListN.{length, getD, take}
-use Rattle.numbers.proofs.Turns.{fold-turn, fold-done}
+use Rattle.numbers.proofs.Turns.{fold-turn}
 use Rattle.stream_session.specs.Shots.{Left}
-use Rattle.stream_writing.specs.Pieces.{nextByte, pieceTaken}
+use Rattle.stream_session.specs.Pieces.{nextByte, pieceTaken}
+use Rattle.stream_writing.specs.Written.{PieceLeft}
 
 module _ (bytes : List ℕ) (start : Left) where
   -- what the first i bytes leave
@@ -15,6 +18,7 @@ module _ (bytes : List ℕ) (start : Left) where
   pub piece-turn : (l after : Left) (i : ℕ) → i < length bytes → Passed l i → after ≡ nextByte l (getD bytes i 0) → Passed after (i + 1)
   piece-turn l after i h e f = fold-turn nextByte start l after bytes i _ 0 h refl e f
 
-  pub piece-done : (l : Left) (i : ℕ) → length bytes ≤ i → Passed l i → l ≡ pieceTaken bytes start
+  -- which is what a piece leaves that ends there
+  pub piece-left : (l : Left) (i : ℕ) (written : Bool) → i ≤ length bytes → (written ≡ true → i ≡ length bytes) → Passed l i → PieceLeft bytes start written i l
   unfolding pieceTaken
-  piece-done l i h e = fold-done nextByte start l bytes i h e
+  piece-left l i written h f e = record { some = h; left = e; all = f }

@@ -1,4 +1,4 @@
-//! The gate's streams: fixed cases for the program `replay_shots`, which writes of each what `shots` would. Every case but the drawn
+//! The gate's streams: fixed cases for the program `replay_shots`, which writes of each what `shots` would, and one of several pieces for `replay_pieces`. Every case but the drawn
 //! ones names what it is to come to, so that the expectation is held to the case and not to itself.
 
 mod contents;
@@ -101,7 +101,7 @@ fn write(tally: &mut Tally, program: &str, part: &str, bytes: &[u8]) {
     tally.write_committed(&name, &path(program, part), bytes, "");
 }
 
-/// Writes the standard inputs of `shots` and `replay_shots` and what they must write. With `list` every case has a line.
+/// Writes the standard inputs of `shots`, `replay_pieces` and `replay_shots` and what they must write. With `list` every case has a line.
 pub fn run(tally: &mut Tally, list: bool) {
     let document = document();
     let text = expect::run(&document).text;
@@ -113,6 +113,21 @@ pub fn run(tally: &mut Tally, list: bool) {
     );
     write(tally, "shots", "stdin", &document);
     write(tally, "shots", "stdout", text.as_bytes());
+
+    let (stream, codes) = whole::pieces();
+    let case = Case {
+        name: "pieces".to_string(),
+        bytes: stream.bytes,
+        comes_to: ComesTo::Shots(codes),
+    };
+    let pieces = expect::run(&case.bytes);
+    tally.check(
+        "the stream of several pieces",
+        case.bytes.len() > 4 * 4096 && case.is_met_by(&pieces),
+        &format!("{} bytes", case.bytes.len()),
+    );
+    write(tally, "replay_pieces", "stdin", &case.bytes);
+    write(tally, "replay_pieces", "stdout", pieces.text.as_bytes());
 
     let (mut input, mut output) = (Vec::new(), String::new());
     let mut counts = Counts::default();

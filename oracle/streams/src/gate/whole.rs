@@ -1,6 +1,7 @@
 //! Runs over shots: refused ones between good ones, models and settings replaced, the full room; and drawn streams.
 
 use super::{Cases, ComesTo, document};
+use crate::expect::Code;
 use crate::random;
 use crate::stream::{Model, Settings, Stream};
 use oracle::splitmix::SplitMix64;
@@ -263,6 +264,38 @@ pub(super) fn full_room(cases: &mut Cases) {
         }
         cases.runs(&codes, "a model at the full room", stream);
     }
+}
+
+/// One long stream for `replay_pieces`: models at the full room, each longer than a piece of 4,096 bytes, and shots behind them with refused ones between, so
+/// that pieces end within a model, within shots and between records. Beside it, of each shot the number that refuses it, 0 for none.
+pub(super) fn pieces() -> (Stream, Vec<Code>) {
+    let mut random = SplitMix64::new(0x7069_6563_6573);
+    let mut stream = Stream::new();
+    let mut codes = Vec::new();
+    for schedule in [0, 1] {
+        let model = random::model_of_size(&mut random, 128, 256, 512);
+        stream = stream
+            .model(&model)
+            .settings(&Settings::relayed(schedule, 8, 4, 5, 2));
+        for number in 0..30 {
+            let bits = random.flags(256, 40);
+            let mut syndrome = model.syndrome_of(&bits);
+            let code = match number % 5 {
+                1 => {
+                    syndrome.pop();
+                    20
+                }
+                3 => {
+                    syndrome[127] = 2;
+                    21
+                }
+                _ => 0,
+            };
+            stream = stream.shot(random.draw(), &syndrome);
+            codes.push(code);
+        }
+    }
+    (stream, codes)
 }
 
 /// Short streams as `compare` draws them.

@@ -1,17 +1,17 @@
--- `shots` is safe, and ends. Assumes nothing.
+-- `stream_writing::run` is safe, and ends. Assumes nothing.
 use Prim.Native.Nat.{ℕ}
 use mathlib.Core.Path.{_≡_}
 use native.Mathlib.Omega.{arith}
 use lib.ListN.{length, length-replicate}
 use borrow.Author.Needs.{needs}
-use Rattle.shots.proofs.main.Statement.{statement}
-use Rattle.shots.proofs.main.Tie as tie
+use Rattle.stream_writing.proofs.run.Statement.{statement}
+use Rattle.stream_writing.proofs.run.Tie as tie
 
 abbrev Inv-loop : tie.InvT-loop
-Inv-loop payload₀ model₀ line₀ room₀ s₀ turns₀ t9 payload model line room s turns = (length payload ≡ 5132) × (length model ≡ 5132) × (length room ≡ 4096)
+Inv-loop payload₀ model₀ line₀ room₀ written₀ s₀ turns₀ t10 t11 t12 payload model line room written s turns = (length payload ≡ 5132) × (length model ≡ 5132) × (length room ≡ 4096)
 
 abbrev μ-loop : tie.MeasureT-loop
-μ-loop payload₀ model₀ line₀ room₀ s₀ turns₀ t9 payload model line room s turns = turns
+μ-loop payload₀ model₀ line₀ room₀ written₀ s₀ turns₀ t10 t11 t12 payload model line room written s turns = turns
 
 buffer-requires : tie.Need-buffer-requires Inv-loop μ-loop
 buffer-requires c κs = search needs
@@ -46,26 +46,44 @@ count-requires c κs = search needs
 end-requires : tie.Need-end-requires Inv-loop μ-loop
 end-requires c κs = search needs
 
+slice-aggregate-fail-2 : tie.Need-slice-aggregate-fail-2 Inv-loop μ-loop
+slice-aggregate-fail-2 c = search needs
+
+fail-requires-2 : tie.Need-fail-requires-2 Inv-loop μ-loop
+fail-requires-2 c κs = search needs
+
 returns-2 : tie.Need-returns-2 Inv-loop μ-loop
 returns-2 c = search needs
+
+returns-3 : tie.Need-returns-3 Inv-loop μ-loop
+returns-3 c = search needs
 
 array-share-prefix-room : tie.Need-array-share-prefix-room Inv-loop μ-loop
 array-share-prefix-room c = search needs
 
-slice-aggregate-piece : tie.Need-slice-aggregate-piece Inv-loop μ-loop
-slice-aggregate-piece c = search needs
+slice-aggregate-heard : tie.Need-slice-aggregate-heard Inv-loop μ-loop
+slice-aggregate-heard c = search needs
 
-slice-aggregate-piece-2 : tie.Need-slice-aggregate-piece-2 Inv-loop μ-loop
-slice-aggregate-piece-2 c = search needs
+slice-aggregate-heard-2 : tie.Need-slice-aggregate-heard-2 Inv-loop μ-loop
+slice-aggregate-heard-2 c = search needs
 
-slice-aggregate-piece-3 : tie.Need-slice-aggregate-piece-3 Inv-loop μ-loop
-slice-aggregate-piece-3 c = search needs
+slice-aggregate-heard-3 : tie.Need-slice-aggregate-heard-3 Inv-loop μ-loop
+slice-aggregate-heard-3 c = search needs
 
-piece-requires : tie.Need-piece-requires Inv-loop μ-loop
-piece-requires c κs = search needs
+heard-requires : tie.Need-heard-requires Inv-loop μ-loop
+heard-requires c κs = search needs
 
-returns-3 : tie.Need-returns-3 Inv-loop μ-loop
-returns-3 c = search needs
+slice-aggregate-fail-3 : tie.Need-slice-aggregate-fail-3 Inv-loop μ-loop
+slice-aggregate-fail-3 c = search needs
+
+fail-requires-3 : tie.Need-fail-requires-3 Inv-loop μ-loop
+fail-requires-3 c κs = search needs
+
+returns-4 : tie.Need-returns-4 Inv-loop μ-loop
+returns-4 c = search needs
+
+returns-5 : tie.Need-returns-5 Inv-loop μ-loop
+returns-5 c = search needs
 
 sub-turns : tie.Need-sub-turns Inv-loop μ-loop
 sub-turns c = omega arith
@@ -76,11 +94,11 @@ loop-less c = omega arith
 loop-again : tie.Need-loop-again Inv-loop μ-loop
 loop-again c = (omega arith, omega arith, omega arith)
 
-returns-4 : tie.Need-returns-4 Inv-loop μ-loop
-returns-4 c = search needs
+returns-6 : tie.Need-returns-6 Inv-loop μ-loop
+returns-6 c = search needs
 
-pub main-spec : {M : Type 1} → statement M
-main-spec =
+pub run-spec : {M : Type 1} → statement M
+run-spec =
     tie.close
     (tie.spec
     Inv-loop
@@ -96,14 +114,20 @@ main-spec =
     slice-aggregate-count
     count-requires
     end-requires
+    slice-aggregate-fail-2
+    fail-requires-2
     returns-2
-    array-share-prefix-room
-    slice-aggregate-piece
-    slice-aggregate-piece-2
-    slice-aggregate-piece-3
-    piece-requires
     returns-3
+    array-share-prefix-room
+    slice-aggregate-heard
+    slice-aggregate-heard-2
+    slice-aggregate-heard-3
+    heard-requires
+    slice-aggregate-fail-3
+    fail-requires-3
+    returns-4
+    returns-5
     sub-turns
     loop-less
     loop-again
-    returns-4)
+    returns-6)
