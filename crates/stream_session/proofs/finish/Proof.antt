@@ -28,7 +28,10 @@ end-line-requires : tie.Need-end-line-requires
 end-line-requires c κs = search needs
 
 returns-2 : tie.Need-returns-2
-returns-2 c = text-written _ _ _ _ _ (cut-text _ _ _ _ (c .before .before .before .before .before .before .before .before .if1 .left) (c .before .before .before .before .before .before .at-end .ensures) (c .before .before .before .before .a .given .1) (c .before .before .number-of .ensures)) (c .stopped-line .ensures .0) (c .stopped-line .ensures .1)
+returns-2 c =
+    text-written _ _ _ _ _ (cut-text _ _ _ _ (c .before .before .before .before .before .before .before .before .if1 .left)
+    (c .before .before .before .before .before .before .at-end .ensures) (c .before .before .before .before .a .given .1) (c .before .before .number-of .ensures))
+    (c .stopped-line .ensures .0) (c .stopped-line .ensures .1)
 
 returns-3 : tie.Need-returns-3
 returns-3 c = text-written _ _ _ _ _ (shots-text _ _ (c .before .before .before .before .before .before .if1 .left) (c .before .before .before .before .at-end .ensures) (c .before .before .enum-told .given .1)) (c .end-line .ensures .0) (c .end-line .ensures .1)

@@ -30,7 +30,12 @@ same-length-2 : tie.Need-same-length-2
 same-length-2 c = search needs
 
 returns-2 : tie.Need-returns-2
-returns-2 c = byte-whole _ _ _ _ _ _ _ _ _ (c .before .before .before .before .before .before .before .before .before .before .before .before .before .if1 .left) (c .before .before .before .before .before .before .before .before .before .before .before .push .ensures) (c .before .before .before .before .before .before .before .before .reads2 .ensures) (sym (c .before .before .before .before .before .before .before .is-whole .ensures) ∙ c .before .before .before .before .before .before .if2 .taken) (c .before .before .take-record .ensures)
+returns-2 c =
+    byte-whole _ _ _ _ _ _ _ _ _ (c .before .before .before .before .before .before .before .before .before .before .before .before .before .if1 .left)
+    (c .before .before .before .before .before .before .before .before .before .before .before .push .ensures)
+    (c .before .before .before .before .before .before .before .before .reads2 .ensures) (sym
+    (c .before .before .before .before .before .before .before .is-whole .ensures) ∙ c .before .before .before .before .before .before .if2 .taken)
+    (c .before .before .take-record .ensures)
 
 same-length-3 : tie.Need-same-length-3
 same-length-3 c = search needs

@@ -36,7 +36,12 @@ same-length c = search needs
 
 returns : tie.Need-returns
 unfolding syndrome
-returns c = shot-within _ _ _ (c .before .before .before .before .before .before .before .before .before .read-counts .ensures) (c .before .before .before .before .before .before .before .before .within .ensures) _ _ _ _ _ _ (c .before .before .before .before .before .before .before .if1 .taken) (part-to-end (c .before .before .before .before .before .before .before .before .before .before .before .before .before .args .payload .now) (c .before .before .before .before .before .before .front .result) ∙ c .before .before .before .before .before .before .front .ensures .2) (c .before .before .before .before .before .read-seed .ensures) (c .before .before .decoded-within .ensures)
+returns c =
+    shot-within _ _ _ (c .before .before .before .before .before .before .before .before .before .read-counts .ensures)
+    (c .before .before .before .before .before .before .before .before .within .ensures) _ _ _ _ _ _ (c .before .before .before .before .before .before .before .if1 .taken)
+    (part-to-end (c .before .before .before .before .before .before .before .before .before .before .before .before .before .args .payload .now)
+    (c .before .before .before .before .before .before .front .result) ∙ c .before .before .before .before .before .before .front .ensures .2)
+    (c .before .before .before .before .before .read-seed .ensures) (c .before .before .decoded-within .ensures)
 
 returns-2 : tie.Need-returns-2
 returns-2 c = shot-beyond _ _ _ (c .before .before .read-counts .ensures) (c .before .within .ensures) _ _ _ (c .if1 .left)

@@ -40,7 +40,10 @@ same-length-2 : tie.Need-same-length-2
 same-length-2 c = search needs
 
 returns-3 : tie.Need-returns-3
-returns-3 c = let a = c .before .before .before .before .before .before .before .before .before .before .before .args in kind-shot _ _ _ _ _ (c .before .before .before .before .before .before .before .if1 .left) (c .before .before .before .before .before .if2 .left) (ap (λ (t : Told). taken t (a .model .now)) (c .take-shot .ensures ∙ ap (λ (m : List ℕ). shotTaken (a .s) m (a .payload .now) (a .line .now)) (c .before .before .before .front .ensures .1)))
+returns-3 c =
+    let a = c .before .before .before .before .before .before .before .before .before .before .before .args in kind-shot _ _ _ _ _
+    (c .before .before .before .before .before .before .before .if1 .left) (c .before .before .before .before .before .if2 .left) (ap (λ (t : Told). taken t (a .model .now))
+    (c .take-shot .ensures ∙ ap (λ (m : List ℕ). shotTaken (a .s) m (a .payload .now) (a .line .now)) (c .before .before .before .front .ensures .1)))
 
 pub take-kind-spec : {M : Type 1} → statement M
 take-kind-spec =

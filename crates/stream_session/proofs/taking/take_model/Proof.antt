@@ -26,13 +26,19 @@ goes-on-requires : tie.Need-goes-on-requires
 goes-on-requires c κs = search needs
 
 returns : tie.Need-returns
-returns c = let a = c .before .before .before .before .before .before .before .before .before .before .args in by-case (λ (d : Answer). modelTaken (a .s) d (a .payload .now) (a .model .now) (a .line .now)) (ap (λ (t : Told). taken t (a .model .now)) (c .stop .ensures)) (sym (c .before .before .before .before .before .before .before .model-fault .ensures) ∙ c .before .before .before .a .given .1)
+returns c =
+    let a = c .before .before .before .before .before .before .before .before .before .before .args in by-case (λ (d : Answer). modelTaken (a .s) d (a .payload .now)
+    (a .model .now) (a .line .now)) (ap (λ (t : Told). taken t (a .model .now)) (c .stop .ensures)) (sym
+    (c .before .before .before .before .before .before .before .model-fault .ensures) ∙ c .before .before .before .a .given .1)
 
 same-length : tie.Need-same-length
 same-length c = search needs
 
 returns-2 : tie.Need-returns-2
-returns-2 c = let a = c .before .before .before .before .before .before .before .before .before .before .before .before .args in by-case (λ (d : Answer). modelTaken (a .s) d (a .payload .now) (a .model .now) (a .line .now)) (rw (c .goes-on .ensures, c .before .before .before .keep .ensures)) (sym (c .before .before .before .before .before .before .before .before .before .model-fault .ensures) ∙ c .before .before .before .before .before .enum-told .given .1)
+returns-2 c =
+    let a = c .before .before .before .before .before .before .before .before .before .before .before .before .args in by-case (λ (d : Answer). modelTaken (a .s) d
+    (a .payload .now) (a .model .now) (a .line .now)) (rw (c .goes-on .ensures, c .before .before .before .keep .ensures)) (sym
+    (c .before .before .before .before .before .before .before .before .before .model-fault .ensures) ∙ c .before .before .before .before .before .enum-told .given .1)
 
 pub take-model-spec : {M : Type 1} → statement M
 take-model-spec =

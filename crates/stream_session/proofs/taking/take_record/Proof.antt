@@ -25,14 +25,20 @@ take-accepted-requires c κs = search needs
 
 returns : tie.Need-returns
 unfolding recordTaken
-returns c = let a = c .before .before .before .before .before .before .before .before .before .args in by-case (λ (d : Answer). recordJudged (a .s) d (take (a .s .reader .length) (a .kept .now)) (a .model .now) (a .line .now)) (ap (λ (t : Told). taken t (a .model .now)) (c .stop .ensures)) (sym (c .before .before .before .before .before .verdict .ensures) ∙ c .before .before .before .a .given .1)
+returns c =
+    let a = c .before .before .before .before .before .before .before .before .before .args in by-case (λ (d : Answer). recordJudged (a .s) d (take (a .s .reader .length)
+    (a .kept .now)) (a .model .now) (a .line .now)) (ap (λ (t : Told). taken t (a .model .now)) (c .stop .ensures)) (sym
+    (c .before .before .before .before .before .verdict .ensures) ∙ c .before .before .before .a .given .1)
 
 same-length : tie.Need-same-length
 same-length c = search needs
 
 returns-2 : tie.Need-returns-2
 unfolding recordTaken
-returns-2 c = let a = c .before .before .before .before .before .before .before .before .before .before .before .args in by-case (λ (d : Answer). recordJudged (a .s) d (take (a .s .reader .length) (a .kept .now)) (a .model .now) (a .line .now)) (c .before .before .take-accepted .ensures) (sym (c .before .before .before .before .before .before .before .verdict .ensures) ∙ c .before .before .before .before .before .enum-told .given .1)
+returns-2 c =
+    let a = c .before .before .before .before .before .before .before .before .before .before .before .args in by-case (λ (d : Answer). recordJudged (a .s) d (take
+    (a .s .reader .length) (a .kept .now)) (a .model .now) (a .line .now)) (c .before .before .take-accepted .ensures) (sym
+    (c .before .before .before .before .before .before .before .verdict .ensures) ∙ c .before .before .before .before .before .enum-told .given .1)
 
 pub take-record-spec : {M : Type 1} → statement M
 take-record-spec =

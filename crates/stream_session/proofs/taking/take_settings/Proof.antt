@@ -26,10 +26,14 @@ goes-on-requires : tie.Need-goes-on-requires
 goes-on-requires c κs = search needs
 
 returns : tie.Need-returns
-returns c = let a = c .before .before .before .before .before .before .before .before .args in by-case (λ (d : Answer). settingsTaken (a .s) d (a .payload .now) (a .line .now)) (c .stop .ensures) (sym (c .before .before .before .before .before .before .settings-answer .ensures) ∙ c .before .before .before .a .given .1)
+returns c =
+    let a = c .before .before .before .before .before .before .before .before .args in by-case (λ (d : Answer). settingsTaken (a .s) d (a .payload .now) (a .line .now))
+    (c .stop .ensures) (sym (c .before .before .before .before .before .before .settings-answer .ensures) ∙ c .before .before .before .a .given .1)
 
 returns-2 : tie.Need-returns-2
-returns-2 c = let a = c .before .before .before .before .before .before .before .args in by-case (λ (d : Answer). settingsTaken (a .s) d (a .payload .now) (a .line .now)) (rw (c .goes-on .ensures, c .before .read-settings .ensures)) (sym (c .before .before .before .before .before .settings-answer .ensures) ∙ c .before .before .enum-told .given .1)
+returns-2 c =
+    let a = c .before .before .before .before .before .before .before .args in by-case (λ (d : Answer). settingsTaken (a .s) d (a .payload .now) (a .line .now)) (rw
+    (c .goes-on .ensures, c .before .read-settings .ensures)) (sym (c .before .before .before .before .before .settings-answer .ensures) ∙ c .before .before .enum-told .given .1)
 
 pub take-settings-spec : {M : Type 1} → statement M
 take-settings-spec =

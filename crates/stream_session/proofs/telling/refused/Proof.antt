@@ -19,7 +19,15 @@ counted-requires c κs = search needs
 
 returns : tie.Need-returns
 unfolding refuses says
-returns c = rw (c .counted .ensures, c .before .refused-line .ensures .0, c .before .refused-line .ensures .1, of-shot _ _ _ _ (c .before .before .before .before .before .number-of .ensures) (c .before .before .before .before .is-of-shot .ensures) (c .before .before .before .if1 .taken), c .before .before .before .before .before .number-of .ensures)
+returns c =
+    rw (
+      c .counted .ensures,
+      c .before .refused-line .ensures .0,
+      c .before .refused-line .ensures .1,
+      of-shot _ _ _ _ (c .before .before .before .before .before .number-of .ensures) (c .before .before .before .before .is-of-shot .ensures)
+          (c .before .before .before .if1 .taken),
+      c .before .before .before .before .before .number-of .ensures,
+    )
 
 stop-requires : tie.Need-stop-requires
 stop-requires c κs = search needs
