@@ -13,7 +13,9 @@ use Rattle.numbers.proofs.Turns.{turns-turn, table-turn}
 use Rattle.graph_lists.specs.Graph.{Graph}
 use Rattle.graph_lists.specs.Messages.{cleared, fromVariables}
 use Rattle.graph_messages.specs.Needs.{walked, ofChecks, ofVariables}
-use Rattle.min_sum_pass.specs.MinSum.{Messages, messages, Belief, belief, skipped, updateCheck, parallelCheck, rawPosterior, updateVariable, checksTo, variablesTo, serialTo, parallelIteration, serialIteration, averagedTo, averaged, weightOf, startRound, iterated, iteratedIn, outerRoundTo, outerRound, allRounds, chosen, chosenTo, minSumBp}
+use Rattle.min_sum_pass.specs.MinSum.{Messages, messages, Belief, belief, skipped, updateCheck, parallelCheck, rawPosterior, updateVariable, checksTo}
+use Rattle.min_sum_pass.specs.MinSum.{variablesTo, serialTo, parallelIteration, serialIteration, averagedTo, averaged, weightOf, startRound, iterated}
+use Rattle.min_sum_pass.specs.MinSum.{iteratedIn, outerRoundTo, outerRound, allRounds, chosen, chosenTo, minSumBp}
 
 module _ (checks mechanisms : ℕ) (cv co vm vo : List ℕ) where
   -- the checks read nothing of the variables' side

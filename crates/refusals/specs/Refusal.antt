@@ -2,7 +2,15 @@
 -- to 63 are given by no call yet. Definitions only. Assumes nothing.
 use Prim.Native.Nat.{ℕ}
 use Rattle.refusals.specs.declared.Refusal.{Refusal}
-use Rattle.refusals.specs.declared.Refusal.the-variants.{SizeAboveLimit, ModelListLength, BadDetectorOffsets, BadPrior, DetectorOutOfRange, DetectorRepeated, NoSuchGraph, BadProbability, BadClip, BadAlpha, BadGamma0, BadIterations, TooManyLegs, BadLegIterations, BadGammaInterval, BadStop, NoGammaSets, GammaSetsLength, GammaNotFinite, SyndromeLength, SyndromeNotBinary, LentListLength, OrderNotEachOnce, OrderExchanged, StateNotFinite, SeedsLength, ShotTooLarge, ObservableTooLarge, TooManyStores, NonFinite, CutRecord, UnknownKind, PayloadLength, ShotTooEarly, BeyondRoom, BadSchedule, DroppedWithOthers, LineNotInSubset, ConstructLeftOut, NumberOutsideLimits, ForeignCharacter, LineLength, CutShot, FillingBitSet, AlistMalformed, AlistDegree, AlistNumber, AlistDisagrees}
+use Rattle.refusals.specs.declared.Refusal.the-variants.{SizeAboveLimit, ModelListLength, BadDetectorOffsets, BadPrior, DetectorOutOfRange}
+use Rattle.refusals.specs.declared.Refusal.the-variants.{DetectorRepeated, NoSuchGraph, BadProbability, BadClip, BadAlpha, BadGamma0}
+use Rattle.refusals.specs.declared.Refusal.the-variants.{BadIterations, TooManyLegs, BadLegIterations, BadGammaInterval, BadStop, NoGammaSets}
+use Rattle.refusals.specs.declared.Refusal.the-variants.{GammaSetsLength, GammaNotFinite, SyndromeLength, SyndromeNotBinary, LentListLength}
+use Rattle.refusals.specs.declared.Refusal.the-variants.{OrderNotEachOnce, OrderExchanged, StateNotFinite, SeedsLength, ShotTooLarge}
+use Rattle.refusals.specs.declared.Refusal.the-variants.{ObservableTooLarge, TooManyStores, NonFinite, CutRecord, UnknownKind, PayloadLength}
+use Rattle.refusals.specs.declared.Refusal.the-variants.{ShotTooEarly, BeyondRoom, BadSchedule, DroppedWithOthers, LineNotInSubset}
+use Rattle.refusals.specs.declared.Refusal.the-variants.{ConstructLeftOut, NumberOutsideLimits, ForeignCharacter, LineLength, CutShot}
+use Rattle.refusals.specs.declared.Refusal.the-variants.{FillingBitSet, AlistMalformed, AlistDegree, AlistNumber, AlistDisagrees}
 use Rattle.refusals.specs.declared.Answer.{Answer}
 use Rattle.refusals.specs.declared.Answer.the-variants.{Done, Refused}
 use Rattle.refusals.specs.declared.Place.{Place}
