@@ -15,4 +15,5 @@ pub mod Written
 pub mod Ended
 pub mod Accepting
 pub mod Refusing
+pub mod Going
 pub mod ShotsTheorems

@@ -1,5 +1,5 @@
 -- What a reader may rely on of `shots`: what its session says, byte by byte, is what the grammar and the table say of the records, on every input. Assumes nothing.
-use Prim.Native.Nat.{ℕ, _≤_}
+use Prim.Native.Nat.{ℕ, _+_, _%_, _^_, _≤_}
 use mathlib.Core.Path.{_≡_, refl, sym, ap, _∙_}
 use mathlib.Core.Bool.{Bool, true, false, false≢true}
 use mathlib.Core.List.{List, [], _∷_, _++_, append-assoc, foldl-append}
@@ -15,12 +15,13 @@ use Rattle.stream_table.specs.Table.{modelFault, settingsAnswer}
 use Rattle.stream_session.specs.declared.Session.{Session}
 use Rattle.stream_session.specs.Shots.{Left, startSession, byteTaken, lastText, endText, textOf, sessionText}
 use Rattle.stream_session.specs.Pieces.{nextByte, pieceTaken, pieceText, restText}
-use Rattle.stream_session.specs.Text.{nothingHeard, decodeOf, recordsText}
+use Rattle.stream_session.specs.Text.{Heard, heard, nothingHeard, isThere, decodeOf, recordSaid, recordsText}
 use Rattle.stream_laws.proofs.Theorems.{Apart, told-apart, meets, ends-at, settings-let-through}
 use Rattle.stream_laws.proofs.Written.{metText, written-met}
 use Rattle.stream_laws.proofs.Ended.{met-told}
 use Rattle.stream_laws.proofs.Accepting.{kept-model, kept-said}
 use Rattle.stream_laws.proofs.Refusing.{shot-refused}
+use Rattle.stream_laws.proofs.Going.{Accepted, nothing-accepted, stays-accepted, shot-goes-on}
 
 -- "`shots` reads standard input": of records and what is left over it writes what the grammar and the table say, with each refusal's number and offset, each shot over the
 -- very payloads of the last model and the last settings accepted, where the lists that keep a payload and a model have 5,132 bytes, the longest within the room
@@ -73,12 +74,19 @@ pieces-left xs ys l = foldl-append nextByte l xs ys
 pub keeps-the-model : (p model : List ℕ) → length p ≤ length model → take (length p) (payloadKept p model) ≡ p
 keeps-the-model = kept-model
 
--- "Then a model by 1 to 6, settings by 10 to 16, a shot by 20, 21 and 30": over a model and settings that were accepted a shot is refused with 20, 21 or 30 alone, so no shot
--- ends a run past 41 to 45
+-- "Then a model by 1 to 6, settings by 10 to 16, a shot by 20, 21 and 30": over a model and settings that were accepted a shot is refused with 20, 21 or 30 alone
 pub shot-refusals : (hasModel hasSettings : Bool) (model settings p : List ℕ) (r : Refusal) → modelFault model ≡ Done
     → judge hasModel hasSettings 2 settings ≡ Done → settingsAnswer settings ≡ Done → decodeOf model settings p .answer ≡ Decoded.Refused r → isOfShot (numberOf r) ≡ true
 unfolding decodeOf
 shot-refusals hasModel hasSettings model settings p r m j s e = shot-refused model settings p r m s (settings-let-through hasModel hasSettings settings j .1) e
+
+-- and in a stream they always were, so no shot past 41 to 45 ends a run: the next shot has the next number
+pub no-shot-ends : Accepted nothingHeard
+    × ((h : Heard) (offset kind : ℕ) (p : List ℕ) (k : Heard) → Accepted h → recordSaid h offset kind p .next ≡ some k → Accepted k)
+    × ((h : Heard) (offset : ℕ) (p : List ℕ) → Accepted h → judge (isThere (h .model)) (isThere (h .settings)) 3 p ≡ Done
+    → recordSaid h offset 3 p .next ≡ some (heard (h .model) (h .settings) ((h .shots + 1) % 2 ^ 64)))
+no-shot-ends =
+    (nothing-accepted, λ h offset kind p k a e. stays-accepted h a offset p k kind e, λ h offset p a j. shot-goes-on h a offset p j)
 
 -- ---- two results that a contract allows coincide
 
