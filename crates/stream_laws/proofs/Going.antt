@@ -16,7 +16,7 @@ use Rattle.relay_calls.specs.declared.Decoded.{Decoded}
 use Rattle.relay_calls.specs.declared.Decoded.the-variants as Decoded
 use Rattle.stream_grammar.specs.Stream.{isOfShot, legs, judge}
 use Rattle.stream_table.specs.Table.{modelFault, settingsAnswer}
-use Rattle.stream_session.specs.Text.{Heard, heard, nothingHeard, isThere, thePayload, endsRun, modelSaid, settingsSaid, lineSaid, shotSaid, decodeOf, kindSaid, judgedSaid, recordSaid}
+use Rattle.stream_session.specs.Text.{Heard, heard, nothingHeard, isThere, thePayload, endsRun, modelSaid, settingsSaid, lineSaid, shotSaid, decodeOf, payloadSaid, judgedSaid, recordSaid}
 use Rattle.stream_laws.proofs.Theorems.{settings-let-through, shot-let-through}
 use Rattle.stream_laws.proofs.Refusing.{shot-refused}
 
@@ -77,8 +77,8 @@ module _ (h : Heard) (a : Accepted h) (offset : ℕ) (p : List ℕ) (k : Heard) 
       (either (isOfShot (numberOf r)))
 
   -- a record past 41 to 45
-  after-kind : (kind : ℕ) → (kind ≡ 2 → legs p ≤ 16) → kindSaid h offset kind p .next ≡ some k → Accepted k
-  unfolding kindSaid
+  after-kind : (kind : ℕ) → (kind ≡ 2 → legs p ≤ 16) → payloadSaid h offset kind p .next ≡ some k → Accepted k
+  unfolding payloadSaid
   after-kind kind l e =
       let d = decodeOf (thePayload (h .model)) (thePayload (h .settings)) p in
       ⊎-elim
@@ -126,7 +126,7 @@ module _ (h : Heard) (a : Accepted h) (offset : ℕ) (p : List ℕ) where
 
   -- one that 41 to 45 let through
   pub shot-goes-on : judge (isThere (h .model)) (isThere (h .settings)) 3 p ≡ Done → recordSaid h offset 3 p .next ≡ some afterShot
-  unfolding recordSaid kindSaid
+  unfolding recordSaid payloadSaid
   shot-goes-on j =
       let t = shot-let-through (isThere (h .model)) (isThere (h .settings)) p j in
       rw j (shot-on (t .2) (t .3) _ _ refl)
