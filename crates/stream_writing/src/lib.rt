@@ -82,8 +82,8 @@ fn heard(
 }
 
 // A whole run: reads standard input piece by piece, to its end or to the refusal that ends the run. A read or a write that fails ends it at
-// once, without a last line, and standard error tells. A proved loop has to end, so it counts its turns down, from a number that no run uses
-// up.
+// once, without a last line, and standard error tells. A proved loop has to end, so it counts its turns down, from a number that no run
+// uses up.
 pub fn run() {
     let mut payload = [0u8; ROOM_PAYLOAD];
     let mut model = [0u8; ROOM_PAYLOAD];
