@@ -70,7 +70,8 @@ pub fn push(r: Reader, byte: u8, payload: &mut [u8]) -> Reader
     step::added(open, byte)
 }
 
-// 41 to 45 of a record that has been read to its end.
+// 41 to 45 of a record that has been read to its end. Of settings it reads the legs and the schedule off the payload, so that 49 bytes
+// must have been kept.
 pub fn verdict(r: Reader, payload: &[u8], has_model: bool, has_settings: bool) -> Answer
     ensures { λ a. ⌜ a ≡ verdictOf «has_model» «has_settings» r (now (payload .entry)) ⌝ }
 {
