@@ -4,9 +4,10 @@
 use Prim.Native.Nat.{ℕ}
 use mathlib.Core.Bool.{Bool, false, cond}
 use mathlib.Core.List.{List, map, foldl}
-use lib.Ieee.{Float, nan, inf, lt}
+use lib.Ieee.{Float, nan, inf, lt, neg}
 use lib.ListN.{length, getD, replicate}
 use Rattle.numbers.specs.Floats.{_+ᶠ_, zero⁺, zero⁻, one⁺, one⁻, abs, isFinite}
+use Rattle.numbers.specs.Loops.{turns}
 use Rattle.refusals.specs.declared.Refusal.the-variants.{NonFinite}
 use Rattle.refusals.specs.declared.Answer.{Answer}
 use Rattle.refusals.specs.Tests.{unless, firstOf}
@@ -42,6 +43,26 @@ lowered s sign who message =
     let magnitude = abs message in
     let lower = lt magnitude (s .min1) in
     scanOf sign (cond lower magnitude (s .min1)) (cond lower (s .min1) (cond (lt magnitude (s .min2)) magnitude (s .min2))) (cond lower who (s .holder))
+
+-- ---- the first pass of min-sum, which the code of both takes: Relay's own (`relay_step` `Step`) finds the same sign and minima
+
+-- `usize::MAX`, the position before any minimum is found
+abbrev pub noPosition : ℕ
+noPosition = 0xFFFF_FFFF_FFFF_FFFF
+
+-- the total sign after a message: it flips below zero
+unfoldable pub flippedBy : Float → Float → Float
+flippedBy sign message = cond (lt message zero⁺) (neg sign) sign
+
+-- the message at a position in the first pass
+unfoldable pub scanned : Scan → ℕ → Float → Scan
+scanned s position message = lowered s (flippedBy (s .totalSign) message) position message
+
+-- the first n of a check's messages; `odd` says whether its syndrome byte is not zero
+unfoldable pub scan : Bool → List Float → ℕ → Scan
+scan odd messages n = turns n (λ i s. scanned s i (getD messages i nan)) (startScan odd noPosition)
+
+-- ---- at a variable
 
 -- the sum of the messages that the entries name, in their order, from -0.0
 unfoldable pub total : List Float → List ℕ → Float

@@ -9,7 +9,8 @@ ghost use lib.ListN.{length, getD, replicate};
 ghost use Rattle.numbers.specs.Floats.{zero⁺, abs, isFinite};
 ghost use Rattle.refusals.specs.declared.Refusal.the-variants.{NonFinite};
 ghost use Rattle.refusals.specs.Tests.{unless, firstOf};
-ghost use Rattle.graph_lists.specs.Messages.{total as totalOf, scanOf, startScan, lowered as loweredOf, valueFault};
+ghost use Rattle.graph_lists.specs.Messages.{scanOf, startScan, lowered as loweredOf, flippedBy, scanned as scannedOf, scan as scanTo};
+ghost use Rattle.graph_lists.specs.Messages.{total as totalOf, valueFault};
 ghost use Rattle.graph_lists.specs.Sound.{Keys};
 ghost use Rattle.graph_messages.specs.Needs.{Ordered};
 use graph_lists::indices::at;
@@ -26,7 +27,7 @@ pub struct Scan {
 }
 
 // Before the first message: the least is nobody's.
-pub fn start_scan(odd: bool, nobody: usize) -> Scan
+fn start_scan(odd: bool, nobody: usize) -> Scan
     ensures { λ r. ⌜ scanOf (r .«total_sign») (r .min1) (r .min2) (r .least) ≡ startScan odd nobody ⌝ }
 {
     let top = numbers::infinity();
@@ -67,11 +68,11 @@ fn greater(a: f64, b: f64) -> f64
 }
 
 // Whose the least is, after one more magnitude.
-fn least_of(magnitude: f64, min1: f64, own: usize, least: usize) -> usize
-    ensures { λ r. ⌜ r ≡ cond (lt magnitude min1) own least ⌝ }
+fn least_of(magnitude: f64, min1: f64, who: usize, least: usize) -> usize
+    ensures { λ r. ⌜ r ≡ cond (lt magnitude min1) who least ⌝ }
 {
     if magnitude < min1 {
-        return own;
+        return who;
     }
     least
 }
@@ -87,23 +88,58 @@ fn next_least(message: f64, magnitude: f64, min1: f64, min2: f64) -> f64
 }
 
 // The scan, one message further, with its total sign: strict comparison keeps the first minimum.
-pub fn lowered(s: Scan, sign: f64, own: usize, message: f64) -> Scan
+fn lowered(s: Scan, sign: f64, who: usize, message: f64) -> Scan
     requires { ⌜ Ordered (s .min1) (s .min2) ⌝ }
     ensures scan { λ r.
         let before = scanOf (s .«total_sign») (s .min1) (s .min2) (s .least) in
-        ⌜ scanOf (r .«total_sign») (r .min1) (r .min2) (r .least) ≡ loweredOf before sign own message ⌝ }
+        ⌜ scanOf (r .«total_sign») (r .min1) (r .min2) (r .least) ≡ loweredOf before sign who message ⌝ }
     ensures ordered { λ r. ⌜ Ordered (r .min1) (r .min2) ⌝ }
 {
     let magnitude = numbers::magnitude(message);
     let min1 = lesser(magnitude, s.min1);
     let min2 = next_least(message, magnitude, s.min1, s.min2);
-    let least = least_of(magnitude, s.min1, own, s.least);
+    let least = least_of(magnitude, s.min1, who, s.least);
     Scan {
         total_sign: sign,
         min1: min1,
         min2: min2,
         least: least,
     }
+}
+
+// -sign below zero, else sign.
+fn flipped(sign: f64, message: f64) -> f64
+    ensures { λ r. ⌜ r ≡ flippedBy sign message ⌝ }
+{
+    if message < 0.0 {
+        return -sign;
+    }
+    sign
+}
+
+// The message at a position.
+fn scanned(s: Scan, position: usize, message: f64) -> Scan
+    requires { ⌜ Ordered (s .min1) (s .min2) ⌝ }
+    ensures scan { λ r.
+        let before = scanOf (s .«total_sign») (s .min1) (s .min2) (s .least) in
+        ⌜ scanOf (r .«total_sign») (r .min1) (r .min2) (r .least) ≡ scannedOf before position message ⌝ }
+    ensures ordered { λ r. ⌜ Ordered (r .min1) (r .min2) ⌝ }
+{
+    lowered(s, flipped(s.total_sign, message), position, message)
+}
+
+// The first pass over a check's messages.
+pub fn scan_check(odd: bool, messages: &[f64]) -> Scan
+    ensures { λ r. ⌜
+        scanOf (r .«total_sign») (r .min1) (r .min2) (r .least) ≡ scanTo odd (now (messages .entry)) (length (now (messages .entry))) ⌝ }
+{
+    let mut s = start_scan(odd, 0xFFFFFFFFFFFFFFFF);
+    let mut i = 0;
+    while i < messages.len() {
+        s = scanned(s, i, messages[i]);
+        i += 1;
+    }
+    s
 }
 
 // The sum of the messages that the entries name, in their order, from -0.0.

@@ -11,8 +11,8 @@ use borrow.Author.Tests.{eq-eqb, ne-eqb}
 use Rattle.numbers.specs.Floats.{_*ᶠ_}
 use Rattle.numbers.proofs.Cases.{either-way}
 use Rattle.numbers.proofs.Loops.{tables-agree, but-one}
-use Rattle.graph_lists.specs.Messages.{scanOf}
-use Rattle.min_sum_pass.specs.MinSum.{signWithout, sentAt, scan, sentTo, checkMessages}
+use Rattle.graph_lists.specs.Messages.{scanOf, scan}
+use Rattle.min_sum_pass.specs.MinSum.{signWithout, sentAt, sentTo, checkMessages}
 
 -- one minimum for both, in one message
 pub one-minimum : (scale sign minimum message : Float) (i : ℕ) → signWithout sign message *ᶠ minimum *ᶠ scale ≡ sentAt scale (scanOf sign minimum minimum 0) i message

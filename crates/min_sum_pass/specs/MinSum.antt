@@ -4,12 +4,12 @@ use mathlib.Core.Bool.{Bool, true, false, not, _&&_, Bool·beq, cond}
 use mathlib.Core.List.{List, foldl}
 use lib.Dec.{eqb, ltb, leb}
 use lib.IntN.{negsuc}
-use lib.Ieee.{Float, nan, fin, lt, neg}
+use lib.Ieee.{Float, nan, fin, lt}
 use lib.ListN.{length, getD, set}
 use Rattle.numbers.specs.Floats.{_+ᶠ_, _-ᶠ_, _*ᶠ_, zero⁺, one⁺, one⁻, abs, isNegative}
 use Rattle.numbers.specs.Loops.{turns, table, row, spliced}
 use Rattle.graph_lists.specs.Graph.{Graph, checkEntries, varEntries}
-use Rattle.graph_lists.specs.Messages.{Scan, startScan, lowered, total, fromVariables, cleared}
+use Rattle.graph_lists.specs.Messages.{Scan, scan, total, fromVariables, cleared}
 
 -- `damp`: 0.25
 abbrev pub damp : Float
@@ -19,23 +19,7 @@ damp = fin false 1 (negsuc 1)
 abbrev pub ewaWeight : Float
 ewaWeight = fin false 5404319552844595 (negsuc 53)
 
--- `usize::MAX`, the position before any minimum is found
-abbrev pub noPosition : ℕ
-noPosition = 0xFFFF_FFFF_FFFF_FFFF
-
--- ---- a check, over its own messages
-
--- the total sign after a message: it flips below zero
-unfoldable pub flippedBy : Float → Float → Float
-flippedBy sign message = cond (lt message zero⁺) (neg sign) sign
-
--- the message at a position in the first pass
-unfoldable pub scanned : Scan → ℕ → Float → Scan
-scanned s position message = lowered s (flippedBy (s .totalSign) message) position message
-
--- the first n of a check's messages; `odd` says whether its syndrome byte is not zero
-unfoldable pub scan : Bool → List Float → ℕ → Scan
-scan odd messages n = turns n (λ i s. scanned s i (getD messages i nan)) (startScan odd noPosition)
+-- ---- a check, over its own messages: what its first pass knows is `scan` of `graph_lists` `Messages`
 
 -- `total_sign.copysign(total_sign * message)`, where the total sign is 1 or -1
 unfoldable pub signWithout : Float → Float → Float

@@ -1,4 +1,4 @@
-// One check, over its own messages: a pass that finds the total sign and the two least magnitudes, and a pass that sends.
+// One check, over its own messages: a first pass finds the total sign and the two least magnitudes (`graph_messages`), and a second sends.
 ghost use mathlib.Core.Path.{_≡_};
 ghost use mathlib.Core.Bool.{cond};
 ghost use Prim.Native.Nat.{_≤_};
@@ -7,46 +7,9 @@ ghost use lib.ListN.{length};
 ghost use Rattle.numbers.specs.Floats.{_*ᶠ_};
 ghost use Rattle.numbers.specs.Loops.{part, spliced};
 ghost use Rattle.graph_lists.specs.Messages.{scanOf};
-ghost use Rattle.graph_messages.specs.Needs.{Ordered, PerEdge};
-ghost use Rattle.min_sum_pass.specs.MinSum.{flippedBy, scanned as scannedOf, scan as scanTo, signWithout, sentTo, checkMessages};
-use graph_messages::Scan;
-use graph_messages::lowered;
-use graph_messages::start_scan;
-
-// -sign below zero, else sign.
-fn flipped(sign: f64, message: f64) -> f64
-    ensures { λ r. ⌜ r ≡ flippedBy sign message ⌝ }
-{
-    if message < 0.0 {
-        return -sign;
-    }
-    sign
-}
-
-// The message at a position.
-fn scanned(s: Scan, position: usize, message: f64) -> Scan
-    requires { ⌜ Ordered (s .min1) (s .min2) ⌝ }
-    ensures scan { λ r.
-        let before = scanOf (s .«total_sign») (s .min1) (s .min2) (s .least) in
-        ⌜ scanOf (r .«total_sign») (r .min1) (r .min2) (r .least) ≡ scannedOf before position message ⌝ }
-    ensures ordered { λ r. ⌜ Ordered (r .min1) (r .min2) ⌝ }
-{
-    lowered(s, flipped(s.total_sign, message), position, message)
-}
-
-// The first pass.
-fn scan_check(odd: bool, messages: &[f64]) -> Scan
-    ensures { λ r. ⌜
-        scanOf (r .«total_sign») (r .min1) (r .min2) (r .least) ≡ scanTo odd (now (messages .entry)) (length (now (messages .entry))) ⌝ }
-{
-    let mut s = start_scan(odd, 0xFFFFFFFFFFFFFFFF);
-    let mut i = 0;
-    while i < messages.len() {
-        s = scanned(s, i, messages[i]);
-        i += 1;
-    }
-    s
-}
+ghost use Rattle.graph_messages.specs.Needs.{PerEdge};
+ghost use Rattle.min_sum_pass.specs.MinSum.{signWithout, sentTo, checkMessages};
+use graph_messages::scan_check;
 
 // `total_sign.copysign(total_sign * message)`, where the total sign is 1 or -1.
 fn sign_without(total_sign: f64, message: f64) -> f64

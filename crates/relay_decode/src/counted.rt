@@ -14,8 +14,8 @@ use numbers::limits::MAX_CHECKS;
 use relay_calls::Decoded;
 use relay_settings::Settings;
 
-// A decode in index order, of up to 1024 checks.
-fn decode_few(
+// A decode in index order, which is counted up in a list of one place to a check.
+fn decode_counting(
     t: Settings,
     gammas: &[f64],
     seed: u64,
@@ -25,6 +25,7 @@ fn decode_few(
     check_offset: &[u32],
     var_message: &[u32],
     var_offset: &[u32],
+    order: &mut [u32],
     leg_state: &mut [u8],
     leg_iterations: &mut [u32],
     leg_weight: &mut [f64],
@@ -36,7 +37,7 @@ fn decode_few(
     c_to_v: &mut [f64],
     v_to_c: &mut [f64],
 ) -> Decoded
-    requires { ⌜ length (now syndrome) ≤ 1024 ⌝ }
+    requires { ⌜ (length (now syndrome) ≤ maxChecks) × (length (now order) ≡ length (now syndrome)) ⌝ }
     requires { ⌜
         Reads t (now gammas) (now syndrome) (now priors) (now «check_var») (now «check_offset») (now «var_message») (now «var_offset»)
         (upto (length (now syndrome))) ⌝ }
@@ -57,9 +58,7 @@ fn decode_few(
         (now («v_to_c» .exit)) in
         ⌜ decodeOutcome r after ≡ afterLegs (length (now («check_var» .entry))) x end before ⌝ }
 {
-    let checks = syndrome.len();
-    let mut order = [0u32; 1024];
-    number(&mut order[0..checks]);
+    number(order);
     decode_fronts(
         t,
         gammas,
@@ -70,77 +69,7 @@ fn decode_few(
         check_offset,
         var_message,
         var_offset,
-        &order[0..checks],
-        leg_state,
-        leg_iterations,
-        leg_weight,
-        rows,
-        correction,
-        posterior,
-        gamma,
-        bias,
-        c_to_v,
-        v_to_c,
-    )
-}
-
-// A decode in index order, of up to 65,536 checks.
-fn decode_many(
-    t: Settings,
-    gammas: &[f64],
-    seed: u64,
-    syndrome: &[u8],
-    priors: &[f64],
-    check_var: &[u32],
-    check_offset: &[u32],
-    var_message: &[u32],
-    var_offset: &[u32],
-    leg_state: &mut [u8],
-    leg_iterations: &mut [u32],
-    leg_weight: &mut [f64],
-    rows: &mut [u8],
-    correction: &mut [u8],
-    posterior: &mut [f64],
-    gamma: &mut [f64],
-    bias: &mut [f64],
-    c_to_v: &mut [f64],
-    v_to_c: &mut [f64],
-) -> Decoded
-    requires { ⌜ length (now syndrome) ≤ maxChecks ⌝ }
-    requires { ⌜
-        Reads t (now gammas) (now syndrome) (now priors) (now «check_var») (now «check_offset») (now «var_message») (now «var_offset»)
-        (upto (length (now syndrome))) ⌝ }
-    requires { ⌜
-        LegsFit (suc (t .«num_legs»)) (length (now priors)) (now «leg_state») (now «leg_iterations») (now «leg_weight») (now rows) ⌝ }
-    requires { ⌜ PerShot (length (now priors)) (now correction) (now posterior) (now gamma) (now bias) ⌝ }
-    requires { ⌜ PerEdge (length (now «check_var»)) (now «c_to_v») (now «v_to_c») ⌝ }
-    ensures { λ r.
-        let x = shotOf t (now (gammas .entry)) seed (now (syndrome .entry)) (now (priors .entry)) (now («check_var» .entry))
-        (now («check_offset» .entry)) (now («var_message» .entry)) (now («var_offset» .entry))
-        (upto (length (now (syndrome .entry)))) in
-        let before = decodeLists (now («leg_state» .entry)) (now («leg_iterations» .entry)) (now («leg_weight» .entry)) (now (rows .entry))
-        (now (correction .entry)) (now (posterior .entry)) (now (gamma .entry)) (now (bias .entry)) (now («c_to_v» .entry))
-        (now («v_to_c» .entry)) in
-        let end = decodeLegs x in
-        let after = decodeLists (now («leg_state» .exit)) (now («leg_iterations» .exit)) (now («leg_weight» .exit)) (now (rows .exit))
-        (now (correction .exit)) (now (posterior .exit)) (now (gamma .exit)) (now (bias .exit)) (now («c_to_v» .exit))
-        (now («v_to_c» .exit)) in
-        ⌜ decodeOutcome r after ≡ afterLegs (length (now («check_var» .entry))) x end before ⌝ }
-{
-    let checks = syndrome.len();
-    let mut order = [0u32; MAX_CHECKS];
-    number(&mut order[0..checks]);
-    decode_fronts(
-        t,
-        gammas,
-        seed,
-        syndrome,
-        priors,
-        check_var,
-        check_offset,
-        var_message,
-        var_offset,
-        &order[0..checks],
+        order,
         leg_state,
         leg_iterations,
         leg_weight,
@@ -197,8 +126,10 @@ pub fn decode_counted(
         (now («v_to_c» .exit)) in
         ⌜ decodeOutcome r after ≡ afterLegs (length (now («check_var» .entry))) x end before ⌝ }
 {
-    if syndrome.len() <= 1024 {
-        return decode_few(
+    let checks = syndrome.len();
+    if checks <= 1024 {
+        let mut order = [0u32; 1024];
+        return decode_counting(
             t,
             gammas,
             seed,
@@ -208,6 +139,7 @@ pub fn decode_counted(
             check_offset,
             var_message,
             var_offset,
+            &mut order[..checks],
             leg_state,
             leg_iterations,
             leg_weight,
@@ -220,7 +152,8 @@ pub fn decode_counted(
             v_to_c,
         );
     }
-    decode_many(
+    let mut order = [0u32; MAX_CHECKS];
+    decode_counting(
         t,
         gammas,
         seed,
@@ -230,6 +163,7 @@ pub fn decode_counted(
         check_offset,
         var_message,
         var_offset,
+        &mut order[..checks],
         leg_state,
         leg_iterations,
         leg_weight,

@@ -1,5 +1,5 @@
--- What a check sends, as the code finds it: the least is known by its place, which is its variable's only one; the least is sent at all places, and then the
--- next at the place of the least. Assumes nothing.
+-- What a check sends, as the code finds it: a sign flips below zero, which is a product of signs; the least is known by its place, which is its variable's
+-- only one; the least is sent at all places, and then the next at the place of the least. Assumes nothing.
 use mathlib.Core.Path.{_≡_, refl, sym, _∙_}
 use mathlib.Core.Bool.{Bool, true, false, cond}
 use mathlib.Core.List.{List}
@@ -8,49 +8,76 @@ use Prim.Native.Nat.{ℕ, zero, suc, _<_, _≤_}
 use native.Mathlib.Nat.{lt-suc-self}
 use native.Mathlib.Omega.{arith}
 use lib.Dec.{eqb}
-use lib.Ieee.{Float, nan, lt}
+use lib.Ieee.{Float, nan, lt, neg, mul}
 use lib.ListN.{length, getD, set}
 use borrow.Author.Tests.{eq-eqb, ne-eqb}
 use Rattle.numbers.specs.Floats.{_*ᶠ_, zero⁺, one⁺, one⁻, abs, messageSign}
 use Rattle.numbers.proofs.Cases.{less-or-not}
 use Rattle.numbers.proofs.Loops.{tables-agree, but-one}
-use Rattle.graph_lists.specs.Messages.{Scan, scanOf, lowered}
+use Rattle.graph_lists.specs.Messages.{Scan, scanOf, lowered, flippedBy}
+use Rattle.graph_lists.specs.Messages as first
 use Rattle.graph_messages.specs.Needs.{Rises}
 use Rattle.relay_step.specs.Step.{noVariable, scanned, scan, saturated, sent, sentTo, checkMessages}
-use Rattle.relay_step.specs.Places.{scanPlaces, bySigns}
+use Rattle.relay_step.specs.Places.{bySigns}
+
+-- a sign: 1 or -1
+pub data Sign : Float → Type 0 where
+  positive : Sign one⁺
+  negative : Sign one⁻
+
+-- by whether a message is below zero
+sign-next : (sign : Float) (b : Bool) → Sign sign → (sign *ᶠ cond b one⁻ one⁺ ≡ cond b (neg sign) sign) × Sign (cond b (neg sign) sign)
+unfolding mul neg
+sign-next sign true positive = (refl, negative)
+sign-next sign false positive = (refl, positive)
+sign-next sign true negative = (refl, positive)
+sign-next sign false negative = (refl, negative)
+
+-- a product of signs is one that flips
+flips : (sign x : Float) → Sign sign → (sign *ᶠ messageSign x ≡ flippedBy sign x) × Sign (flippedBy sign x)
+unfolding messageSign flippedBy
+flips sign x h = sign-next sign (lt x zero⁺) h
 
 -- the scan by variables, from the scan s by places: whose the least is; or it is nobody's, and both minima are the same
 pub record Found (odd : Bool) (variables : List ℕ) (messages : List Float) (n : ℕ) (s : Scan) : Type 0 where
   pub variable : ℕ
   pub is : scan odd variables messages n ≡ scanOf (s .totalSign) (s .min1) (s .min2) variable
   pub whose : ((s .holder < n) × (variable ≡ getD variables (s .holder) 0)) ⊎ (s .min1 ≡ s .min2)
+  pub signed : Sign (s .totalSign)
 
 module _ (odd : Bool) (variables : List ℕ) (messages : List Float) where
   -- one message further, by whether it is the least so far
   further : (n : ℕ) (s : Scan) (x : Float) (b : Bool) → x ≡ getD messages n nan → lt (abs x) (s .min1) ≡ b → Found odd variables messages n s
-      → Found odd variables messages (suc n) (scanned s n x)
-  unfolding scan scanned lowered
+      → Found odd variables messages (suc n) (first.scanned s n x)
+  unfolding scan scanned lowered first.scanned
   further n s x true e h f =
       record {
         variable = getD variables n 0;
-        is = rw (f .is, sym e, h);
+        is = rw (f .is, sym e, h, flips (s .totalSign) x (f .signed) .0);
         whose = inl (rw h (lt-suc-self n, refl));
+        signed = flips (s .totalSign) x (f .signed) .1;
       }
   further n s x false e h f =
       record {
         variable = f .variable;
-        is = rw (f .is, sym e, h);
+        is = rw (f .is, sym e, h, flips (s .totalSign) x (f .signed) .0);
         whose = rw h (⊎-elim (λ (w : (s .holder < n) × (f .variable ≡ getD variables
             (s .holder) 0)). inl (omega (arith, w .0), w .1)) (λ (w : s .min1 ≡ s .min2). inr (same w (rw w at h))) (f .whose));
+        signed = flips (s .totalSign) x (f .signed) .1;
       }
     where
       same : s .min1 ≡ s .min2 → lt (abs x) (s .min2) ≡ false → s .min1 ≡ cond (lt (abs x) (s .min2)) (abs x) (s .min2)
       same w k = rw k w
 
-  pub found : (n : ℕ) → Found odd variables messages n (scanPlaces odd messages n)
-  unfolding scan scanPlaces
-  found zero = record { variable = noVariable; is = refl; whose = inr refl }
-  found (suc n) = further n (scanPlaces odd messages n) (getD messages n nan) (lt (abs (getD messages n nan)) (scanPlaces odd messages n .min1)) refl refl (found n)
+  -- before any
+  start-sign : (b : Bool) → Sign (cond b one⁻ one⁺)
+  start-sign true = negative
+  start-sign false = positive
+
+  pub found : (n : ℕ) → Found odd variables messages n (first.scan odd messages n)
+  unfolding scan first.scan
+  found zero = record { variable = noVariable; is = refl; whose = inr refl; signed = start-sign odd }
+  found (suc n) = further n (first.scan odd messages n) (getD messages n nan) (lt (abs (getD messages n nan)) (first.scan odd messages n .min1)) refl refl (found n)
 
 -- one of two, where they are the same
 either-way : (b : Bool) (x y : Float) → x ≡ y → cond b y x ≡ x
@@ -111,7 +138,7 @@ module _ (alpha sign min1 min2 : Float) (variables : List ℕ) (messages : List 
 -- all that a check sends, in each case
 module _ (alpha : Float) (odd : Bool) (variables : List ℕ) (messages out : List Float) (sign min1 min2 : Float) (least : ℕ) (minus plus : Float)
     (r : Rises variables) (many : length messages ≡ length variables)
-    (s : scanOf sign min1 min2 least ≡ scanPlaces odd messages (length messages))
+    (s : scanOf sign min1 min2 least ≡ first.scan odd messages (length messages))
     (p : minus ≡ alpha *ᶠ (sign *ᶠ one⁻) *ᶠ saturated min1) (q : plus ≡ alpha *ᶠ (sign *ᶠ one⁺) *ᶠ saturated min1)
     (o : out ≡ bySigns minus plus messages (length messages)) where
   f : Found odd variables messages (length messages) (scanOf sign min1 min2 least)

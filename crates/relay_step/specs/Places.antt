@@ -1,18 +1,12 @@
 -- What the code of a check's update has on the way, and lists that are long enough: for private contracts, and no part of what a reader must believe. Definitions only. Assumes nothing.
 use Prim.Native.Nat.{ℕ}
 use mathlib.Core.Path.{_≡_}
-use mathlib.Core.Bool.{Bool, cond}
+use mathlib.Core.Bool.{cond}
 use mathlib.Core.List.{List}
 use lib.Ieee.{Float, nan, lt}
 use lib.ListN.{length, getD}
 use Rattle.numbers.specs.Floats.{zero⁺}
-use Rattle.numbers.specs.Loops.{turns, table}
-use Rattle.graph_lists.specs.Messages.{Scan, startScan}
-use Rattle.relay_step.specs.Step.{scanned}
-
--- the scan of the first n messages, with the least by its place
-unfoldable pub scanPlaces : Bool → List Float → ℕ → Scan
-scanPlaces odd messages n = turns n (λ i s. scanned s i (getD messages i nan)) (startScan odd 0xFFFF_FFFF_FFFF_FFFF)
+use Rattle.numbers.specs.Loops.{table}
 
 -- one of two for each of the first n messages, by its sign
 unfoldable pub bySigns : Float → Float → List Float → ℕ → List Float

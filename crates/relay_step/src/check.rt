@@ -1,5 +1,5 @@
-// `update_check` over the variables and the messages of one check: a pass that finds the total sign and the two least magnitudes, and a
-// pass that sends.
+// `update_check` over the variables and the messages of one check: a first pass finds the total sign and the two least magnitudes
+// (`graph_messages`; it knows the least by its place, and a check has a variable at one place alone), and a second sends.
 ghost use mathlib.Core.Path.{_≡_};
 ghost use mathlib.Core.Bool.{cond};
 ghost use Prim.Native.Nat.{_≤_};
@@ -7,44 +7,10 @@ ghost use lib.Ieee.{lt};
 ghost use lib.ListN.{length};
 ghost use Rattle.numbers.specs.Floats.{_*ᶠ_, zero⁺};
 ghost use Rattle.numbers.specs.Loops.{part, spliced};
-ghost use Rattle.graph_lists.specs.Messages.{scanOf};
-ghost use Rattle.graph_messages.specs.Needs.{Ordered, Rises};
-ghost use Rattle.relay_step.specs.Step.{scanned as scannedOf, saturated as saturatedOf, checkMessages};
-ghost use Rattle.relay_step.specs.Places.{scanPlaces, bySigns};
-use graph_messages::Scan;
-use graph_messages::lowered;
-use graph_messages::start_scan;
-
-// The message at a place.
-fn scanned(s: Scan, place: usize, message: f64) -> Scan
-    requires { ⌜ Ordered (s .min1) (s .min2) ⌝ }
-    ensures scan { λ r.
-        let before = scanOf (s .«total_sign») (s .min1) (s .min2) (s .least) in
-        ⌜ scanOf (r .«total_sign») (r .min1) (r .min2) (r .least) ≡ scannedOf before place message ⌝ }
-    ensures ordered { λ r. ⌜ Ordered (r .min1) (r .min2) ⌝ }
-{
-    lowered(
-        s,
-        s.total_sign * numbers::message_sign(message),
-        place,
-        message,
-    )
-}
-
-// The first pass. It knows the least by its place: a check has a variable at one place alone.
-fn scan_check(odd: bool, messages: &[f64]) -> Scan
-    ensures { λ r. ⌜
-        scanOf (r .«total_sign») (r .min1) (r .min2) (r .least)
-        ≡ scanPlaces odd (now (messages .entry)) (length (now (messages .entry))) ⌝ }
-{
-    let mut s = start_scan(odd, 0xFFFFFFFFFFFFFFFF);
-    let mut i = 0;
-    while i < messages.len() {
-        s = scanned(s, i, messages[i]);
-        i += 1;
-    }
-    s
-}
+ghost use Rattle.graph_messages.specs.Needs.{PerEdge, Rises};
+ghost use Rattle.relay_step.specs.Step.{saturated as saturatedOf, checkMessages};
+ghost use Rattle.relay_step.specs.Places.{bySigns};
+use graph_messages::scan_check;
 
 // A minimum that is not finite becomes 30.
 fn saturated(x: f64) -> f64
@@ -87,7 +53,7 @@ fn send(minus: f64, plus: f64, v_to_c: &[f64], c_to_v: &mut [f64])
 
 // All that a check sends, from all that came in: the least at all places, and the next at the place of the least.
 fn update_check(alpha: f64, odd: bool, variables: &[u32], v_to_c: &[f64], c_to_v: &mut [f64])
-    requires { ⌜ (length (now «v_to_c») ≡ length (now variables)) × (length (now «c_to_v») ≡ length (now variables)) ⌝ }
+    requires { ⌜ PerEdge (length (now variables)) (now «v_to_c») (now «c_to_v») ⌝ }
     requires { ⌜ Rises (now variables) ⌝ }
     ensures { λ _. ⌜ now («c_to_v» .exit) ≡ checkMessages alpha odd (now (variables .entry)) (now («v_to_c» .entry)) ⌝ }
 {

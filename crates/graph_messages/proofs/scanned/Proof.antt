@@ -1,9 +1,9 @@
--- `min_sum_pass::check::scanned` meets its contract. The sign and the two least are found each by itself. Assumes nothing.
+-- `graph_messages::scanned` meets its contract. The sign and the two least are found each by itself. Assumes nothing.
 use mathlib.Core.Path.{_∙_}
-use Rattle.min_sum_pass.specs.MinSum.{scanned}
+use Rattle.graph_lists.specs.Messages.{scanned}
 use borrow.Author.Needs.{needs}
-use Rattle.min_sum_pass.proofs.check.scanned.Statement.{statement}
-use Rattle.min_sum_pass.proofs.check.scanned.Tie as tie
+use Rattle.graph_messages.proofs.scanned.Statement.{statement}
+use Rattle.graph_messages.proofs.scanned.Tie as tie
 
 flipped-requires : tie.Need-flipped-requires
 flipped-requires c κs = search needs
