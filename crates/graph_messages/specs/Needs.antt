@@ -46,9 +46,11 @@ pub record Ordered (min1 min2 : Float) : Type 0 where
 -- ---- lists that are long enough
 
 -- a message to an edge in both
-abbrev pub PerEdge : ℕ → List Float → List Float → Type 0
-PerEdge edges cToV vToC = (length cToV ≡ edges) × (length vToC ≡ edges)
+pub record PerEdge (edges : ℕ) (cToV vToC : List Float) : Type 0 where
+  pub to-variables : length cToV ≡ edges
+  pub to-checks : length vToC ≡ edges
 
 -- what a run of min-sum works in: both messages, and the running posterior
-abbrev pub RunLists : ℕ → ℕ → List Float → List Float → List Float → Type 0
-RunLists edges mechanisms cToV vToC ewa = (length cToV ≡ edges) × (length vToC ≡ edges) × (length ewa ≡ mechanisms)
+pub record RunLists (edges mechanisms : ℕ) (cToV vToC ewa : List Float) : Type 0 where
+  pub messages : PerEdge edges cToV vToC
+  pub averages : length ewa ≡ mechanisms

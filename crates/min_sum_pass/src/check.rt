@@ -64,7 +64,7 @@ fn update_check(
     v_to_c: &[f64],
     c_to_v: &mut [f64],
 ) -> bool
-    requires { ⌜ PerEdge (length (now variables)) (now «v_to_c») (now «c_to_v») ⌝ }
+    requires { ⌜ PerEdge (length (now variables)) (now «c_to_v») (now «v_to_c») ⌝ }
     ensures skipped { λ r. ⌜ r ≡ ltb (length (now (variables .entry))) 2 ⌝ }
     ensures messages { λ r. ⌜ now («c_to_v» .exit) ≡ cond r (now («c_to_v» .entry)) (checkMessages scale odd (now («v_to_c» .entry))) ⌝ }
 {
@@ -86,7 +86,7 @@ pub(crate) fn update_part(
     c_to_v: &mut [f64],
 ) -> bool
     requires { ⌜ (start ≤ end) × (end ≤ length (now «check_var»)) ⌝ }
-    requires { ⌜ PerEdge (length (now «check_var»)) (now «v_to_c») (now «c_to_v») ⌝ }
+    requires { ⌜ PerEdge (length (now «check_var»)) (now «c_to_v») (now «v_to_c») ⌝ }
     ensures skipped { λ r. ⌜ r ≡ ltb (length (part start end (now («check_var» .entry)))) 2 ⌝ }
     ensures messages { λ r. ⌜
         now («c_to_v» .exit)

@@ -131,12 +131,8 @@ fn leg_in_row(
         (now order) ⌝ }
     requires { ⌜ (leg ≤ t .«num_legs») × (tally .«num_converged» ≤ 65536) × (tally .«total_iterations» ≤ 65536 * 65535) ⌝ }
     requires { ⌜ (leg < length (now «leg_state»)) × (leg < length (now «leg_iterations»)) × (leg < length (now «leg_weight»)) ⌝ }
-    requires { ⌜
-        (length (now row) ≡ length (now priors))
-        × (length (now correction) ≡ length (now priors))
-        × (length (now posterior) ≡ length (now priors))
-        × (length (now gamma) ≡ length (now priors))
-        × (length (now bias) ≡ length (now priors)) ⌝ }
+    requires { ⌜ length (now row) ≡ length (now priors) ⌝ }
+    requires { ⌜ PerShot (length (now priors)) (now correction) (now posterior) (now gamma) (now bias) ⌝ }
     requires { ⌜ PerEdge (length (now «check_var»)) (now «c_to_v») (now «v_to_c») ⌝ }
     ensures turn { λ r.
         let x = shotOf t (now (gammas .entry)) seed (now (syndrome .entry)) (now (priors .entry)) (now («check_var» .entry))

@@ -54,19 +54,25 @@ pub record Reads (t : Settings) (flat : List Float) (syndrome : List ℕ) (prior
   pub sets-many : 0 < t .«num_legs» → (sets : ℕ) → t .«gamma_source» ≡ Explicit sets → (0 < sets) × (length flat ≡ sets * length prior)
 
 -- a value for each mechanism: correction, posterior, gammas and biases
-abbrev pub PerShot : ℕ → List ℕ → List Float → List Float → List Float → Type 0
-PerShot mechanisms correction posterior gamma bias =
-    (length correction ≡ mechanisms) × (length posterior ≡ mechanisms) × (length gamma ≡ mechanisms) × (length bias ≡ mechanisms)
+pub record PerShot (mechanisms : ℕ) (correction : List ℕ) (posterior gamma bias : List Float) : Type 0 where
+  pub bits : length correction ≡ mechanisms
+  pub posteriors : length posterior ≡ mechanisms
+  pub gammas : length gamma ≡ mechanisms
+  pub biases : length bias ≡ mechanisms
 
 -- the leg lists and the correction rows are those of so many legs
-abbrev pub LegsLong : ℕ → ℕ → List ℕ → List ℕ → List Float → List ℕ → Type 0
-LegsLong legs mechanisms states iterations weights rows =
-    (length states ≡ legs) × (length iterations ≡ legs) × (length weights ≡ legs) × (length rows ≡ legs * mechanisms)
+pub record LegsLong (legs mechanisms : ℕ) (states iterations : List ℕ) (weights : List Float) (rows : List ℕ) : Type 0 where
+  pub of-states : length states ≡ legs
+  pub of-iterations : length iterations ≡ legs
+  pub of-weights : length weights ≡ legs
+  pub of-rows : length rows ≡ legs * mechanisms
 
 -- or of more
-abbrev pub LegsFit : ℕ → ℕ → List ℕ → List ℕ → List Float → List ℕ → Type 0
-LegsFit legs mechanisms states iterations weights rows =
-    (legs ≤ length states) × (legs ≤ length iterations) × (legs ≤ length weights) × (legs * mechanisms ≤ length rows)
+pub record LegsFit (legs mechanisms : ℕ) (states iterations : List ℕ) (weights : List Float) (rows : List ℕ) : Type 0 where
+  pub of-states : legs ≤ length states
+  pub of-iterations : legs ≤ length iterations
+  pub of-weights : legs ≤ length weights
+  pub of-rows : legs * mechanisms ≤ length rows
 
 -- ---- between legs
 

@@ -13,10 +13,12 @@ unfoldable pub bySigns : Float → Float → List Float → ℕ → List Float
 bySigns minus plus messages n = table n (λ i. cond (lt (getD messages i nan) zero⁺) minus plus)
 
 -- a value for each mechanism: gammas, biases and posterior
-abbrev pub PerMechanism : ℕ → List Float → List Float → List Float → Type 0
-PerMechanism mechanisms gamma bias posterior = (length gamma ≡ mechanisms) × (length bias ≡ mechanisms) × (length posterior ≡ mechanisms)
+pub record PerMechanism (mechanisms : ℕ) (gamma bias posterior : List Float) : Type 0 where
+  pub gammas : length gamma ≡ mechanisms
+  pub biases : length bias ≡ mechanisms
+  pub posteriors : length posterior ≡ mechanisms
 
 -- those, and a bit
-abbrev pub LegLists : ℕ → List Float → List Float → List Float → List ℕ → Type 0
-LegLists mechanisms gamma bias posterior bits =
-    (length gamma ≡ mechanisms) × (length bias ≡ mechanisms) × (length posterior ≡ mechanisms) × (length bits ≡ mechanisms)
+pub record LegLists (mechanisms : ℕ) (gamma bias posterior : List Float) (bits : List ℕ) : Type 0 where
+  pub values : PerMechanism mechanisms gamma bias posterior
+  pub decisions : length bits ≡ mechanisms

@@ -53,7 +53,7 @@ fn send(minus: f64, plus: f64, v_to_c: &[f64], c_to_v: &mut [f64])
 
 // All that a check sends, from all that came in: the least at all places, and the next at the place of the least.
 fn update_check(alpha: f64, odd: bool, variables: &[u32], v_to_c: &[f64], c_to_v: &mut [f64])
-    requires { ⌜ PerEdge (length (now variables)) (now «v_to_c») (now «c_to_v») ⌝ }
+    requires { ⌜ PerEdge (length (now variables)) (now «c_to_v») (now «v_to_c») ⌝ }
     requires { ⌜ Rises (now variables) ⌝ }
     ensures { λ _. ⌜ now («c_to_v» .exit) ≡ checkMessages alpha odd (now (variables .entry)) (now («v_to_c» .entry)) ⌝ }
 {
@@ -78,11 +78,8 @@ pub(crate) fn update_part(
     v_to_c: &[f64],
     c_to_v: &mut [f64],
 )
-    requires { ⌜
-        (start ≤ end)
-        × (end ≤ length (now «check_var»))
-        × (length (now «v_to_c») ≡ length (now «check_var»))
-        × (length (now «c_to_v») ≡ length (now «check_var»)) ⌝ }
+    requires { ⌜ (start ≤ end) × (end ≤ length (now «check_var»)) ⌝ }
+    requires { ⌜ PerEdge (length (now «check_var»)) (now «c_to_v») (now «v_to_c») ⌝ }
     requires { ⌜ Rises (part start end (now «check_var»)) ⌝ }
     ensures { λ _. ⌜
         now («c_to_v» .exit)

@@ -33,7 +33,7 @@ returns c = beliefs-refused _ _ _ _ _ _ _ _ _ _ _ _ (lent (c .before .before .be
 ran-requires : tie.Need-ran-requires
 ran-requires c κs =
     let t = passed (c .before .before .before .before) in
-    (t .check-walks, (t .var-walks, ((t .c-many, t .v-many, t .ewa-many), t .posterior-many)))
+    (t .check-walks, (t .var-walks, (record { messages = record { to-variables = t .c-many; to-checks = t .v-many }; averages = t .ewa-many }, t .posterior-many)))
 
 same-length : tie.Need-same-length
 same-length c = search needs

@@ -10,7 +10,10 @@ copy-requires c κs = search needs
 
 outer-round-requires : tie.Need-outer-round-requires
 outer-round-requires c κs = let p = c .before .before .before .before .before .before .before .before .before .before .before .before .before .before .before
-    .before .before .pre in (p .0, (p .1 .0, (p .1 .1 .0, p .1 .1 .1, c .before .before .before .before .before .before .copy .kept .1 .0 ∙ p .1 .1 .2)))
+    .before .before .pre in (
+      p .0,
+      (p .1 .0, record { messages = p .1 .1 .messages; averages = c .before .before .before .before .before .before .copy .kept .1 .0 ∙ p .1 .1 .averages }),
+    )
 
 same-length : tie.Need-same-length
 same-length c = search needs
@@ -30,15 +33,7 @@ two-outer-rounds-requires : tie.Need-two-outer-rounds-requires
 two-outer-rounds-requires c κs = let p = c .before .before .before .before .before .before .before .before .before .before .before .before .before .before
     .before .before .before .pre in (
       p .0,
-      (
-        p .1 .0,
-        (
-          p .1 .1 .0,
-          p .1 .1 .1,
-          c .before .before .before .before .before .before .copy .kept .1 .0 ∙ p .1 .1
-              .2,
-        ),
-      ),
+      (p .1 .0, record { messages = p .1 .1 .messages; averages = c .before .before .before .before .before .before .copy .kept .1 .0 ∙ p .1 .1 .averages }),
     )
 
 same-length-4 : tie.Need-same-length-4

@@ -13,8 +13,8 @@ update-and-average-requires : tie.Need-update-and-average-requires
 update-and-average-requires c κs =
     let s = c .before .before .before .before .before .before .before .before .before .before .before .before .before .before .before .before .before in
     let p = s .pre .1 .1 in
-    let k = sym (c .before .before .before .before .before .parallel-checks .kept .1 .1 .1 .1 .1 .0 ∙ p .0) in
-    (walks-along _ _ _ _ _ k (s .pre .1 .0), (p .1 ∙ k, p .2))
+    let k = sym (c .before .before .before .before .before .parallel-checks .kept .1 .1 .1 .1 .1 .0 ∙ p .messages .to-variables) in
+    (walks-along _ _ _ _ _ k (s .pre .1 .0), (p .messages .to-checks ∙ k, p .averages))
 
 same-length : tie.Need-same-length
 same-length c = search needs

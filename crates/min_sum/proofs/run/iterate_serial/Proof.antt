@@ -13,7 +13,7 @@ average-requires : tie.Need-average-requires
 average-requires c κs =
     let s = c .before .before .before .before .before .before .before .before .before .before .before .before .before .before .before .before .before .before in
     let p = s .pre .1 .1 in
-    (walks-along _ _ _ _ _ (sym (c .before .before .before .before .before .before .serial-checks .kept .1 .1 .1 .1 .1 .1 .1 .0 ∙ p .0)) (s .pre .1 .0), p .2)
+    (walks-along _ _ _ _ _ (sym (c .before .before .before .before .before .before .serial-checks .kept .1 .1 .1 .1 .1 .1 .1 .0 ∙ p .messages .to-variables)) (s .pre .1 .0), p .averages)
 
 same-length : tie.Need-same-length
 same-length c = search needs

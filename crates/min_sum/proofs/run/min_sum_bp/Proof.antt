@@ -14,7 +14,7 @@ choose-requires c κs =
     let p = c .before .before .before .before .before .before .before .before .before .before .before .before .before .before .before .before .before .before
     .before .before .before .before .before .pre in
     let k = c .before .before .before .before .before .before .before .before .before .all-rounds .kept .1 .1 .1 .1 .1 .1 .1 .1 .1 in
-    (walks-along _ _ _ _ _ (sym (k .0 ∙ p .1 .1 .0 .0)) (p .1 .0), (k .1 .1 .0 ∙ p .1 .1 .0 .2, p .1 .1 .1))
+    (walks-along _ _ _ _ _ (sym (k .0 ∙ p .1 .1 .0 .messages .to-variables)) (p .1 .0), (k .1 .1 .0 ∙ p .1 .1 .0 .averages, p .1 .1 .1))
 
 same-length : tie.Need-same-length
 same-length c = search needs

@@ -28,17 +28,17 @@ clear-requires c κs = search needs
 from-variables-requires : tie.Need-from-variables-requires Inv-loop μ-loop
 from-variables-requires c κs =
     let s = c .before .before .before .before .before .before .before .before .before .before .before .before .before .before .before in
-    (entries-along _ _ _ (sym (s .pre .1 .1 .2)) (s .pre .0 .named), s .pre .1 .1 .1)
+    (entries-along _ _ _ (sym (s .pre .1 .1 .averages)) (s .pre .0 .named), s .pre .1 .1 .messages .to-checks)
 
 loop-holds : tie.Need-loop-holds Inv-loop μ-loop
 loop-holds c =
     let s = c .before .before .before .before .before .before .before .before .before .before .before .before .before .before .before .before .before .before in
     let p = s .pre .1 .1 in (
       omega arith,
-      c .before .before .before .before .before .before .before .clear .kept .0 ∙ p .0,
-      c .before .before .from-variables .kept .1 .1 .0 ∙ p .1,
-      p .2,
-      round-starts _ _ _ _ _ _ _ _ _ _ (c .before .before .before .before .before .before .before .clear .ensures ∙ ap (λ n. replicate n zero⁺) (p .0)) (c .before .before .from-variables .ensures),
+      c .before .before .before .before .before .before .before .clear .kept .0 ∙ p .messages .to-variables,
+      c .before .before .from-variables .kept .1 .1 .0 ∙ p .messages .to-checks,
+      p .averages,
+      round-starts _ _ _ _ _ _ _ _ _ _ (c .before .before .before .before .before .before .before .clear .ensures ∙ ap (λ n. replicate n zero⁺) (p .messages .to-variables)) (c .before .before .from-variables .ensures),
     )
 
 weight-requires : tie.Need-weight-requires Inv-loop μ-loop
@@ -49,7 +49,7 @@ iterate-requires c κs =
     let s = c .before .before .before .before .before .before .before .before .before .before .before .before .before .before .before .before .before .before
     .before .before .before .before .before .before in
     let l = c .before .before .before .before .before .loop in
-    (s .pre .0, (s .pre .1 .0, (l .inv .1, l .inv .2, l .inv .3)))
+    (s .pre .0, (s .pre .1 .0, record { messages = record { to-variables = l .inv .1; to-checks = l .inv .2 }; averages = l .inv .3 }))
 
 add-i : tie.Need-add-i Inv-loop μ-loop
 add-i c = omega (
@@ -78,15 +78,15 @@ loop-again c =
 
 same-length : tie.Need-same-length Inv-loop μ-loop
 same-length c = let p = c .before .before .before .before .before .before .before .before .before .before .before .before .before .before .before .before
-    .before .before .before .before .pre .1 .1 in c .before .loop .inv .1 ∙ sym (p .0)
+    .before .before .before .before .pre .1 .1 in c .before .loop .inv .1 ∙ sym (p .messages .to-variables)
 
 same-length-2 : tie.Need-same-length-2 Inv-loop μ-loop
 same-length-2 c = let p = c .before .before .before .before .before .before .before .before .before .before .before .before .before .before .before .before
-    .before .before .before .before .pre .1 .1 in c .before .loop .inv .2 ∙ sym (p .1)
+    .before .before .before .before .pre .1 .1 in c .before .loop .inv .2 ∙ sym (p .messages .to-checks)
 
 same-length-3 : tie.Need-same-length-3 Inv-loop μ-loop
 same-length-3 c = let p = c .before .before .before .before .before .before .before .before .before .before .before .before .before .before .before .before
-    .before .before .before .before .pre .1 .1 in c .before .loop .inv .3 ∙ sym (p .2)
+    .before .before .before .before .pre .1 .1 in c .before .loop .inv .3 ∙ sym (p .averages)
 
 returns : tie.Need-returns Inv-loop μ-loop
 returns c = let l = c .before .loop in round-done _ _ _ _ _ _ _ (l .i) _ _ _ _ (omega arith) (l .inv .4)

@@ -50,9 +50,9 @@ returns c =
     let k = r .kept .1 .1 .1 .1 .1 .1 .1 .1 .1 in
     ran-refused _ _ _ _ _ _ _ _ _ (r .ensures) (c .before .before .before .before .before .before .first-not-finite .ensures) (k .1 .1 .1 .0 ∙ p .1)
     (c .before .before .before .before .before .before .before .before .before .before .before .before .before .before .before .before .before .before .clear
-    .ensures ∙ ap (λ n. replicate n zero⁺) (k .1 .1 .0 ∙ p .0 .2))
-    (c .before .before .before .before .before .before .before .before .before .before .before .before .before .before .clear2 .ensures ∙ ap (λ n. replicate n zero⁺) (k .0 ∙ p .0 .0))
-    (c .before .before .before .before .before .before .before .before .before .before .clear3 .ensures ∙ ap (λ n. replicate n zero⁺) (k .1 .0 ∙ p .0 .1))
+    .ensures ∙ ap (λ n. replicate n zero⁺) (k .1 .1 .0 ∙ p .0 .averages))
+    (c .before .before .before .before .before .before .before .before .before .before .before .before .before .before .clear2 .ensures ∙ ap (λ n. replicate n zero⁺) (k .0 ∙ p .0 .messages .to-variables))
+    (c .before .before .before .before .before .before .before .before .before .before .clear3 .ensures ∙ ap (λ n. replicate n zero⁺) (k .1 .0 ∙ p .0 .messages .to-checks))
     (c .before .before .before .before .before .is-done .ensures) _ (c .before .before .before .before .if1 .taken) (c .before .before .clear4 .ensures)
 
 same-length-5 : tie.Need-same-length-5
@@ -76,9 +76,9 @@ returns-2 c =
     .before .before .before .before .before .before .min-sum-bp in
     let k = r .kept .1 .1 .1 .1 .1 .1 .1 .1 .1 in
     ran-passed _ _ _ _ _ _ _ _ _ (r .ensures) (c .before .before .first-not-finite .ensures) (k .1 .1 .1 .0 ∙ p .1)
-    (c .before .before .before .before .before .before .before .before .before .before .before .before .before .before .clear .ensures ∙ ap (λ n. replicate n zero⁺) (k .1 .1 .0 ∙ p .0 .2))
-    (c .before .before .before .before .before .before .before .before .before .before .clear2 .ensures ∙ ap (λ n. replicate n zero⁺) (k .0 ∙ p .0 .0))
-    (c .before .before .before .before .before .before .clear3 .ensures ∙ ap (λ n. replicate n zero⁺) (k .1 .0 ∙ p .0 .1))
+    (c .before .before .before .before .before .before .before .before .before .before .before .before .before .before .clear .ensures ∙ ap (λ n. replicate n zero⁺) (k .1 .1 .0 ∙ p .0 .averages))
+    (c .before .before .before .before .before .before .before .before .before .before .clear2 .ensures ∙ ap (λ n. replicate n zero⁺) (k .0 ∙ p .0 .messages .to-variables))
+    (c .before .before .before .before .before .before .clear3 .ensures ∙ ap (λ n. replicate n zero⁺) (k .1 .0 ∙ p .0 .messages .to-checks))
     (c .before .is-done .ensures) (c .if1 .left)
 
 pub ran-spec : {M : Type 1} → statement M

@@ -24,7 +24,7 @@ loop-holds c = (omega arith, refl, refl)
 parallel-check-requires : tie.Need-parallel-check-requires Inv-loop μ-loop
 parallel-check-requires c κs =
     let s = c .before .before .before .before .before .before .before .before in
-    (c .before .loop-test .taken, (s .pre .0, (s .pre .1 .0, c .before .before .loop .inv .1 ∙ s .pre .1 .1)))
+    (c .before .loop-test .taken, (s .pre .0, record { to-variables = c .before .before .loop .inv .1 ∙ s .pre .1 .to-variables; to-checks = s .pre .1 .to-checks }))
 
 add-c : tie.Need-add-c Inv-loop μ-loop
 add-c c = omega arith

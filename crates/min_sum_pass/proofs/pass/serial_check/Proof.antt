@@ -32,7 +32,7 @@ shared-slice-read-update-part c = search needs
 
 update-part-requires : tie.Need-update-part-requires
 update-part-requires c κs = let p = c .before .before .before .before .before .before .before .before .before .before .before .before .before .pre .1 .1 .1 in
-    (within (c .before .before .before), (p .1, p .0))
+    (within (c .before .before .before), p)
 
 same-length : tie.Need-same-length
 same-length c = search needs
@@ -65,7 +65,7 @@ update-variables-requires c κs =
     let p = s .pre .1 .1 .1 in
     let k = c .before .before .before .before .before .before .update-part .kept .1 .1 .1 .1 .1 .1 .0 in (
       part-names _ _ _ _ (s .pre .1 .0 .named) (within (c .before .before .before .before .before .before .before .before .before .before) .1),
-      (walks-along _ _ _ _ _ (sym (k ∙ p .0)) (s .pre .1 .1 .0), p .1 ∙ sym (k ∙ p .0)),
+      (walks-along _ _ _ _ _ (sym (k ∙ p .to-variables)) (s .pre .1 .1 .0), p .to-checks ∙ sym (k ∙ p .to-variables)),
     )
 
 same-length-3 : tie.Need-same-length-3

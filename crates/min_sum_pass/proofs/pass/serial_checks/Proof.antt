@@ -26,7 +26,10 @@ serial-check-requires : tie.Need-serial-check-requires Inv-loop μ-loop
 serial-check-requires c κs =
     let s = c .before .before .before .before .before .before .before .before .before .before .before .before in
     let l = c .before .before .before .loop in
-    (c .before .before .loop-test .taken, (s .pre .0, (s .pre .1 .0, (l .inv .1 ∙ s .pre .1 .1 .0, l .inv .2 ∙ s .pre .1 .1 .1))))
+    (
+      c .before .before .loop-test .taken,
+      (s .pre .0, (s .pre .1 .0, record { to-variables = l .inv .1 ∙ s .pre .1 .1 .to-variables; to-checks = l .inv .2 ∙ s .pre .1 .1 .to-checks })),
+    )
 
 add-c : tie.Need-add-c Inv-loop μ-loop
 add-c c = omega arith

@@ -20,11 +20,10 @@ ended-requires c κs =
     let p = c .before .before .before .before .before .before .before .before .before .before .before .before .before .before .before .before .before .before
     .before .before .before .before .before .before .before .before .before .before .before .before .before .before .pre .1 .1 .1 in
     let k = c .before .before .before .before .before .before .before .before .before .before .before .before .before .before .before .step .kept .1 .1 .1 .1 .1 .1 .1 .1 .1 .1 .1 in (
-      walks-both _ _ _ _ _ _ (sym (k .1 .1 .0 ∙ p .0 .2)) (sym (k .0 ∙ p .1 .0))
+      walks-both _ _ _ _ _ _ (sym (k .1 .1 .0 ∙ p .0 .posteriors)) (sym (k .0 ∙ p .1 .to-variables))
           (c .before .before .before .before .before .before .before .before .before .before .before .before .before .before .before .before .before .before
           .before .before .before .before .before .before .before .before .before .before .before .before .before .before .pre .1 .0),
-      (k .1 .0 ∙ p .1 .1) ∙ sym
-          (k .0 ∙ p .1 .0),
+      (k .1 .0 ∙ p .1 .to-checks) ∙ sym (k .0 ∙ p .1 .to-variables),
     )
 
 same-length : tie.Need-same-length
@@ -49,9 +48,9 @@ returns c =
     let e = c .before .before .before .before .before .before .ended .ensures in
     stepped-is _ _ _ _ _ _ _ _ _ _ _ _ (c .before .before .before .before .before .before .before .before .before .before .before .before .before .before
     .before .before .before .before .before .before .before .before .step .ensures)
-    (k .1 .0 ∙ p .1 .0) (k .1 .1 .0 ∙ p .1 .1) (k .1 .1 .1 .0 ∙ p .0 .2)
+    (k .1 .0 ∙ p .1 .to-variables) (k .1 .1 .0 ∙ p .1 .to-checks) (k .1 .1 .1 .0 ∙ p .0 .posteriors)
     (c .before .before .before .before .before .before .before .before .before .before .before .before .clear .ensures ∙ ap
-    (λ n. replicate n zero⁺) (k .0 ∙ p .0 .1)) (e .0) (e .1)
+    (λ n. replicate n zero⁺) (k .0 ∙ p .0 .biases)) (e .0) (e .1)
 
 pub stepped-spec : {M : Type 1} → statement M
 stepped-spec =

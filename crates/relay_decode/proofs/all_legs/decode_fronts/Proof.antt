@@ -66,16 +66,13 @@ run-shot-requires c κs =
     let m = p .1 .0 in (
       p .0,
       (
-        (
-          front-lent (a .t .«num_legs») (a .leg-state .now)
-              (m .0),
-          front-lent (a .t .«num_legs») (a .leg-iterations .now)
-              (m .1),
-          front-lent (a .t .«num_legs») (a .leg-weight .now) (m .2),
-          cells-lent
-              (a .t .«num_legs») (length (a .priors .now)) (a .rows .now) (m .3),
-        ),
-        (p .1 .1 .0, p .1 .1 .1),
+        record {
+          of-states = front-lent (a .t .«num_legs») (a .leg-state .now) (m .of-states);
+          of-iterations = front-lent (a .t .«num_legs») (a .leg-iterations .now) (m .of-iterations);
+          of-weights = front-lent (a .t .«num_legs») (a .leg-weight .now) (m .of-weights);
+          of-rows = cells-lent (a .t .«num_legs») (length (a .priors .now)) (a .rows .now) (m .of-rows);
+        },
+        p .1 .1,
       ),
     )
 
@@ -158,16 +155,16 @@ returns c =
     (a .priors .now) (a .check-var .now) (a .check-offset .now) (a .var-message .now)
     (a .var-offset .now) (a .order .now))) _ (x .ensures .0) (x .ensures .1 .0) (
       front-tail (n + 1) (a .leg-state .now) (x .last .1 .1 .1 .1 .1 .1 .1 .1 .1 .1 .0)
-          (x .kept .1 .1 .1 .1 .1 .1 .1 .1 .1 .1 .0) (rw add-one (m .0)),
+          (x .kept .1 .1 .1 .1 .1 .1 .1 .1 .1 .1 .0) (rw add-one (m .of-states)),
       front-tail
           (n + 1) (a .leg-iterations .now) (x .last .1 .1 .1 .1 .1 .1 .1 .1 .1 .1 .1 .0)
-          (x .kept .1 .1 .1 .1 .1 .1 .1 .1 .1 .1 .1 .0) (rw add-one (m .1)),
+          (x .kept .1 .1 .1 .1 .1 .1 .1 .1 .1 .1 .1 .0) (rw add-one (m .of-iterations)),
       front-tail
           (n + 1) (a .leg-weight .now) (x .last .1 .1 .1 .1 .1 .1 .1 .1 .1 .1 .1 .1 .0)
-          (x .kept .1 .1 .1 .1 .1 .1 .1 .1 .1 .1 .1 .1 .0) (rw add-one (m .2)),
+          (x .kept .1 .1 .1 .1 .1 .1 .1 .1 .1 .1 .1 .1 .0) (rw add-one (m .of-weights)),
       front-tail
           ((n + 1) * length (a .priors .now)) (a .rows .now) (x .last .1 .1 .1 .1 .1 .1 .1 .1 .1 .1 .1 .1 .1 .0)
-          (x .kept .1 .1 .1 .1 .1 .1 .1 .1 .1 .1 .1 .1 .1 .0) (rw add-one (m .3)),
+          (x .kept .1 .1 .1 .1 .1 .1 .1 .1 .1 .1 .1 .1 .1 .0) (rw add-one (m .of-rows)),
     ) (x .ensures .1 .1)
 
 pub decode-fronts-spec : {M : Type 1} → statement M

@@ -67,7 +67,18 @@ next-leg-requires c κs =
       p .0,
       (
         (h, omega (arith, i .13, h, p .0 .legs-few), omega (arith, i .14, h, p .0 .legs-few)),
-        ((i .1 ∙ m .0, i .2 ∙ m .1, i .3 ∙ m .2, i .4 ∙ m .3), (i .12, ((i .5 ∙ n .0, i .6 ∙ n .1, i .7 ∙ n .2, i .8 ∙ n .3), (i .9 ∙ w .0, i .10 ∙ w .1)))),
+        (
+          record {
+            of-states = i .1 ∙ m .of-states;
+            of-iterations = i .2 ∙ m .of-iterations;
+            of-weights = i .3 ∙ m .of-weights;
+            of-rows = i .4 ∙ m .of-rows;
+          },
+          (i .12, (
+            record { bits = i .5 ∙ n .bits; posteriors = i .6 ∙ n .posteriors; gammas = i .7 ∙ n .gammas; biases = i .8 ∙ n .biases },
+            record { to-variables = i .9 ∙ w .to-variables; to-checks = i .10 ∙ w .to-checks },
+          )),
+        ),
       ),
     )
 
@@ -172,7 +183,7 @@ returns c =
       c .before .before .before .before .before .before .before .before .before .before .before .before .before .before .before .before .before
           .before .before .before .before .before .before .before .before .before .before .before .before .before .before .before .before .before .before .before
           .loop-test .taken,
-    )) (x .ensures .0) _ _ _ (x .kept .1 .1 .1 .1 .1 .1 .1 .1 .1 .1 .1 .1 .1 .1 .1 .1 .1 .0 ∙ l .inv .6 ∙ s .pre .1 .1 .0 .1)
+    )) (x .ensures .0) _ _ _ (x .kept .1 .1 .1 .1 .1 .1 .1 .1 .1 .1 .1 .1 .1 .1 .1 .1 .1 .0 ∙ l .inv .6 ∙ s .pre .1 .1 .0 .posteriors)
     (c .before .before .before .first-not-finite .ensures) (c .before .before .ends .ensures) (c .before .if1 .taken) (c .answer .ensures)
 
 loop-less : tie.Need-loop-less Inv-loop μ-loop
@@ -213,7 +224,7 @@ loop-again c =
           (l .tally .«num_converged») (l .tally .«total_iterations»)
           (l .leg) (l .leg-state) (l .leg-iterations) (l .leg-weight)
           (l .rows) (l .correction) (l .posterior)) (l .inv .11) (omega
-          (arith, h)) (x .ensures .0) _ _ (x .kept .1 .1 .1 .1 .1 .1 .1 .1 .1 .1 .1 .1 .1 .1 .1 .1 .1 .0 ∙ l .inv .6 ∙ s .pre .1 .1 .0 .1)
+          (arith, h)) (x .ensures .0) _ _ (x .kept .1 .1 .1 .1 .1 .1 .1 .1 .1 .1 .1 .1 .1 .1 .1 .1 .1 .0 ∙ l .inv .6 ∙ s .pre .1 .1 .0 .posteriors)
           (c .before .before .first-not-finite .ensures) (c .before .ends .ensures) (c .if1 .left),
       blank-along _ _ _ (x .ensures .1 .0),
       omega (arith, x .ensures .1 .1 .0, l .inv .13),

@@ -16,7 +16,7 @@ clear-records-requires c κs = search needs
 copy-requires : tie.Need-copy-requires
 copy-requires c κs = c .before .before .before .before .before .before .before .before .before .before .before .before .before .before .before .before .before
     .before .before .before .before .before .before .before .before .before .before .before .before .before .before .before .before .before .before .pre .1 .1
-    .0 .1
+    .0 .posteriors
 
 run-legs-requires : tie.Need-run-legs-requires
 run-legs-requires c κs =
@@ -32,16 +32,21 @@ run-legs-requires c κs =
     let y = c .before .before .before .before .before .before .before .before .before .before .before .before .copy in (
       p .0,
       (
-        (z .kept .0 ∙ m .0, z .kept .1 .0 ∙ m .1, z .kept .1 .1 .0 ∙ m .2, z .kept .1 .1 .1 .0 ∙ m .3),
+        record {
+          of-states = z .kept .0 ∙ m .of-states;
+          of-iterations = z .kept .1 .0 ∙ m .of-iterations;
+          of-weights = z .kept .1 .1 .0 ∙ m .of-weights;
+          of-rows = z .kept .1 .1 .1 .0 ∙ m .of-rows;
+        },
         (
-          (z .kept .1 .1 .1 .1 .0 ∙ n .0, y .kept .1 .0 ∙ n .1, n .2, n .3),
+          record { bits = z .kept .1 .1 .1 .1 .0 ∙ n .bits; posteriors = y .kept .1 .0 ∙ n .posteriors; gammas = n .gammas; biases = n .biases },
           (
             p .1 .1 .1,
             starts-at (shotOf (a .t) (a .gammas .now) (a .seed) (a .syndrome .now)
                 (a .priors .now) (a .check-var .now) (a .check-offset .now)
                 (a .var-message .now) (a .var-offset .now) (a .order .now))
                 (a .leg-state .now) (a .leg-iterations .now) (a .leg-weight .now)
-                (a .rows .now) (a .correction .now) (a .posterior .now) (m .0) (m .1) (m .2) (m .3) (n .0) _ _ _ _ _ _ (z .ensures) (y .ensures),
+                (a .rows .now) (a .correction .now) (a .posterior .now) (m .of-states) (m .of-iterations) (m .of-weights) (m .of-rows) (n .bits) _ _ _ _ _ _ (z .ensures) (y .ensures),
           ),
         ),
       ),
@@ -176,24 +181,24 @@ returns c =
             (a .var-offset .now) (a .order .now)) (x .last .1 .1 .1 .1 .1 .1 .1 .1 .1 .1 .0)
             (x .last .1 .1 .1 .1 .1 .1 .1 .1 .1 .1 .1 .0) (x .last .1 .1 .1 .1 .1 .1 .1 .1 .1 .1 .1 .1 .0) (x .last .1 .1 .1 .1 .1 .1 .1 .1 .1 .1 .1 .1 .1 .0)
             (x .last .1 .1 .1 .1 .1 .1 .1 .1 .1 .1 .1 .1 .1 .1 .0) (x .last .1 .1 .1 .1 .1 .1 .1 .1 .1 .1 .1 .1 .1 .1 .1 .0)
-            (x .kept .1 .1 .1 .1 .1 .1 .1 .1 .1 .1 .0 ∙ z .kept .0 ∙ p .1 .0 .0)
-            (x .kept .1 .1 .1 .1 .1 .1 .1 .1 .1 .1 .1 .0 ∙ z .kept .1 .0 ∙ p .1 .0 .1)
-            (x .kept .1 .1 .1 .1 .1 .1 .1 .1 .1 .1 .1 .1 .0 ∙ z .kept .1 .1 .0 ∙ p .1 .0 .2)
-            (x .kept .1 .1 .1 .1 .1 .1 .1 .1 .1 .1 .1 .1 .1 .0 ∙ z .kept .1 .1 .1 .0 ∙ p .1 .0 .3)
-            (x .kept .1 .1 .1 .1 .1 .1 .1 .1 .1 .1 .1 .1 .1 .1 .0 ∙ z .kept .1 .1 .1 .1 .0 ∙ p .1 .1 .0 .0)
+            (x .kept .1 .1 .1 .1 .1 .1 .1 .1 .1 .1 .0 ∙ z .kept .0 ∙ p .1 .0 .of-states)
+            (x .kept .1 .1 .1 .1 .1 .1 .1 .1 .1 .1 .1 .0 ∙ z .kept .1 .0 ∙ p .1 .0 .of-iterations)
+            (x .kept .1 .1 .1 .1 .1 .1 .1 .1 .1 .1 .1 .1 .0 ∙ z .kept .1 .1 .0 ∙ p .1 .0 .of-weights)
+            (x .kept .1 .1 .1 .1 .1 .1 .1 .1 .1 .1 .1 .1 .1 .0 ∙ z .kept .1 .1 .1 .0 ∙ p .1 .0 .of-rows)
+            (x .kept .1 .1 .1 .1 .1 .1 .1 .1 .1 .1 .1 .1 .1 .1 .0 ∙ z .kept .1 .1 .1 .1 .0 ∙ p .1 .1 .0 .bits)
             (decodeLegs (shotOf (a .t) (a .gammas .now) (a .seed) (a .syndrome .now)
             (a .priors .now) (a .check-var .now) (a .check-offset .now)
             (a .var-message .now) (a .var-offset .now) (a .order .now)))
-            (x .result) _ (x .kept .1 .1 .1 .1 .1 .1 .1 .1 .1 .1 .1 .1 .1 .1 .1 .0 ∙ y .kept .1 .0 ∙ p .1 .1 .0 .1)
+            (x .result) _ (x .kept .1 .1 .1 .1 .1 .1 .1 .1 .1 .1 .1 .1 .1 .1 .1 .0 ∙ y .kept .1 .0 ∙ p .1 .1 .0 .posteriors)
             (x .ensures .0) (x .ensures .1) (e .ensures),
         (
-          w .0 ∙ ap (λ i. replicate i zero⁺) (x .kept .1 .1 .1 .1 .1 .1 .1 .1 .1 .1 .1 .1 .1 .1 .1 .1 .0 ∙ p .1 .1 .0 .2),
+          w .0 ∙ ap (λ i. replicate i zero⁺) (x .kept .1 .1 .1 .1 .1 .1 .1 .1 .1 .1 .1 .1 .1 .1 .1 .1 .0 ∙ p .1 .1 .0 .gammas),
           w .1 ∙ ap
-              (λ i. replicate i zero⁺) (x .kept .1 .1 .1 .1 .1 .1 .1 .1 .1 .1 .1 .1 .1 .1 .1 .1 .1 .0 ∙ p .1 .1 .0 .3),
+              (λ i. replicate i zero⁺) (x .kept .1 .1 .1 .1 .1 .1 .1 .1 .1 .1 .1 .1 .1 .1 .1 .1 .1 .0 ∙ p .1 .1 .0 .biases),
           w .2 ∙ ap
-              (λ i. replicate i zero⁺) (x .kept .1 .1 .1 .1 .1 .1 .1 .1 .1 .1 .1 .1 .1 .1 .1 .1 .1 .1 .0 ∙ p .1 .1 .1 .0),
+              (λ i. replicate i zero⁺) (x .kept .1 .1 .1 .1 .1 .1 .1 .1 .1 .1 .1 .1 .1 .1 .1 .1 .1 .1 .0 ∙ p .1 .1 .1 .to-variables),
           w .3 ∙ ap
-              (λ i. replicate i zero⁺) (x .kept .1 .1 .1 .1 .1 .1 .1 .1 .1 .1 .1 .1 .1 .1 .1 .1 .1 .1 .1 .0 ∙ p .1 .1 .1 .1),
+              (λ i. replicate i zero⁺) (x .kept .1 .1 .1 .1 .1 .1 .1 .1 .1 .1 .1 .1 .1 .1 .1 .1 .1 .1 .1 .0 ∙ p .1 .1 .1 .to-checks),
         ),
       ),
     )

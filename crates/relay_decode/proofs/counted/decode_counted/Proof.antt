@@ -1,16 +1,24 @@
--- `relay_decode::counted::decode_counted` meets its contract. Each arm is the decode in index order.
+-- `relay_decode::counted::decode_counted` meets its contract. Each arm has an array that is long enough for the order.
 -- Assumes nothing.
+use mathlib.Core.Path.{sym}
+use Prim.Native.Nat.{ℕ}
+use lib.ListN.{length}
+use Rattle.numbers.specs.Limits.{maxChecks}
+use Rattle.numbers.proofs.Room.{part-length}
 use borrow.Author.Needs.{needs}
 use Rattle.relay_decode.proofs.counted.decode_counted.Statement.{statement}
 use Rattle.relay_decode.proofs.counted.decode_counted.Tie as tie
 
-decode-few-requires : tie.Need-decode-few-requires
-decode-few-requires c κs = (
-  c .before .before .before .before .before .before .before .before .before .before .if1 .taken,
-  c .before .before .before .before
-      .before .before .before .before .before .before .before .before .before .before .before .before .before .before .before .before .before .before .before
-      .before .before .before .before .before .pre .1,
-)
+array-borrow-prefix-order : tie.Need-array-borrow-prefix-order
+array-borrow-prefix-order c = search needs
+
+slice-aggregate-decode-counting : tie.Need-slice-aggregate-decode-counting
+slice-aggregate-decode-counting c = part-length {A = ℕ} 0 (length (c .before .before .before .before .before .before .before .before .before .before .before .before .before .before .before .before .before .before .before .args .syndrome .now)) 1024 (c .before .if1 .taken)
+
+decode-counting-requires : tie.Need-decode-counting-requires
+decode-counting-requires c κs =
+    let s = c .before .before .before .before .before .before .before .before .before .before .before .before .before .before .before .before .before .before .before .before .before .before .before .before .before .before .before .before .before in
+    ((s .pre .0, sym (part-length {A = ℕ} 0 (length (s .args .syndrome .now)) 1024 (c .before .before .before .before .before .before .before .before .before .before .before .if1 .taken))), s .pre .1)
 
 same-length : tie.Need-same-length
 same-length c = search needs
@@ -45,8 +53,18 @@ same-length-10 c = search needs
 returns : tie.Need-returns
 returns c = search needs
 
-decode-many-requires : tie.Need-decode-many-requires
-decode-many-requires c κs = search needs
+array-borrow-prefix-order-2 : tie.Need-array-borrow-prefix-order-2
+array-borrow-prefix-order-2 c = search needs
+
+slice-aggregate-decode-counting-2 : tie.Need-slice-aggregate-decode-counting-2
+slice-aggregate-decode-counting-2 c =
+    let s = c .before .before .before .before .before .before .before .before .before .before .before .before .before .before .before .before .before .before .before in
+    part-length {A = ℕ} 0 (length (s .args .syndrome .now)) maxChecks (s .pre .0)
+
+decode-counting-requires-2 : tie.Need-decode-counting-requires-2
+decode-counting-requires-2 c κs =
+    let s = c .before .before .before .before .before .before .before .before .before .before .before .before .before .before .before .before .before .before .before .before .before .before .before .before .before .before .before .before .before in
+    ((s .pre .0, sym (part-length {A = ℕ} 0 (length (s .args .syndrome .now)) maxChecks (s .pre .0))), s .pre .1)
 
 same-length-11 : tie.Need-same-length-11
 same-length-11 c = search needs
@@ -85,7 +103,9 @@ pub decode-counted-spec : {M : Type 1} → statement M
 decode-counted-spec =
     tie.close
     (tie.spec
-    decode-few-requires
+    array-borrow-prefix-order
+    slice-aggregate-decode-counting
+    decode-counting-requires
     same-length
     same-length-2
     same-length-3
@@ -97,7 +117,9 @@ decode-counted-spec =
     same-length-9
     same-length-10
     returns
-    decode-many-requires
+    array-borrow-prefix-order-2
+    slice-aggregate-decode-counting-2
+    decode-counting-requires-2
     same-length-11
     same-length-12
     same-length-13

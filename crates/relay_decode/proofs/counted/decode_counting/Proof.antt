@@ -1,46 +1,21 @@
--- `relay_decode::counted::decode_few` meets its contract. The front of the array is the index order.
+-- `relay_decode::counted::decode_counting` meets its contract. The list, counted up, is the index order: it has one place to a check.
 -- Assumes nothing.
-use Prim.Native.Nat.{ℕ}
-use lib.ListN.{length, length-replicate}
-use Rattle.relay_decode.proofs.Shots.{along-order, reads-along, counted-many, counted-is}
+use mathlib.Core.Path.{ap, _∙_}
+use Rattle.numbers.specs.Loops.{upto}
+use Rattle.relay_decode.proofs.Shots.{along-order, reads-along}
 use borrow.Author.Needs.{needs}
-use Rattle.relay_decode.proofs.counted.decode_few.Statement.{statement}
-use Rattle.relay_decode.proofs.counted.decode_few.Tie as tie
-
-sub-number : tie.Need-sub-number
-sub-number c = search needs
-
-part-order-start : tie.Need-part-order-start
-part-order-start c = search needs
-
-part-order-end : tie.Need-part-order-end
-part-order-end c = search needs
+use Rattle.relay_decode.proofs.counted.decode_counting.Statement.{statement}
+use Rattle.relay_decode.proofs.counted.decode_counting.Tie as tie
 
 number-requires : tie.Need-number-requires
 number-requires c κs = search needs
 
-sub-decode-fronts : tie.Need-sub-decode-fronts
-sub-decode-fronts c = search needs
-
-part-decode-fronts-start : tie.Need-part-decode-fronts-start
-part-decode-fronts-start c = search needs
-
-part-decode-fronts-end : tie.Need-part-decode-fronts-end
-part-decode-fronts-end c = counted-many 1024 (length (c .before .before .before .before .before .before .before .before .before .before .before .before .before
-    .before .before .before .before .before .before .before .before .args .syndrome .now)) _ _
-    (c .before .before .before .before .before .before .before .before .before .before .before .before .before .before .before .before .before .before .before
-    .before .before .pre .0) (length-replicate {A = ℕ} 1024 0) (c .before .before .number .ensures)
-
 decode-fronts-requires : tie.Need-decode-fronts-requires
 decode-fronts-requires c κs =
-    let s = c .before .before .before .before .before .before .before .before .before .before .before .before .before .before .before .before .before .before
-    .before .before .before .before .before .before .before .before .before .before .before .before .before .before in
+    let s = c .before .before .before .before .before .before .before .before .before .before .before .before .before .before .before .before .before .before .before .before .before .before .before .before .before .before .before .before .before .before .before .before .before in
     let a = s .args in (
-      reads-along (a .t) (a .gammas .now) (a .seed) (a .syndrome .now)
-          (a .priors .now) (a .check-var .now) (a .check-offset .now) (a .var-message .now)
-          (a .var-offset .now) _ _ (counted-is 1024 (length (a .syndrome .now)) _ _
-          (s .pre .0) (length-replicate {A = ℕ} 1024 0) (c .before .before .before .before .before .before .before .before .before .before .before .before .before
-          .number .ensures)) (s .pre .1 .0),
+      reads-along (a .t) (a .gammas .now) (a .seed) (a .syndrome .now) (a .priors .now) (a .check-var .now) (a .check-offset .now) (a .var-message .now)
+          (a .var-offset .now) _ _ (c .before .before .before .before .before .before .before .before .before .before .before .before .before .number .ensures ∙ ap upto (s .pre .0 .1)) (s .pre .1 .0),
       s .pre .1 .1,
     )
 
@@ -74,31 +49,21 @@ same-length-9 c = search needs
 same-length-10 : tie.Need-same-length-10
 same-length-10 c = search needs
 
+same-length-11 : tie.Need-same-length-11
+same-length-11 c = search needs
+
 returns : tie.Need-returns
 returns c =
-    let s = c .before .before .before .before .before .before .before .before .before .before .before .before .before .before .before .before .before .before
-    .before .before .before .before .before .before .before .before .before .before .before .before .before .before .before .before .before .before .before
-    .before .before .before .before .before .before .before .before .before .before .before .before .before .before .before .before in
+    let s = c .before .before .before .before .before .before .before .before .before .before .before .before .before .before .before .before .before .before .before .before .before .before .before .before .before .before .before .before .before .before .before .before .before .before .before .before .before .before .before .before .before .before .before .before .before .before .before .before .before .before .before .before .before .before in
     let a = s .args in
-    along-order (a .t) (a .gammas .now) (a .seed) (a .syndrome .now)
-    (a .priors .now) (a .check-var .now) (a .check-offset .now) (a .var-message .now)
-    (a .var-offset .now) _ _ _ _ _ (counted-is 1024 (length (a .syndrome .now)) _ _
-    (s .pre .0) (length-replicate {A = ℕ} 1024 0) (c .before .before .before .before .before .before .before .before .before .before .before .before .before
-    .before .before .before .before .before .before .before .before .before .before .before .before .before .before .before .before .before .before .before
-    .before .before .number .ensures)) (c .before .before .before .before .before .before .before .before .before .before .before .before .before .before
-    .before .before .before .before .before .before .decode-fronts .ensures)
+    along-order (a .t) (a .gammas .now) (a .seed) (a .syndrome .now) (a .priors .now) (a .check-var .now) (a .check-offset .now) (a .var-message .now)
+    (a .var-offset .now) _ _ _ _ _ (c .before .before .before .before .before .before .before .before .before .before .before .before .before .before .before .before .before .before .before .before .before .before .before .before .before .before .before .before .before .before .before .before .before .before .number .ensures ∙ ap upto (s .pre .0 .1)) (c .before .before .before .before .before .before .before .before .before .before .before .before .before .before .before .before .before .before .before .before .decode-fronts .ensures)
 
-pub decode-few-spec : {M : Type 1} → statement M
-decode-few-spec =
+pub decode-counting-spec : {M : Type 1} → statement M
+decode-counting-spec =
     tie.close
     (tie.spec
-    sub-number
-    part-order-start
-    part-order-end
     number-requires
-    sub-decode-fronts
-    part-decode-fronts-start
-    part-decode-fronts-end
     decode-fronts-requires
     same-length
     same-length-2
@@ -110,4 +75,5 @@ decode-few-spec =
     same-length-8
     same-length-9
     same-length-10
+    same-length-11
     returns)

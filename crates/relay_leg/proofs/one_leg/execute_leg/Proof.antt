@@ -16,7 +16,7 @@ prepare-gamma-requires : tie.Need-prepare-gamma-requires
 prepare-gamma-requires c κs =
     let s = c .before .before .before .before .before .before .before .before .before .before .before .before .before .before .before .before in
     let p = s .pre in
-    (omega (arith, p .1 .0, p .0 .legs-few), λ h sets e. sets-along _ _ _ _ _ _ _ _ _ (p .0) (s .args .gamma .now) _ (p .1 .1 .0 .0) (p .1 .0) h sets e)
+    (omega (arith, p .1 .0, p .0 .legs-few), λ h sets e. sets-along _ _ _ _ _ _ _ _ _ (p .0) (s .args .gamma .now) _ (p .1 .1 .0 .values .gammas) (p .1 .0) h sets e)
 
 start-leg-requires : tie.Need-start-leg-requires
 start-leg-requires c κs = search needs
@@ -27,7 +27,12 @@ run-leg-requires c κs =
     .before .before .before .before .before .before .before .before .before .before .before .before .before .before .pre in
     let g = c .before .before .before .before .before .before .before .before .before .before .before .before .before .before .before .prepare-gamma .kept .1 .1 .1 .1 .0 in
     let k = c .before .before .before .before .before .before .before .before .before .before .start-leg .kept .1 .1 in
-    (p .0 .check-walks, (p .0 .var-walks, (p .0 .named, ((g ∙ p .1 .1 .0 .0, p .1 .1 .0 .1, p .1 .1 .0 .2, p .1 .1 .0 .3), (k .0 ∙ p .1 .1 .1 .0, k .1 .0 ∙ p .1 .1 .1 .1)))))
+    let v = p .1 .1 .0 .values in
+    let m = p .1 .1 .1 in
+    (p .0 .check-walks, (p .0 .var-walks, (p .0 .named, (
+      record { values = record { gammas = g ∙ v .gammas; biases = v .biases; posteriors = v .posteriors }; decisions = p .1 .1 .0 .decisions },
+      record { to-variables = k .0 ∙ m .to-variables; to-checks = k .1 .0 ∙ m .to-checks },
+    ))))
 
 same-length : tie.Need-same-length
 same-length c = search needs
@@ -61,7 +66,7 @@ returns c =
     (a .var-offset .now) (a .order .now) (a .leg) _ _ _ _ (a .posterior .now) _
     (c .before .before .before .before .before .before .before .before .before .before .before .before .before .before .before .before .before .before
     .before .before .before .before .before .before .before .before .prepare-gamma .ensures ∙ ap (λ n. gammaOf (a .t) (a .gammas .now) n (a .seed) (a .leg))
-    (p .1 .1 .0 .0)) (c .before .before .before .before .before .before .before .before .before .before .before .before .before .before .before .before
+    (p .1 .1 .0 .values .gammas)) (c .before .before .before .before .before .before .before .before .before .before .before .before .before .before .before .before
     .before .before .before .before .before .start-leg .ensures) limit (e .0) in (
       x .0,
       (

@@ -11,17 +11,18 @@ execute-leg-requires : tie.Need-execute-leg-requires
 execute-leg-requires c κs =
     let p = c .before .before .before .before .before .before .before .before .before .before .before .before .before .before .before .before .before .before
     .before .before .before .before .before .before .pre in
-    let n = p .1 .1 .1 .0 in
-    (p .0, (p .1 .0 .0, ((n .3, n .4, n .2, n .0), p .1 .1 .1 .1)))
+    let q = p .1 .1 .1 in
+    let v = q .1 .0 in
+    (p .0, (p .1 .0 .0, (record { values = record { gammas = v .gammas; biases = v .biases; posteriors = v .posteriors }; decisions = q .0 }, q .1 .1)))
 
 record-leg-requires : tie.Need-record-leg-requires
 record-leg-requires c κs =
     let p = c .before .before .before .before .before .before .before .before .before .before .before .before .before .before .before .before .before .before
     .before .before .before .before .before .before .before .before .before .before .before .before .before .before .before .before .before .before .before
     .before .before .before .before .before .pre in
-    let n = p .1 .1 .1 .0 in
+    let n = p .1 .1 .1 in
     let x = c .before .before .before .before .before .before .before .before .before .before .before .before .before .before .before .before .before .execute-leg in
-    ((p .1 .0 .1, p .1 .0 .2, x .ensures .1 .1), ((x .kept .1 .1 .1 .1 .1 .1 .1 .1 .1 .1 .1 .1 .1 .1 .1 .1 .0 ∙ n .0, n .1), p .1 .1 .0))
+    ((p .1 .0 .1, p .1 .0 .2, x .ensures .1 .1), ((x .kept .1 .1 .1 .1 .1 .1 .1 .1 .1 .1 .1 .1 .1 .1 .1 .1 .0 ∙ n .0, n .1 .0 .bits), p .1 .1 .0))
 
 same-length : tie.Need-same-length
 same-length c = search needs
@@ -59,7 +60,7 @@ returns c =
     .before .before .before .before .before .before .before .before .before .before .before .before .before .before .before .before .before .before .before
     .before .before .before .before .before .before .before .before .before .before .before .before .before .before .before .before in
     let a = s .args in
-    let n = s .pre .1 .1 .1 .0 in
+    let n = s .pre .1 .1 .1 in
     let x = c .before .before .before .before .before .before .before .before .before .before .before .before .before .before .before .before .before .before
     .before .before .before .before .before .before .before .before .before .before .execute-leg in
     let e = c .before .before .before .before .before .before .before .before .before .before .record-leg .ensures in (

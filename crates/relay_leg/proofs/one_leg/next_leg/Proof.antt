@@ -28,7 +28,7 @@ part-leg-in-row-start c = search needs
 part-leg-in-row-end : tie.Need-part-leg-in-row-end
 part-leg-in-row-end c = let s = c .before .before .before .before .before .before .before .before .before .before .before .before .before .before .before
     .before .before .before .before .before .before in row-within _ _ _ _ _ _ _ _ _
-    (s .pre .0) (s .args .rows .now) (s .args .leg) (s .pre .1 .1 .0 .3) (s .pre .1 .0 .0)
+    (s .pre .0) (s .args .rows .now) (s .args .leg) (s .pre .1 .1 .0 .of-rows) (s .pre .1 .0 .0)
 
 leg-in-row-requires : tie.Need-leg-in-row-requires
 leg-in-row-requires c κs =
@@ -36,10 +36,10 @@ leg-in-row-requires c κs =
     .before .before .before .before .before .before .before .before .before .before in
     let p = s .pre in
     let m = p .1 .1 .0 in
-    let n = p .1 .1 .1 .1 .0 in
-    let w = row-within _ _ _ _ _ _ _ _ _ (p .0) (s .args .rows .now) (s .args .leg) (m .3) (p .1 .0 .0) in
+    let h = p .1 .0 .0 in
+    let w = row-within _ _ _ _ _ _ _ _ _ (p .0) (s .args .rows .now) (s .args .leg) (m .of-rows) (p .1 .0 .0) in
     let k = mid-len (s .args .leg * length (s .args .priors .now)) (s .args .leg * length (s .args .priors .now) + length (s .args .priors .now)) (s .args .rows .now) w in
-    (p .0, (p .1 .0, ((omega (arith, m .0, p .1 .0 .0), omega (arith, m .1, p .1 .0 .0), omega (arith, m .2, p .1 .0 .0)), ((k ∙ omega arith, n .0, n .1, n .2, n .3), p .1 .1 .1 .1 .1))))
+    (p .0, (p .1 .0, ((omega (arith, m .of-states, h), omega (arith, m .of-iterations, h), omega (arith, m .of-weights, h)), (k ∙ omega arith, p .1 .1 .1 .1))))
 
 same-length : tie.Need-same-length
 same-length c = search needs
@@ -79,7 +79,7 @@ returns c =
     let a = s .args in
     let p = s .pre in
     let m = length (a .priors .now) in
-    let w = row-within _ _ _ _ _ _ _ _ _ (p .0) (a .rows .now) (a .leg) (p .1 .1 .0 .3) (p .1 .0 .0) in
+    let w = row-within _ _ _ _ _ _ _ _ _ (p .0) (a .rows .now) (a .leg) (p .1 .1 .0 .of-rows) (p .1 .0 .0) in
     let x = c .before .before .before .before .before .before .before .before .before .before .before .before .before .before .before .before .before .before .before .before .leg-in-row in
     let d = post-is (a .leg * m) (a .leg * m + m) (a .rows .now) (omega arith) in
     let k = mid-len (a .leg * m) (a .leg * m + m) (a .rows .now) w in (

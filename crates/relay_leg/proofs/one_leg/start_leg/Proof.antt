@@ -24,7 +24,7 @@ returns c = rw (
   c .before .before .from-variables .ensures,
   c .before .before .before .before .before .before .clear .ensures,
   c .before .before .before .before
-      .before .before .before .before .before .before .before .before .pre .1 .0,
+      .before .before .before .before .before .before .before .before .pre .1 .to-variables,
 )
 
 pub start-leg-spec : {M : Type 1} → statement M

@@ -42,7 +42,7 @@ same-length c = search needs
 returns : tie.Need-returns
 unfolding neg ofBits
 returns c = sends-next _ _ _ _ _ _ _ _ _ _ _ (c .before .before .before .before .before .before .before .before .before .before .before .before .before .before
-    .pre .1) (c .before .before .before .before .before .before .before .before .before .before .before .before .before .before .pre .0 .0)
+    .pre .1) (c .before .before .before .before .before .before .before .before .before .before .before .before .before .before .pre .0 .to-checks)
     (c .before .before .before .before .before .before .before .before .before .before .scan-check .ensures)
     (c .before .before .before .before .before .before .before .before .before .weighed .ensures)
     (c .before .before .before .before .before .before .before .before .weighed2 .ensures) (c .before .before .before .before .before .before .send .ensures) _
@@ -54,7 +54,7 @@ same-length-2 c = search needs
 returns-2 : tie.Need-returns-2
 unfolding neg ofBits
 returns-2 c = sends-least _ _ _ _ _ _ _ _ _ _ _ (c .before .before .before .before .before .before .before .before .before .before .before .pre .1)
-    (c .before .before .before .before .before .before .before .before .before .before .before .pre .0 .0)
+    (c .before .before .before .before .before .before .before .before .before .before .before .pre .0 .to-checks)
     (c .before .before .before .before .before .before .before .scan-check .ensures)
     (c .before .before .before .before .before .before .weighed .ensures)
     (c .before .before .before .before .before .weighed2 .ensures) (c .before .before .before .send .ensures) (c .if1 .left)

@@ -64,7 +64,14 @@ step-requires c κs =
     let s = c .before .before .before .before .before .before .before .before .before .before .before .before .before .before .before .before .before .before .before in
     let l = c .before .before .before .before .before .loop in
     let p = s .pre .1 .1 .1 in
-    (s .pre .0, (s .pre .1 .0, (s .pre .1 .1 .0, ((p .0 .0, l .inv .1 ∙ p .0 .1, l .inv .4 ∙ p .0 .2), (l .inv .2 ∙ p .1 .0, l .inv .3 ∙ p .1 .1)))))
+    let v = p .0 .values in
+    (
+      s .pre .0,
+      (s .pre .1 .0, (s .pre .1 .1 .0, (
+        record { gammas = v .gammas; biases = l .inv .1 ∙ v .biases; posteriors = l .inv .4 ∙ v .posteriors },
+        record { to-variables = l .inv .2 ∙ p .1 .to-variables; to-checks = l .inv .3 ∙ p .1 .to-checks },
+      ))),
+    )
 
 add-k : tie.Need-add-k Inv-loop μ-loop
 add-k c = omega (
@@ -81,8 +88,8 @@ satisfied-requires c κs =
     .before .before .before .before .before .before .before .before .before .before .before .before in
     let l = c .before .before .before .before .before .before .before .before .before .before .before .before .before .before .before .before .loop in
     let p = s .pre .1 .1 .1 in
-    let k = c .before .before .before .before .before .before .before .before .before .before .step .kept .1 .1 .1 .1 .1 .1 .1 .1 .1 .1 .1 .1 .1 .0 ∙ l .inv .4 ∙ p .0 .2 in
-    (walks-along _ _ _ _ _ (sym k) (s .pre .0), l .inv .5 ∙ p .0 .3 ∙ sym k)
+    let k = c .before .before .before .before .before .before .before .before .before .before .step .kept .1 .1 .1 .1 .1 .1 .1 .1 .1 .1 .1 .1 .1 .0 ∙ l .inv .4 ∙ p .0 .values .posteriors in
+    (walks-along _ _ _ _ _ (sym k) (s .pre .0), l .inv .5 ∙ p .0 .decisions ∙ sym k)
 
 same-length : tie.Need-same-length Inv-loop μ-loop
 same-length c = c .before .before .before .before .before .before .before .before .before .before .before .before .before .before .step .kept .1 .1 .1 .1 .1 .1

@@ -14,8 +14,8 @@ serial-pass-requires : tie.Need-serial-pass-requires
 serial-pass-requires c κs =
     let s = c .before .before .before .before .before .before .before .before .before .before .before .before .before .before .before .before .before .before .before .before .before in
     let p = s .pre .1 .1 .1 in
-    let b = c .before .before .before .before .before .before .compute-bias .kept .1 .1 .1 .0 ∙ p .0 .1 in
-    (walks-along _ _ _ _ _ (sym b) (s .pre .0), (walks-both _ _ _ _ _ _ (sym b) refl (s .pre .1 .0), (s .pre .1 .1 .0, (p .0 .2 ∙ sym b, p .1))))
+    let b = c .before .before .before .before .before .before .compute-bias .kept .1 .1 .1 .0 ∙ p .0 .biases in
+    (walks-along _ _ _ _ _ (sym b) (s .pre .0), (walks-both _ _ _ _ _ _ (sym b) refl (s .pre .1 .0), (s .pre .1 .1 .0, (p .0 .posteriors ∙ sym b, p .1))))
 
 same-length : tie.Need-same-length
 same-length c = search needs
@@ -33,7 +33,7 @@ returns : tie.Need-returns
 returns c = serial-iteration-is _ _ _ _ _ _ _ _ _ _ _ _ _ _ (c .before .before .before .before .before .before .before .before .before .before .before .before
     .before .compute-bias .ensures) (c .before .before .before .before .before .before .before .before .before .before .before .before .before .compute-bias
     .kept .1 .1 .1 .0 ∙ c .before .before .before .before .before .before .before .before .before .before .before .before .before .before .before .before
-    .before .before .before .before .before .before .before .before .before .before .before .before .pre .1 .1 .1 .0 .1)
+    .before .before .before .before .before .before .before .before .before .before .before .before .pre .1 .1 .1 .0 .biases)
     (c .before .before .before .before .before .before .serial-pass .ensures)
 
 pub check-serial-iteration-spec : {M : Type 1} → statement M

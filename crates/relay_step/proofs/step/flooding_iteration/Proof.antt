@@ -11,7 +11,7 @@ check-pass-requires : tie.Need-check-pass-requires
 check-pass-requires c κs =
     let s = c .before .before .before .before .before .before .before .before .before .before .before .before .before .before in
     let p = s .pre .1 .1 in
-    (s .pre .0 .parts, (s .pre .0 .rising, (p .0, (p .1 .1 .1, p .1 .1 .0))))
+    (s .pre .0 .parts, (s .pre .0 .rising, (p .0, p .1 .1)))
 
 compute-bias-requires : tie.Need-compute-bias-requires
 compute-bias-requires c κs = search needs
@@ -21,9 +21,9 @@ variable-pass-requires c κs =
     let s = c .before .before .before .before .before .before .before .before .before .before .before .before .before .before .before .before .before .before
     .before .before .before .before .before .before .before .before in
     let p = s .pre .1 .1 .1 in
-    let b = c .before .before .before .before .before .before .compute-bias .kept .1 .1 .1 .0 ∙ p .0 .1 in
-    let k = c .before .before .before .before .before .before .before .before .before .before .before .check-pass .kept .1 .1 .1 .1 .1 .1 .0 ∙ p .1 .0 in
-    (p .0 .2 ∙ sym b, (walks-both _ _ _ _ _ _ (sym b) (sym k) (s .pre .1 .0), p .1 .1 ∙ sym k))
+    let b = c .before .before .before .before .before .before .compute-bias .kept .1 .1 .1 .0 ∙ p .0 .biases in
+    let k = c .before .before .before .before .before .before .before .before .before .before .before .check-pass .kept .1 .1 .1 .1 .1 .1 .0 ∙ p .1 .to-variables in
+    (p .0 .posteriors ∙ sym b, (walks-both _ _ _ _ _ _ (sym b) (sym k) (s .pre .1 .0), p .1 .to-checks ∙ sym k))
 
 same-length : tie.Need-same-length
 same-length c = search needs
@@ -43,7 +43,7 @@ returns c =
     .before .before .before .before .before .before .before .before .before .before .before .before .before .pre .1 .1 .1 in
     flooding-is _ _ _ _ _ _ _ _ _ _ _ _ _ _ _ _ _ (c .before .before .before .before .before .before .before .before .before .before .before .before .before
     .before .before .before .check-pass .ensures) (c .before .before .before .before .before .before .before .before .before .before .before .compute-bias
-    .ensures) (c .before .before .before .before .before .before .before .before .before .before .before .compute-bias .kept .1 .1 .1 .0 ∙ p .0 .1)
+    .ensures) (c .before .before .before .before .before .before .before .before .before .before .before .compute-bias .kept .1 .1 .1 .0 ∙ p .0 .biases)
     (c .before .before .before .before .variable-pass .ensures)
 
 pub flooding-iteration-spec : {M : Type 1} → statement M

@@ -35,7 +35,7 @@ update-part-requires c κs =
     let w = within (c .before .before .before) in
     let p = c .before .before .before .before .before .before .before .before .before .before .before .before .before .before .pre .1 .1 .1 .1 in
     let s = c .before .before .before .before .before .before .before .before .before .before .before .before .before .before in
-    ((w .0, w .1, p .1, p .0), part-rises _ _ _ (s .args .c) _ _ (s .pre .1 .0 .rising) (s .pre .0) (c .before .before .before .before .at .ensures) (c .before .before .before .at2 .ensures))
+    (w, (p, part-rises _ _ _ (s .args .c) _ _ (s .pre .1 .0 .rising) (s .pre .0) (c .before .before .before .before .at .ensures) (c .before .before .before .at2 .ensures)))
 
 mul-update-variables : tie.Need-mul-update-variables
 mul-update-variables c = omega (arith, within (c .before .before .before .before .before .before))
@@ -57,7 +57,7 @@ update-variables-requires c κs =
       part-names _ _ _ _ (s .pre .1 .0 .named) (within (c .before .before .before .before .before .before .before .before .before .before) .1),
       (
         p .0,
-        (walks-along _ _ _ _ _ (sym (k ∙ p .1 .0)) (s .pre .1 .1 .0), p .1 .1 ∙ sym (k ∙ p .1 .0)),
+        (walks-along _ _ _ _ _ (sym (k ∙ p .1 .to-variables)) (s .pre .1 .1 .0), p .1 .to-checks ∙ sym (k ∙ p .1 .to-variables)),
       ),
     )
 

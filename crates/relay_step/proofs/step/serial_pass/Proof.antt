@@ -30,6 +30,7 @@ at-requires c κs = omega arith
 serial-check-requires : tie.Need-serial-check-requires Inv-loop μ-loop
 serial-check-requires c κs =
     let s = c .before .before .before .before .before .before .before .before .before .before .before .before .before .before .before .before in
+    let p = s .pre .1 .1 .1 .1 in
     let l = c .before .before .before .before .before .loop in (
       omega (
         arith,
@@ -37,7 +38,7 @@ serial-check-requires c κs =
         s .pre .1 .1 .0 .small
             (l .i) (c .before .before .before .before .loop-test .taken),
       ),
-      (s .pre .0, (s .pre .1 .0, (l .inv .3 ∙ s .pre .1 .1 .1 .0, (l .inv .1 ∙ s .pre .1 .1 .1 .1 .0, l .inv .2 ∙ s .pre .1 .1 .1 .1 .1)))),
+      (s .pre .0, (s .pre .1 .0, (l .inv .3 ∙ s .pre .1 .1 .1 .0, record { to-variables = l .inv .1 ∙ p .to-variables; to-checks = l .inv .2 ∙ p .to-checks }))),
     )
 
 add-i : tie.Need-add-i Inv-loop μ-loop

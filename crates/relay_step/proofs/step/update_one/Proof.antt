@@ -32,7 +32,7 @@ update-part-requires c κs =
     let w = within (c .before .before) in
     let p = c .before .before .before .before .before .before .before .before .before .pre .1 .1 in
     let s = c .before .before .before .before .before .before .before .before .before in
-    ((w .0, w .1, p .1 .0, p .1 .1), part-rises _ _ _ (s .args .c) _ _ (p .0) (s .pre .0) (c .before .before .before .at .ensures) (c .before .before .at2 .ensures))
+    (w, (p .1, part-rises _ _ _ (s .args .c) _ _ (p .0) (s .pre .0) (c .before .before .before .at .ensures) (c .before .before .at2 .ensures)))
 
 same-length : tie.Need-same-length
 same-length c = search needs
