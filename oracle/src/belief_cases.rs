@@ -1,7 +1,7 @@
 //! The cases of min-sum beliefs.
 
 use crate::answers::Refusal;
-use crate::line::Line;
+use crate::line::{Kind, Line};
 use crate::model::{Model, probability_of, random_model};
 use crate::splitmix::SplitMix64;
 
@@ -46,7 +46,7 @@ pub struct BeliefCase {
 
 impl BeliefCase {
     pub fn line(&self, priors: &[f64], answer: &Result<Vec<f64>, Refusal>) -> String {
-        let mut line = Line::default();
+        let mut line = Line::of(Kind::Beliefs);
         self.model.write(priors, &mut line);
         line.count(self.syndrome.len());
         line.bytes(&self.syndrome);

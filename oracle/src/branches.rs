@@ -66,19 +66,41 @@ pub fn run(tally: &mut Tally) {
     let beliefs = beliefs().kept;
     let decodes = decode_cases::cases();
     count::reset();
-    replay(tally, "graphs", graphs.iter().map(drive::graph_line));
-    replay(tally, "beliefs", beliefs.iter().map(drive::belief_line));
-    replay(tally, "decodes", decodes.iter().map(drive::decode_line));
+    let text = std::fs::read_to_string(path()).unwrap_or_default();
+    let listed = &mut text.lines().skip(1);
+    replay(
+        tally,
+        "graphs",
+        listed,
+        graphs.iter().map(drive::graph_line),
+    );
+    replay(
+        tally,
+        "beliefs",
+        listed,
+        beliefs.iter().map(drive::belief_line),
+    );
+    replay(
+        tally,
+        "decodes",
+        listed,
+        decodes.iter().map(drive::decode_line),
+    );
+    let more = listed.count();
+    tally.check("lines behind the lists", more == 0, &more.to_string());
     let by_lists = count::counts();
     count::reset();
     extra_refusals(tally);
     report(tally, &by_lists, &count::counts());
 }
 
-/// Every line of the list must be what the counted copy answers.
-fn replay(tally: &mut Tally, name: &str, lines: impl Iterator<Item = String>) {
-    let text = std::fs::read_to_string(path(name)).unwrap_or_default();
-    let mut listed = text.lines().skip(1);
+/// The next lines that are listed must be what the counted copy answers.
+fn replay<'a>(
+    tally: &mut Tally,
+    name: &str,
+    listed: &mut impl Iterator<Item = &'a str>,
+    lines: impl Iterator<Item = String>,
+) {
     let (mut equal, mut all) = (0, 0);
     for line in lines {
         all += 1;
@@ -86,7 +108,7 @@ fn replay(tally: &mut Tally, name: &str, lines: impl Iterator<Item = String>) {
     }
     tally.check(
         &format!("{name} on the counted copy"),
-        all > 0 && equal == all && listed.next().is_none(),
+        all > 0 && equal == all,
         &format!("{equal} of {all} lines equal"),
     );
 }

@@ -1,7 +1,7 @@
 //! The cases of Relay decodes.
 
 use crate::answers::{Decoded, Refusal};
-use crate::line::Line;
+use crate::line::{Kind, Line};
 use crate::model::{Model, random_model};
 use crate::splitmix::{SplitMix64, relay_sets};
 
@@ -95,7 +95,7 @@ impl DecodeCase {
     }
 
     pub fn line(&self, priors: &[f64], answer: &Result<Decoded, Refusal>) -> String {
-        let mut line = Line::default();
+        let mut line = Line::of(Kind::Decode);
         self.model.write(priors, &mut line);
         let settings = &self.settings;
         line.count(usize::from(settings.serial));

@@ -1,7 +1,7 @@
 //! The cases of graph building, sparse and dense, those that the Rust refuses among them.
 
 use crate::answers::{GraphLists, Refusal};
-use crate::line::Line;
+use crate::line::{Kind, Line};
 use crate::model::{Model, random_model, write_detectors, write_sizes};
 use crate::splitmix::SplitMix64;
 
@@ -62,8 +62,10 @@ impl GraphCase {
     }
 
     pub fn line(&self, priors: &[f64], answer: &Result<GraphLists, Refusal>) -> String {
-        let mut line = Line::default();
-        line.count(usize::from(self.is_dense()));
+        let mut line = Line::of(match self.incidence {
+            Incidence::Sparse(_) => Kind::SparseGraph,
+            Incidence::Dense(_) => Kind::DenseGraph,
+        });
         write_sizes(self.checks, priors.len(), self.edges(), &mut line);
         line.floats(priors);
         match &self.incidence {

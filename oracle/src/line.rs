@@ -2,17 +2,28 @@
 
 use crate::answers::Refusal;
 
-#[derive(Default)]
+/// What a case is: the first number of its line.
+#[derive(Clone, Copy)]
+pub enum Kind {
+    SparseGraph,
+    DenseGraph,
+    Beliefs,
+    Decode,
+}
+
 pub struct Line {
     text: String,
 }
 
 impl Line {
-    pub fn number(&mut self, value: u64) {
-        if !self.text.is_empty() {
-            self.text.push(' ');
+    pub fn of(kind: Kind) -> Self {
+        Self {
+            text: format!("{:x}", kind as u8),
         }
-        self.text += &format!("{value:x}");
+    }
+
+    pub fn number(&mut self, value: u64) {
+        self.text += &format!(" {value:x}");
     }
 
     pub fn count(&mut self, value: usize) {

@@ -1,4 +1,5 @@
-// Inner: reads the oracle's lists of cases: a case a line, words of hexadecimal digits, one space between. For the replay programs alone.
+// Inner: reads the oracle's lists of cases: a case a line, words of hexadecimal digits, one space between. For `replay`, the crates of its
+// three lists and `replay_shots` alone.
 ghost use Prim.Native.Nat.{_≤_};
 ghost use lib.ListN.{length};
 use graph::Size;
@@ -342,12 +343,12 @@ pub fn count(counts: Counts, same: bool) -> Counts {
     }
 }
 
-// Room for the longest list.
-pub fn text_room() -> [u8; 524288] {
-    [0u8; 524288]
+// Room for the text that a program replays.
+pub fn text_room() -> [u8; 1048576] {
+    [0u8; 1048576]
 }
 
-// What a replay program writes.
+// What `replay` writes of a list.
 pub fn report(name: &[u8], counts: Counts) {
     io::write_all(STDOUT_FILENO, name);
     io::write_all(STDOUT_FILENO, b" ");

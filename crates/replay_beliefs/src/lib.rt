@@ -1,22 +1,17 @@
-// Replays the oracle's list of belief cases: builds each model's graph, runs min-sum on it and compares answer and posterior with the
-// Rust's. It reads the list from standard input, which the file stdin holds. Room: 63 checks and mechanisms, 128 edges.
+// Inner: a belief case of the oracle's lists: builds the model's graph, runs min-sum on it and compares answer and posterior with the
+// Rust's. For `replay` alone. Room: 63 checks and mechanisms, 128 edges.
 use graph::Size;
 use refusals::Answer;
 use refusals_tests::both;
 use refusals_tests::is_done;
-use replay_cases::Counts;
 use replay_cases::Same;
-use replay_cases::count;
 use replay_cases::float;
 use replay_cases::is_answer;
 use replay_cases::is_cleared;
-use replay_cases::line_end;
 use replay_cases::read_bytes;
 use replay_cases::read_graph;
 use replay_cases::read_sizes;
-use replay_cases::report;
 use replay_cases::same_floats;
-use replay_cases::text_room;
 use replay_cases::word_at;
 
 // Whether the line goes on with this answer and, where the run took place, with this posterior, and then ends.
@@ -282,31 +277,9 @@ fn with_graph(line: &[u8], at: usize, size: Size) -> bool {
     )
 }
 
-// A case: whether the code answers as the line says.
-fn case(line: &[u8]) -> bool {
-    let sizes = read_sizes(line, 0);
+// Whether the code answers as the line says from a place on, where its model begins.
+pub fn case(line: &[u8], at: usize) -> bool {
+    let sizes = read_sizes(line, at);
     let size = sizes.size;
     with_graph(line, sizes.next, size)
-}
-
-// Every case, from the second line on: the first has their number.
-fn replay(text: &[u8]) -> Counts {
-    let mut counts = Counts { same: 0, other: 0 };
-    let mut at = line_end(text, 0);
-    while at < text.len() {
-        // `at` is at the end of the line before.
-        let start = at + 1;
-        let end = line_end(text, start);
-        if start < end {
-            counts = count(counts, case(&text[start..end]));
-        }
-        at = end;
-    }
-    counts
-}
-
-fn main() {
-    let mut text = text_room();
-    let n = io::read_full(0, &mut text);
-    report(b"beliefs", replay(&text[..n]));
 }

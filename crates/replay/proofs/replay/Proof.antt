@@ -1,16 +1,16 @@
--- `replay_decodes::replay` is safe and ends. The invariant: the place is within the text. Assumes nothing.
+-- `replay::replay` is safe and ends. The invariant: the place is within the text. Assumes nothing.
 use Prim.Native.Nat.{_≤_, _-_}
 use lib.ListN.{length}
 use native.Mathlib.Omega.{arith}
 use borrow.Author.Needs.{needs}
-use Rattle.replay_decodes.proofs.replay.Statement.{statement}
-use Rattle.replay_decodes.proofs.replay.Tie as tie
+use Rattle.replay.proofs.replay.Statement.{statement}
+use Rattle.replay.proofs.replay.Tie as tie
 
 abbrev Inv-loop : tie.InvT-loop
-Inv-loop text counts₀ at₀ counts at = at ≤ length text
+Inv-loop text totals₀ at₀ totals at = at ≤ length text
 
 abbrev μ-loop : tie.MeasureT-loop
-μ-loop text counts₀ at₀ counts at = length text - at
+μ-loop text totals₀ at₀ totals at = length text - at
 
 line-end-requires : tie.Need-line-end-requires Inv-loop μ-loop
 line-end-requires c κs = omega arith
@@ -24,20 +24,17 @@ add-start c = omega arith
 line-end-requires-2 : tie.Need-line-end-requires-2 Inv-loop μ-loop
 line-end-requires-2 c κs = omega arith
 
-sub-case : tie.Need-sub-case Inv-loop μ-loop
-sub-case c = omega arith
+sub-counted : tie.Need-sub-counted Inv-loop μ-loop
+sub-counted c = omega arith
 
-part-case-start : tie.Need-part-case-start Inv-loop μ-loop
-part-case-start c = omega arith
+part-counted-start : tie.Need-part-counted-start Inv-loop μ-loop
+part-counted-start c = omega arith
 
-part-case-end : tie.Need-part-case-end Inv-loop μ-loop
-part-case-end c = omega arith
+part-counted-end : tie.Need-part-counted-end Inv-loop μ-loop
+part-counted-end c = omega arith
 
-case-requires : tie.Need-case-requires Inv-loop μ-loop
-case-requires c κs = search needs
-
-count-requires : tie.Need-count-requires Inv-loop μ-loop
-count-requires c κs = search needs
+counted-requires : tie.Need-counted-requires Inv-loop μ-loop
+counted-requires c κs = search needs
 
 loop-less : tie.Need-loop-less Inv-loop μ-loop
 loop-less c = omega arith
@@ -64,11 +61,10 @@ replay-spec =
     loop-holds
     add-start
     line-end-requires-2
-    sub-case
-    part-case-start
-    part-case-end
-    case-requires
-    count-requires
+    sub-counted
+    part-counted-start
+    part-counted-end
+    counted-requires
     loop-less
     loop-again
     loop-less-2

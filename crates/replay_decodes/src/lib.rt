@@ -1,6 +1,5 @@
-// Replays the oracle's list of decodes: builds each model's graph, decodes the shot and compares the answer and every lent list with the
-// Rust's. It reads the list from standard input, which the file stdin holds. Room: 63 checks and mechanisms, 128 edges, 128 gammas, 64
-// legs, 512 bytes of rows.
+// Inner: a decode of the oracle's lists: builds the model's graph, decodes the shot and compares the answer and every lent list with the
+// Rust's. For `replay` alone. Room: 63 checks and mechanisms, 128 edges, 128 gammas, 64 legs, 512 bytes of rows.
 mod compare;
 
 use compare::same_decode;
@@ -10,16 +9,11 @@ use refusals_tests::is_done;
 use relay_settings::GammaSource;
 use relay_settings::Schedule;
 use relay_settings::Settings;
-use replay_cases::Counts;
-use replay_cases::count;
 use replay_cases::float;
-use replay_cases::line_end;
 use replay_cases::read_bytes;
 use replay_cases::read_floats;
 use replay_cases::read_graph;
 use replay_cases::read_sizes;
-use replay_cases::report;
-use replay_cases::text_room;
 use replay_cases::word_at;
 
 fn schedule_of(number: u64) -> Schedule {
@@ -316,31 +310,9 @@ fn with_graph(line: &[u8], at: usize, size: Size) -> bool {
     )
 }
 
-// A case: whether the code answers as the line says.
-fn case(line: &[u8]) -> bool {
-    let sizes = read_sizes(line, 0);
+// Whether the code answers as the line says from a place on, where its model begins.
+pub fn case(line: &[u8], at: usize) -> bool {
+    let sizes = read_sizes(line, at);
     let size = sizes.size;
     with_graph(line, sizes.next, size)
-}
-
-// Every case, from the second line on: the first has their number.
-fn replay(text: &[u8]) -> Counts {
-    let mut counts = Counts { same: 0, other: 0 };
-    let mut at = line_end(text, 0);
-    while at < text.len() {
-        // `at` is at the end of the line before.
-        let start = at + 1;
-        let end = line_end(text, start);
-        if start < end {
-            counts = count(counts, case(&text[start..end]));
-        }
-        at = end;
-    }
-    counts
-}
-
-fn main() {
-    let mut text = text_room();
-    let n = io::read_full(0, &mut text);
-    report(b"decodes", replay(&text[..n]));
 }

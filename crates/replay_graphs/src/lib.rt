@@ -1,21 +1,15 @@
-// Replays the oracle's list of graph cases: builds each model and compares answer and lists with the Rust's. It reads the list from
-// standard input, which the file stdin holds.
+// Inner: a graph case of the oracle's lists: builds the model and compares answer and lists with the Rust's. For `replay` alone.
 use graph::Size;
 use numbers::wrapping_mul;
 use refusals::Answer;
 use refusals_tests::is_done;
-use replay_cases::Counts;
 use replay_cases::Same;
-use replay_cases::count;
 use replay_cases::is_answer;
-use replay_cases::line_end;
 use replay_cases::read_bytes;
 use replay_cases::read_floats;
 use replay_cases::read_graph;
 use replay_cases::read_sizes;
-use replay_cases::report;
 use replay_cases::same_numbers;
-use replay_cases::text_room;
 use replay_cases::word_at;
 
 // Whether the line goes on with this answer and, where nothing is refused, with these lists, and then ends.
@@ -242,37 +236,15 @@ fn dense(line: &[u8], at: usize, size: Size) -> bool {
     )
 }
 
-// ---- the list
+// ---- either
 
-// A case: whether the code answers as the line says.
-fn case(line: &[u8]) -> bool {
-    let kind = word_at(line, 0);
+// Whether the code answers as the line says from a place on, where its kind stands: 1 is a dense model, and any other a sparse one.
+pub fn case(line: &[u8], at: usize) -> bool {
+    let kind = word_at(line, at);
     let sizes = read_sizes(line, kind.next);
     let size = sizes.size;
     if kind.value == 1 {
         return dense(line, sizes.next, size);
     }
     sparse(line, sizes.next, size)
-}
-
-// Every case, from the second line on: the first has their number.
-fn replay(text: &[u8]) -> Counts {
-    let mut counts = Counts { same: 0, other: 0 };
-    let mut at = line_end(text, 0);
-    while at < text.len() {
-        // `at` is at the end of the line before.
-        let start = at + 1;
-        let end = line_end(text, start);
-        if start < end {
-            counts = count(counts, case(&text[start..end]));
-        }
-        at = end;
-    }
-    counts
-}
-
-fn main() {
-    let mut text = text_room();
-    let n = io::read_full(0, &mut text);
-    report(b"graphs", replay(&text[..n]));
 }
