@@ -20,7 +20,7 @@ use Rattle.graph_lists.specs.Graph.{Graph, graph}
 use Rattle.graph_lists.specs.Model.{graphFault}
 use Rattle.graph_lists.proofs.GraphTests.{graph-told}
 use Rattle.graph_lists.specs.Sound.{Offsets, Keys}
-use Rattle.graph_messages.specs.Needs.{ofChecks}
+use Rattle.graph_messages.specs.Needs.{PerEdge, ofChecks}
 use Rattle.graph_messages.proofs.Parts.{walks-both, entries-along}
 use Rattle.graph_messages.proofs.Walks.{graph-walks}
 use Rattle.relay_settings.specs.declared.Schedule.{Schedule}
@@ -34,7 +34,7 @@ use Rattle.relay_orders.specs.Order.{namesOnce, namesFault, exchangeFault}
 use Rattle.relay_calls.proofs.Named.{names-entries, index-passes}
 use Rattle.relay_calls.specs.Decode.{Shot, decodeLegs}
 use Rattle.relay_calls.specs.Calls.{syndromeFault, DecodeLists, DecodeOutcome, decodeOutcome, decodeListsFit, decodeFault, afterLegs, decodeInOrder, decode}
-use Rattle.relay_record.specs.Kept.{Reads, shotOf, shotFault}
+use Rattle.relay_record.specs.Kept.{Reads, PerShot, LegsFit, shotOf, shotFault}
 use Rattle.relay_decode.proofs.WholeGraph.{whole, legs-read-four}
 use Rattle.relay_decode.proofs.Shots.{along-order}
 
@@ -162,11 +162,9 @@ legs-few t m flat a b e d h = settings-told t m flat (sym e ∙ done-is a (sym d
 -- all that a decode asks, where the tests refuse nothing
 pub record Passed (edges checks mechanisms : ℕ) (t : Settings) (flat : List Float) (syndrome : List ℕ) (prior : List Float) (cv co vm vo order : List ℕ) (l : DecodeLists) : Type 0 where
   pub reads : Reads t flat syndrome prior cv co vm vo order
-  pub legs-fit :
-      (suc (t .«num_legs») ≤ length (l .legState)) × (suc (t .«num_legs») ≤ length
-      (l .legIterations)) × (suc (t .«num_legs») ≤ length (l .legWeight)) × (suc (t .«num_legs») * length prior ≤ length (l .rows))
-  pub work-fits : (length (l .correction) ≡ length prior) × (length (l .posterior) ≡ length prior) × (length (l .gamma) ≡ length prior) × (length (l .bias) ≡ length prior)
-  pub messages-fit : (length (l .cToV) ≡ length cv) × (length (l .vToC) ≡ length cv)
+  pub legs-fit : LegsFit (suc (t .«num_legs»)) (length prior) (l .legState) (l .legIterations) (l .legWeight) (l .rows)
+  pub work-fits : PerShot (length prior) (l .correction) (l .posterior) (l .gamma) (l .bias)
+  pub messages-fit : PerEdge (length cv) (l .cToV) (l .vToC)
   pub edges-many : length cv ≡ edges
   pub checks-many : length syndrome ≡ checks
   pub mechanisms-many : length prior ≡ mechanisms
@@ -214,10 +212,25 @@ module _ (edges checks mechanisms : ℕ) (t : Settings) (flat : List Float) (see
                 leg-few = s .leg-few;
                 sets-many = λ k sets e. let q = s .sets-many k sets e in (q .0, rw p (q .1));
               };
-          legs-fit = (leb-true _ _ (f1 .0), leb-true _ _ (f2 .0), leb-true _ _ (f3 .0), rw p cells);
+          legs-fit =
+              record {
+                of-states = leb-true _ _ (f1 .0);
+                of-iterations = leb-true _ _ (f2 .0);
+                of-weights = leb-true _ _ (f3 .0);
+                of-rows = rw p cells;
+              };
           work-fits =
-              (eqb-true _ _ (f5 .0) ∙ sym p, eqb-true _ _ (f6 .0) ∙ sym p, eqb-true _ _ (f7 .0) ∙ sym p, eqb-true _ _ (f8 .0) ∙ sym p);
-          messages-fit = (eqb-true _ _ (f9 .0) ∙ sym (g .long .check-var), eqb-true _ _ (f9 .1) ∙ sym (g .long .check-var));
+              record {
+                bits = eqb-true _ _ (f5 .0) ∙ sym p;
+                posteriors = eqb-true _ _ (f6 .0) ∙ sym p;
+                gammas = eqb-true _ _ (f7 .0) ∙ sym p;
+                biases = eqb-true _ _ (f8 .0) ∙ sym p;
+              };
+          messages-fit =
+              record {
+                to-variables = eqb-true _ _ (f9 .0) ∙ sym (g .long .check-var);
+                to-checks = eqb-true _ _ (f9 .1) ∙ sym (g .long .check-var);
+              };
           edges-many = g .long .check-var;
           checks-many = many;
           mechanisms-many = p;

@@ -9,15 +9,13 @@ use native.Mathlib.Nat.{sub-zero}
 use native.Mathlib.Numerals.{add-one}
 use native.Mathlib.Omega.{arith}
 use lib.Ieee.{Float}
-use lib.ListN.{length, replicate, take, drop, length-append}
-use lib.Seq.{take-at, length-take-le}
+use lib.ListN.{length, replicate, take, drop}
+use lib.Seq.{length-take-le}
 use borrow.Author.Tests.{not-true, not-false}
 use Rattle.numbers.specs.Floats.{zero⁺}
 use Rattle.numbers.proofs.Cases.{either}
 use Rattle.relay_settings.specs.declared.Settings.{Settings}
 use Rattle.relay_calls.specs.declared.Decoded.{Decoded}
-use Rattle.numbers.specs.Loops.{upto}
-use Rattle.numbers.proofs.Loops.{length-table}
 use Rattle.relay_calls.specs.Decode.{Shot, Run, Ended, decoded, refused, decodeLegs, correctionOf}
 use Rattle.relay_calls.specs.Calls.{DecodeLists, DecodeOutcome, decodeOutcome, answered, leftBy, zeroed, afterLegs}
 use Rattle.relay_record.specs.Kept.{shotOf, Reads, answerOf, isRefused, Results, results, resultsOf, started}
@@ -119,10 +117,6 @@ module _ (t : Settings) (flat : List Float) (seed : ℕ) (syndrome : List ℕ) (
   pub reads-along : (o o′ : List ℕ) → o′ ≡ o → Reads t flat syndrome prior cv co vm vo o → Reads t flat syndrome prior cv co vm vo o′
   reads-along o o′ e h = rw e h
 
--- the front of an array, written and lent again
-pub front-back : (n : ℕ) (ys tail : List ℕ) → length ys ≡ n → take (n - 0) (ys ++ tail) ≡ ys
-front-back n ys tail e = rw sub-zero (take-at ys tail n e)
-
 module _ {A : Type 0} where
   -- the front of a leg list, as it is lent
   pub front-lent : (n : ℕ) (xs : List A) → suc n ≤ length xs → length (take (n + 1 - 0) xs) ≡ suc n
@@ -135,17 +129,3 @@ module _ {A : Type 0} where
   -- what lies after it, by the length of what came back
   pub front-tail : (k : ℕ) (xs ys : List A) → length ys ≡ length (take (k - 0) xs) → k ≤ length xs → drop (k - 0) xs ≡ drop (length ys) xs
   front-tail k xs ys e h = let q : length ys ≡ k = e ∙ rw sub-zero (length-take-le k xs h) in rw (q, sub-zero)
-
--- an array of n that is long enough for k, its front counted up
-pub counted-many : (n k : ℕ) (xs ys : List ℕ) → k ≤ n → length xs ≡ n → ys ≡ upto (length (take (k - 0) xs)) → k ≤ length (ys ++ drop (k - 0) xs)
-counted-many n k xs ys h e q =
-    let c : length (take (k - 0) xs) ≡ k = rw sub-zero (length-take-le k xs (omega arith)) in
-    let m : length ys ≡ k = ap length q ∙ length-table _ (λ (i : ℕ). i) ∙ c in
-    rw (length-append, m) (omega arith)
-
--- and lent on
-pub counted-is : (n k : ℕ) (xs ys : List ℕ) → k ≤ n → length xs ≡ n → ys ≡ upto (length (take (k - 0) xs)) → take (k - 0) (ys ++ drop (k - 0) xs) ≡ upto k
-counted-is n k xs ys h e q =
-    let c : length (take (k - 0) xs) ≡ k = rw sub-zero (length-take-le k xs (omega arith)) in
-    let m : length ys ≡ k = ap length q ∙ length-table _ (λ (i : ℕ). i) ∙ c in
-    front-back k ys _ m ∙ q ∙ ap upto c

@@ -129,7 +129,7 @@ fn leg_in_row(
     requires { ⌜
         Reads t (now gammas) (now syndrome) (now priors) (now «check_var») (now «check_offset») (now «var_message») (now «var_offset»)
         (now order) ⌝ }
-    requires { ⌜ (leg ≤ t .«num_legs») × (tally .«num_converged» ≤ 65536) × (tally .«total_iterations» ≤ 65536 * 65535) ⌝ }
+    requires { ⌜ (leg ≤ t .«num_legs») × (tally .«num_converged» ≤ suc maxCount) × (tally .«total_iterations» ≤ suc maxCount * maxCount) ⌝ }
     requires { ⌜ (leg < length (now «leg_state»)) × (leg < length (now «leg_iterations»)) × (leg < length (now «leg_weight»)) ⌝ }
     requires { ⌜ length (now row) ≡ length (now priors) ⌝ }
     requires { ⌜ PerShot (length (now priors)) (now correction) (now posterior) (now gamma) (now bias) ⌝ }
@@ -143,7 +143,8 @@ fn leg_in_row(
         ⌜ kept (bestOf (r .found) (r .weight)) (r .«num_converged») (r .«total_iterations») (suc leg) (now («leg_state» .exit))
         (now («leg_iterations» .exit)) (now («leg_weight» .exit)) (now (row .exit)) (now (correction .exit)) (now (posterior .exit))
         ≡ keptWith x before leg leg′ (rowAfter x leg′) ⌝ }
-    ensures few { λ r. ⌜ (r .«num_converged» ≤ tally .«num_converged» + 1) × (r .«total_iterations» ≤ tally .«total_iterations» + 65535) ⌝ }
+    ensures few { λ r. ⌜
+        (r .«num_converged» ≤ tally .«num_converged» + 1) × (r .«total_iterations» ≤ tally .«total_iterations» + maxCount) ⌝ }
 {
     let l = execute_leg(
         leg,
@@ -205,7 +206,7 @@ pub fn next_leg(
     requires { ⌜
         Reads t (now gammas) (now syndrome) (now priors) (now «check_var») (now «check_offset») (now «var_message») (now «var_offset»)
         (now order) ⌝ }
-    requires { ⌜ (leg ≤ t .«num_legs») × (tally .«num_converged» ≤ 65536) × (tally .«total_iterations» ≤ 65536 * 65535) ⌝ }
+    requires { ⌜ (leg ≤ t .«num_legs») × (tally .«num_converged» ≤ suc maxCount) × (tally .«total_iterations» ≤ suc maxCount * maxCount) ⌝ }
     requires { ⌜
         LegsLong (suc (t .«num_legs»)) (length (now priors)) (now «leg_state») (now «leg_iterations») (now «leg_weight») (now rows) ⌝ }
     requires { ⌜ Blank (leg * length (now priors)) (now rows) ⌝ }
@@ -222,7 +223,8 @@ pub fn next_leg(
         (now («leg_iterations» .exit)) (now («leg_weight» .exit)) (now (rows .exit)) (now (correction .exit)) (now (posterior .exit))
         ≡ keptAfter x before leg leg′ ⌝ }
     ensures blank { λ _. ⌜ Blank (leg * length (now (priors .entry)) + length (now (priors .entry))) (now (rows .exit)) ⌝ }
-    ensures few { λ r. ⌜ (r .«num_converged» ≤ tally .«num_converged» + 1) × (r .«total_iterations» ≤ tally .«total_iterations» + 65535) ⌝ }
+    ensures few { λ r. ⌜
+        (r .«num_converged» ≤ tally .«num_converged» + 1) × (r .«total_iterations» ≤ tally .«total_iterations» + maxCount) ⌝ }
 {
     let start = leg * priors.len();
     let end = start + priors.len();

@@ -3,9 +3,10 @@ pub mod bytes;
 
 ghost use mathlib.Core.Path.{_≡_};
 ghost use mathlib.Core.Bool.{true, _||_, not, cond};
-ghost use Prim.Native.Nat.{_+_, _*_, _<_, _≤_};
+ghost use Prim.Native.Nat.{suc, _+_, _*_, _<_, _≤_};
 ghost use lib.Dec.{leb};
 ghost use lib.ListN.{length, set, replicate};
+ghost use Rattle.numbers.specs.Limits.{maxCount};
 ghost use Rattle.refusals.specs.declared.Answer.the-variants.{Done};
 ghost use Rattle.refusals.specs.Tests.{isDone};
 ghost use Rattle.relay_step.specs.Leg.{correctionWeight};
@@ -46,7 +47,10 @@ fn keep_least(
     row: &[u8],
     correction: &mut [u8],
 ) -> Tally
-    requires { ⌜ (tally .«num_converged» ≤ 65536) × (tally .«total_iterations» ≤ 65536 * 65535) × (iterations ≤ 65535) ⌝ }
+    requires { ⌜
+        (tally .«num_converged» ≤ suc maxCount)
+        × (tally .«total_iterations» ≤ suc maxCount * maxCount)
+        × (iterations ≤ maxCount) ⌝ }
     requires { ⌜ length (now correction) ≡ length (now row) ⌝ }
     ensures best { λ r. ⌜ bestOf (r .found) (r .weight) ≡ bestAfter true (bestOf (tally .found) (tally .weight)) weight ⌝ }
     ensures counts { λ r. ⌜
@@ -99,7 +103,7 @@ fn write_leg(
         (leg < length (now «leg_state»))
         × (leg < length (now «leg_iterations»))
         × (leg < length (now «leg_weight»))
-        × (iterations ≤ 65535) ⌝ }
+        × (iterations ≤ maxCount) ⌝ }
     ensures { λ _. ⌜
         (now («leg_state» .exit) ≡ set (now («leg_state» .entry)) leg state)
         × (now («leg_iterations» .exit) ≡ set (now («leg_iterations» .entry)) leg iterations)
@@ -122,7 +126,10 @@ pub fn record_leg(
     leg_iterations: &mut [u32],
     leg_weight: &mut [f64],
 ) -> Tally
-    requires { ⌜ (tally .«num_converged» ≤ 65536) × (tally .«total_iterations» ≤ 65536 * 65535) × (l .iterations ≤ 65535) ⌝ }
+    requires { ⌜
+        (tally .«num_converged» ≤ suc maxCount)
+        × (tally .«total_iterations» ≤ suc maxCount * maxCount)
+        × (l .iterations ≤ maxCount) ⌝ }
     requires { ⌜ (length (now row) ≡ length (now priors)) × (length (now correction) ≡ length (now priors)) ⌝ }
     requires { ⌜ (leg < length (now «leg_state»)) × (leg < length (now «leg_iterations»)) × (leg < length (now «leg_weight»)) ⌝ }
     ensures best { λ r. ⌜

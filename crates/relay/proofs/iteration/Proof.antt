@@ -48,8 +48,19 @@ returns c = iteration-refused _ _ _ _ _ _ _ _ _ _ _ _ _ _ (lent (c .before .befo
 
 stepped-requires : tie.Need-stepped-requires
 stepped-requires c κs =
-    let t = asked (c .before .before .before .before) in
-    (t .check-walks, (t .var-walks, (t .named, ((t .gamma-many, t .bias-many, t .posterior-many), (t .c-many, t .v-many)))))
+    let t = asked (c .before .before .before .before) in (
+      t .check-walks,
+      (
+        t .var-walks,
+        (
+          t .named,
+          (
+            record { gammas = t .gamma-many; biases = t .bias-many; posteriors = t .posterior-many },
+            record { to-variables = t .c-many; to-checks = t .v-many },
+          ),
+        ),
+      ),
+    )
 
 same-length-5 : tie.Need-same-length-5
 same-length-5 c = search needs

@@ -12,11 +12,16 @@ outer-round-requires-2 : tie.Need-outer-round-requires-2
 outer-round-requires-2 c κs =
     let p = c .before .before .before .before .before .before .before .before .before .before .before .before .before .before .before .before .before .before .before .before .before .before .pre in
     let k = c .before .before .before .before .before .before .before .before .before .outer-round .kept .1 .1 .1 .1 .1 .1 .1 .1 .1 .1 in
-    let m = p .1 .1 .messages in
-    (p .0, (p .1 .0, record {
-      messages = record { to-variables = k .0 ∙ m .to-variables; to-checks = k .1 .0 ∙ m .to-checks };
-      averages = k .1 .1 .0 ∙ p .1 .1 .averages;
-    }))
+    let m = p .1 .1 .messages in (
+      p .0,
+      (
+        p .1 .0,
+        record {
+          messages = record { to-variables = k .0 ∙ m .to-variables; to-checks = k .1 .0 ∙ m .to-checks };
+          averages = k .1 .1 .0 ∙ p .1 .1 .averages;
+        },
+      ),
+    )
 
 same-length : tie.Need-same-length
 same-length c = search needs

@@ -25,8 +25,7 @@ loop-holds c = (omega arith, refl, refl, refl)
 serial-check-requires : tie.Need-serial-check-requires Inv-loop μ-loop
 serial-check-requires c κs =
     let s = c .before .before .before .before .before .before .before .before .before .before .before .before in
-    let l = c .before .before .before .loop in
-    (
+    let l = c .before .before .before .loop in (
       c .before .before .loop-test .taken,
       (s .pre .0, (s .pre .1 .0, record { to-variables = l .inv .1 ∙ s .pre .1 .1 .to-variables; to-checks = l .inv .2 ∙ s .pre .1 .1 .to-checks })),
     )

@@ -74,10 +74,13 @@ next-leg-requires c κs =
             of-weights = i .3 ∙ m .of-weights;
             of-rows = i .4 ∙ m .of-rows;
           },
-          (i .12, (
-            record { bits = i .5 ∙ n .bits; posteriors = i .6 ∙ n .posteriors; gammas = i .7 ∙ n .gammas; biases = i .8 ∙ n .biases },
-            record { to-variables = i .9 ∙ w .to-variables; to-checks = i .10 ∙ w .to-checks },
-          )),
+          (
+            i .12,
+            (
+              record { bits = i .5 ∙ n .bits; posteriors = i .6 ∙ n .posteriors; gammas = i .7 ∙ n .gammas; biases = i .8 ∙ n .biases },
+              record { to-variables = i .9 ∙ w .to-variables; to-checks = i .10 ∙ w .to-checks },
+            ),
+          ),
         ),
       ),
     )

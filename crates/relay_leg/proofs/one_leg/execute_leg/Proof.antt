@@ -28,11 +28,19 @@ run-leg-requires c κs =
     let g = c .before .before .before .before .before .before .before .before .before .before .before .before .before .before .before .prepare-gamma .kept .1 .1 .1 .1 .0 in
     let k = c .before .before .before .before .before .before .before .before .before .before .start-leg .kept .1 .1 in
     let v = p .1 .1 .0 .values in
-    let m = p .1 .1 .1 in
-    (p .0 .check-walks, (p .0 .var-walks, (p .0 .named, (
-      record { values = record { gammas = g ∙ v .gammas; biases = v .biases; posteriors = v .posteriors }; decisions = p .1 .1 .0 .decisions },
-      record { to-variables = k .0 ∙ m .to-variables; to-checks = k .1 .0 ∙ m .to-checks },
-    ))))
+    let m = p .1 .1 .1 in (
+      p .0 .check-walks,
+      (
+        p .0 .var-walks,
+        (
+          p .0 .named,
+          (
+            record { values = record { gammas = g ∙ v .gammas; biases = v .biases; posteriors = v .posteriors }; decisions = p .1 .1 .0 .decisions },
+            record { to-variables = k .0 ∙ m .to-variables; to-checks = k .1 .0 ∙ m .to-checks },
+          ),
+        ),
+      ),
+    )
 
 same-length : tie.Need-same-length
 same-length c = search needs

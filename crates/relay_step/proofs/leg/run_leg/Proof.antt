@@ -64,13 +64,18 @@ step-requires c κs =
     let s = c .before .before .before .before .before .before .before .before .before .before .before .before .before .before .before .before .before .before .before in
     let l = c .before .before .before .before .before .loop in
     let p = s .pre .1 .1 .1 in
-    let v = p .0 .values in
-    (
+    let v = p .0 .values in (
       s .pre .0,
-      (s .pre .1 .0, (s .pre .1 .1 .0, (
-        record { gammas = v .gammas; biases = l .inv .1 ∙ v .biases; posteriors = l .inv .4 ∙ v .posteriors },
-        record { to-variables = l .inv .2 ∙ p .1 .to-variables; to-checks = l .inv .3 ∙ p .1 .to-checks },
-      ))),
+      (
+        s .pre .1 .0,
+        (
+          s .pre .1 .1 .0,
+          (
+            record { gammas = v .gammas; biases = l .inv .1 ∙ v .biases; posteriors = l .inv .4 ∙ v .posteriors },
+            record { to-variables = l .inv .2 ∙ p .1 .to-variables; to-checks = l .inv .3 ∙ p .1 .to-checks },
+          ),
+        ),
+      ),
     )
 
 add-k : tie.Need-add-k Inv-loop μ-loop
