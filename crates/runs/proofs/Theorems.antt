@@ -28,18 +28,27 @@ unfolding add sub mul neg lt le eq ofInt
     Tests.unless Tests.orElse Tests.firstOf Tests.unlessRefused
     Lists.has Lists.passing Lists.joined Lists.start Lists.offsets Lists.stands Lists.places Lists.sameList
     Graph.mechanismsOf Graph.flipped Graph.checksOf Graph.entries Graph.graphOf Graph.among Graph.marked Graph.ownIncidence
-    Messages.fromVariables Messages.cleared Messages.lowered Messages.flippedBy Messages.scanned Messages.scan Messages.total Messages.valueFault Messages.posteriorFault
-    Model.graphFits Model.rising Model.offsetsGood Model.priorGood Model.priorFault Model.detectorFault Model.mechanismTest Model.mechanismFault Model.sameGraph Model.isGraph Model.built Model.sparseFault Model.buildSparse Model.countEdges Model.denseFault Model.buildDense Model.graphFault
-    MinSum.signWithout MinSum.sentAt MinSum.sentTo MinSum.checkMessages MinSum.skipped MinSum.updateCheck MinSum.damped MinSum.dampedMessages MinSum.rawPosterior MinSum.updateVariable MinSum.parallelCheck MinSum.checksTo MinSum.variablesTo MinSum.parallelIteration MinSum.serialCheck MinSum.serialTo MinSum.serialIteration MinSum.runningAverage MinSum.averagedTo MinSum.averaged MinSum.weightOf MinSum.chosen MinSum.chosenTo MinSum.startRound MinSum.iterated MinSum.iteratedIn MinSum.outerRoundTo MinSum.outerRound MinSum.allRounds MinSum.minSumBp
+    Messages.fromVariables Messages.cleared Messages.lowered Messages.flippedBy Messages.scanned Messages.scan Messages.total Messages.valueFault
+    Messages.posteriorFault
+    Model.graphFits Model.rising Model.offsetsGood Model.priorGood Model.priorFault Model.detectorFault Model.mechanismTest Model.mechanismFault
+    Model.sameGraph Model.isGraph Model.built Model.sparseFault Model.buildSparse Model.countEdges Model.denseFault Model.buildDense Model.graphFault
+    MinSum.signWithout MinSum.sentAt MinSum.sentTo MinSum.checkMessages MinSum.skipped MinSum.updateCheck MinSum.damped MinSum.dampedMessages
+    MinSum.rawPosterior MinSum.updateVariable MinSum.parallelCheck MinSum.checksTo MinSum.variablesTo MinSum.parallelIteration MinSum.serialCheck
+    MinSum.serialTo MinSum.serialIteration MinSum.runningAverage MinSum.averagedTo MinSum.averaged MinSum.weightOf MinSum.chosen MinSum.chosenTo
+    MinSum.startRound MinSum.iterated MinSum.iteratedIn MinSum.outerRoundTo MinSum.outerRound MinSum.allRounds MinSum.minSumBp
     Beliefs.beliefsListsFit Beliefs.beliefsFault Beliefs.ran Beliefs.beliefs
-    Settings.alphaGood Settings.preGood Settings.legIterationsGood Settings.intervalGood Settings.setsGood Settings.gammaFault Settings.sourceFault Settings.settingsFault
-    Step.scanned Step.scan Step.saturated Step.sent Step.sentTo Step.checkMessages Step.updateCheck Step.written Step.updateVariable Step.biasOf Step.biasesTo Step.computeBias Step.checkPass Step.variablePass Step.floodingIteration Step.serialCheck Step.serialPass Step.checkSerialIteration
+    Settings.alphaGood Settings.preGood Settings.legIterationsGood Settings.intervalGood Settings.setsGood Settings.gammaFault Settings.sourceFault
+    Settings.settingsFault
+    Step.scanned Step.scan Step.saturated Step.sent Step.sentTo Step.checkMessages Step.updateCheck Step.written Step.updateVariable Step.biasOf
+    Step.biasesTo Step.computeBias Step.checkPass Step.variablePass Step.floodingIteration Step.serialCheck Step.serialPass Step.checkSerialIteration
     Order.count Order.once Order.namesOnce Order.shares Order.above Order.late Order.exchanged Order.namesFault Order.exchangeFault
     Leg.startLeg Leg.hardBit Leg.hardDecision Leg.parity Leg.matches Leg.satisfied Leg.cost Leg.correctionWeight
     Gammas.drawnOn Gammas.drawn Gammas.legSeed Gammas.relayGamma Gammas.gammaOf
     Records.legRecord
     Decode.iterationLimit Decode.stepOf Decode.executedLeg Decode.startRun Decode.recorded Decode.afterLeg Decode.legsFrom Decode.decodeLegs
-    Calls.byteFault Calls.syndromeFault Calls.stepFits Calls.finiteAt Calls.allFinite Calls.stateFinite Calls.stepFault Calls.messageFinite Calls.mechanismFinite Calls.finiteFault Calls.stepEnd Calls.stepped Calls.iterationCall Calls.decodeListsFit Calls.decodeFault Calls.leftBy Calls.zeroed Calls.decodeInOrder Calls.decode
+    Calls.byteFault Calls.syndromeFault Calls.stepFits Calls.finiteAt Calls.allFinite Calls.stateFinite Calls.stepFault Calls.messageFinite
+    Calls.mechanismFinite Calls.finiteFault Calls.stepEnd Calls.stepped Calls.iterationCall Calls.decodeListsFit Calls.decodeFault Calls.leftBy
+    Calls.zeroed Calls.decodeInOrder Calls.decode
 runs =
     record {
       r1 = (refl, refl);

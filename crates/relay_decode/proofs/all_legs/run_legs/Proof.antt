@@ -184,7 +184,8 @@ returns c =
     (l .tally .«total_iterations») (l .leg) (l .leg-state) (l .leg-iterations) (l .leg-weight) (l .rows) (l .correction) (l .posterior)) (l .inv .11) (omega (
       arith,
       c .before .before .before .before .before .before .before .before .before .before .before .before .before .before .before .before .before
-          .before .before .before .before .before .before .before .before .before .before .before .before .before .before .before .before .before .before .before
+          .before .before .before .before .before .before .before .before .before .before .before .before .before .before .before .before
+          .before .before .before
           .loop-test .taken,
     )) (x .ensures .0) _ _ _ (x .kept .1 .1 .1 .1 .1 .1 .1 .1 .1 .1 .1 .1 .1 .1 .1 .1 .1 .0 ∙ l .inv .6 ∙ s .pre .1 .1 .0 .posteriors)
     (c .before .before .before .first-not-finite .ensures) (c .before .before .ends .ensures) (c .before .if1 .taken) (c .answer .ensures)
@@ -269,7 +270,8 @@ same-length-20 c = c .before .before .loop .inv .10
 
 returns-2 : tie.Need-returns-2 Inv-loop μ-loop
 returns-2 c =
-    let a = c .before .before .before .before .before .before .before .before .before .before .before .before .before .before .before .before .before .before .before .before .before .args in
+    let a = c .before .before .before .before .before .before .before .before .before .before .before .before .before .before .before .before
+    .before .before .before .before .before .args in
     let l = c .before .before .loop in
     run-over (shotOf (a .t) (a .gammas .now) (a .seed) (a .syndrome .now)
     (a .priors .now) (a .check-var .now) (a .check-offset .now) (a .var-message .now)

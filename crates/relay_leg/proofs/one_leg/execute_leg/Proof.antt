@@ -25,7 +25,8 @@ run-leg-requires : tie.Need-run-leg-requires
 run-leg-requires c κs =
     let p = c .before .before .before .before .before .before .before .before .before .before .before .before .before .before .before .before .before .before
     .before .before .before .before .before .before .before .before .before .before .before .before .before .before .pre in
-    let g = c .before .before .before .before .before .before .before .before .before .before .before .before .before .before .before .prepare-gamma .kept .1 .1 .1 .1 .0 in
+    let g = c .before .before .before .before .before .before .before .before .before .before .before .before .before .before
+    .before .prepare-gamma .kept .1 .1 .1 .1 .0 in
     let k = c .before .before .before .before .before .before .before .before .before .before .start-leg .kept .1 .1 in
     let v = p .1 .1 .0 .values in
     let m = p .1 .1 .1 in (
@@ -43,22 +44,28 @@ run-leg-requires c κs =
     )
 
 same-length : tie.Need-same-length
-same-length c = search needs
+same-length c = c .before .before .before .before .before .before .before .before .before .before .before .before .before .before .before
+    .before .before .before .before .before .before .before .before .before .before .before .prepare-gamma .kept .1 .1 .1 .1 .0
 
 same-length-2 : tie.Need-same-length-2
-same-length-2 c = search needs
+same-length-2 c = c .before .before .before .before .before .before .before .before .before .before .run-leg .kept .1 .1 .1 .1 .1 .1 .1 .1 .1 .1 .1 .0
 
 same-length-3 : tie.Need-same-length-3
-same-length-3 c = search needs
+same-length-3 c = c .before .before .before .before .before .before .before .before .before .before .run-leg
+    .kept .1 .1 .1 .1 .1 .1 .1 .1 .1 .1 .1 .1 .0 ∙ c .before .before .before .before .before .before .before .before .before .before .before
+    .before .before .before .before .before .before .before .before .before .before .start-leg .kept .1 .1 .0
 
 same-length-4 : tie.Need-same-length-4
-same-length-4 c = search needs
+same-length-4 c = c .before .before .before .before .before .before .before .before .before .before .run-leg
+    .kept .1 .1 .1 .1 .1 .1 .1 .1 .1 .1 .1 .1 .1 .0 ∙ c .before .before .before .before .before .before .before .before .before .before .before
+    .before .before .before .before .before .before .before .before .before .before .start-leg .kept .1 .1 .1 .0
 
 same-length-5 : tie.Need-same-length-5
-same-length-5 c = search needs
+same-length-5 c = c .before .before .before .before .before .before .before .before .before .before .run-leg .kept .1 .1 .1 .1 .1 .1 .1 .1 .1 .1 .1 .1 .1 .1 .0
 
 same-length-6 : tie.Need-same-length-6
-same-length-6 c = search needs
+same-length-6 c = c .before .before .before .before .before .before .before .before .before .before .run-leg
+    .kept .1 .1 .1 .1 .1 .1 .1 .1 .1 .1 .1 .1 .1 .1 .1 .0
 
 returns : tie.Need-returns
 returns c =
@@ -74,7 +81,8 @@ returns c =
     (a .var-offset .now) (a .order .now) (a .leg) _ _ _ _ (a .posterior .now) _
     (c .before .before .before .before .before .before .before .before .before .before .before .before .before .before .before .before .before .before
     .before .before .before .before .before .before .before .before .prepare-gamma .ensures ∙ ap (λ n. gammaOf (a .t) (a .gammas .now) n (a .seed) (a .leg))
-    (p .1 .1 .0 .values .gammas)) (c .before .before .before .before .before .before .before .before .before .before .before .before .before .before .before .before
+    (p .1 .1 .0 .values .gammas)) (c .before .before .before .before .before .before .before .before .before .before .before .before .before
+    .before .before .before
     .before .before .before .before .before .start-leg .ensures) limit (e .0) in (
       x .0,
       (

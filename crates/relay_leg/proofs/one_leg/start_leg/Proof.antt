@@ -13,10 +13,10 @@ from-variables-requires : tie.Need-from-variables-requires
 from-variables-requires c κs = search needs
 
 same-length : tie.Need-same-length
-same-length c = search needs
+same-length c = c .before .before .before .before .before .before .clear .kept .0
 
 same-length-2 : tie.Need-same-length-2
-same-length-2 c = search needs
+same-length-2 c = c .before .before .from-variables .kept .1 .1 .0
 
 returns : tie.Need-returns
 unfolding startLeg cleared fromVariables

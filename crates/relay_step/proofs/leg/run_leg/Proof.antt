@@ -61,7 +61,8 @@ loop-holds c = (
 
 step-requires : tie.Need-step-requires Inv-loop μ-loop
 step-requires c κs =
-    let s = c .before .before .before .before .before .before .before .before .before .before .before .before .before .before .before .before .before .before .before in
+    let s = c .before .before .before .before .before .before .before .before .before .before .before .before .before .before .before .before
+    .before .before .before in
     let l = c .before .before .before .before .before .loop in
     let p = s .pre .1 .1 .1 in
     let v = p .0 .values in (
@@ -93,7 +94,8 @@ satisfied-requires c κs =
     .before .before .before .before .before .before .before .before .before .before .before .before in
     let l = c .before .before .before .before .before .before .before .before .before .before .before .before .before .before .before .before .loop in
     let p = s .pre .1 .1 .1 in
-    let k = c .before .before .before .before .before .before .before .before .before .before .step .kept .1 .1 .1 .1 .1 .1 .1 .1 .1 .1 .1 .1 .1 .0 ∙ l .inv .4 ∙ p .0 .values .posteriors in
+    let k = c .before .before .before .before .before .before .before .before .before .before .step
+    .kept .1 .1 .1 .1 .1 .1 .1 .1 .1 .1 .1 .1 .1 .0 ∙ l .inv .4 ∙ p .0 .values .posteriors in
     (walks-along _ _ _ _ _ (sym k) (s .pre .0), l .inv .5 ∙ p .0 .decisions ∙ sym k)
 
 same-length : tie.Need-same-length Inv-loop μ-loop
@@ -123,32 +125,47 @@ same-length-5 c = c .before .before .before .satisfied .kept .1 .1 .1 .1 .0 ∙ 
 returns : tie.Need-returns Inv-loop μ-loop
 returns c =
     let u = c .before .before .before .before .before .before .before .before .before .before .before .before .before .before in
-    let l = c .before .before .before .before .before .before .before .before .before .before .before .before .before .before .before .before .before .before .before .before .loop in
+    let l = c .before .before .before .before .before .before .before .before .before .before .before .before .before .before .before .before
+    .before .before .before .before .loop in
     let t = c .before .before .before .satisfied .ensures in (
       sym (leg-passed (Step (c .before .before .before .before .before .before .before .before .before .before .before .before .before .before .before .before
-          .before .before .before .before .before .before .before .before .before .before .before .before .before .before .before .before .before .before)) (Test
+          .before .before .before .before .before .before .before .before .before .before .before .before .before .before .before .before
+          .before .before)) (Test
           (c .before .before .before .before .before .before .before .before .before .before .before .before .before .before .before .before .before .before
           .before .before .before .before .before .before .before .before .before .before .before .before .before .before .before .before)) _
           (c .before .before .before .before .before .before .before .before .before .before .before .before .before .before .before .before .before .before
           .before .before .before .before .before .before .before .before .before .before .before .before .before .before .before .before .args .limit -
-          (l .k + 1)) _) ∙ sym (leg-turn (Step (c .before .before .before .before .before .before .before .before .before .before .before .before .before .before
-          .before .before .before .before .before .before .before .before .before .before .before .before .before .before .before .before .before .before .before
+          (l .k + 1)) _) ∙ sym (leg-turn (Step (c .before .before .before .before .before .before .before .before .before .before .before
+          .before .before .before
+          .before .before .before .before .before .before .before .before .before .before .before .before .before .before .before .before
+          .before .before .before
           .before)) (Test (c .before .before .before .before .before .before .before .before .before .before .before .before .before .before .before .before
-          .before .before .before .before .before .before .before .before .before .before .before .before .before .before .before .before .before .before)) (state
-          (l .c-to-v) (l .v-to-c) (l .posterior)) _ _ (l .k) _ (c .before .before .before .before .before .before .before .before .before .before .before .before
+          .before .before .before .before .before .before .before .before .before .before .before .before .before .before .before .before
+          .before .before)) (state
+          (l .c-to-v) (l .v-to-c) (l .posterior)) _ _ (l .k) _ (c .before .before .before .before .before .before .before .before .before
+          .before .before .before
           .before .before .before .before .before .before .before .loop-test .taken) (u .step .ensures) (sym (c .if1 .taken) ∙ t .0)) ∙ l .inv .6,
       λ h. t .1,
     )
 
 loop-less : tie.Need-loop-less Inv-loop μ-loop
-loop-less c = omega (arith, c .before .before .before .before .before .before .before .before .before .before .before .before .before .before .before .before .before .before .before .loop-test .taken)
+loop-less c = omega (
+  arith,
+  c .before .before .before .before .before .before .before .before .before .before .before .before .before .before
+      .before .before .before .before .before .loop-test .taken,
+)
 
 loop-again : tie.Need-loop-again Inv-loop μ-loop
 loop-again c =
     let u = c .before .before .before .before .before .before .before .before .before .before .before .before .before .before in
-    let l = c .before .before .before .before .before .before .before .before .before .before .before .before .before .before .before .before .before .before .before .before .loop in
+    let l = c .before .before .before .before .before .before .before .before .before .before .before .before .before .before .before .before
+    .before .before .before .before .loop in
     let t = c .before .before .before .satisfied .ensures in (
-      omega (arith, c .before .before .before .before .before .before .before .before .before .before .before .before .before .before .before .before .before .before .before .loop-test .taken),
+      omega (
+        arith,
+        c .before .before .before .before .before .before .before .before .before .before .before .before .before .before .before
+            .before .before .before .before .loop-test .taken,
+      ),
       u .step .kept .1 .1 .1 .1 .1 .1 .1 .1 .1 .1 .0 ∙ l .inv .1,
       u .step .kept .1 .1 .1 .1 .1 .1 .1 .1 .1 .1 .1 .0 ∙ l .inv .2,
       u .step .kept .1 .1 .1 .1 .1 .1 .1 .1 .1 .1 .1 .1 .0 ∙ l .inv .3,

@@ -29,8 +29,15 @@ at-requires c κs = omega arith
 update-one-requires : tie.Need-update-one-requires Inv-loop μ-loop
 update-one-requires c κs =
     let s = c .before .before .before .before .before .before .before .before .before .before in
-    let l = c .before .before .before .loop in
-    (omega (arith, c .before .at .ensures, s .pre .1 .1 .0 .small (l .i) (c .before .before .loop-test .taken)), (s .pre .0, (s .pre .1 .0, record { to-variables = l .inv .1 ∙ s .pre .1 .1 .1 .to-variables; to-checks = s .pre .1 .1 .1 .to-checks })))
+    let l = c .before .before .before .loop in (
+      omega (
+        arith,
+        c .before .at .ensures,
+        s .pre .1 .1 .0 .small (l .i) (c .before
+            .before .loop-test .taken),
+      ),
+      (s .pre .0, (s .pre .1 .0, record { to-variables = l .inv .1 ∙ s .pre .1 .1 .1 .to-variables; to-checks = s .pre .1 .1 .1 .to-checks })),
+    )
 
 add-i : tie.Need-add-i Inv-loop μ-loop
 add-i c = omega arith

@@ -12,7 +12,8 @@ compute-bias-requires c κs = search needs
 
 serial-pass-requires : tie.Need-serial-pass-requires
 serial-pass-requires c κs =
-    let s = c .before .before .before .before .before .before .before .before .before .before .before .before .before .before .before .before .before .before .before .before .before in
+    let s = c .before .before .before .before .before .before .before .before .before .before .before .before .before .before .before .before
+    .before .before .before .before .before in
     let p = s .pre .1 .1 .1 in
     let b = c .before .before .before .before .before .before .compute-bias .kept .1 .1 .1 .0 ∙ p .0 .biases in
     (walks-along _ _ _ _ _ (sym b) (s .pre .0), (walks-both _ _ _ _ _ _ (sym b) refl (s .pre .1 .0), (s .pre .1 .1 .0, (p .0 .posteriors ∙ sym b, p .1))))

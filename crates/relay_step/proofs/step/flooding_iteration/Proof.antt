@@ -22,7 +22,8 @@ variable-pass-requires c κs =
     .before .before .before .before .before .before .before .before in
     let p = s .pre .1 .1 .1 in
     let b = c .before .before .before .before .before .before .compute-bias .kept .1 .1 .1 .0 ∙ p .0 .biases in
-    let k = c .before .before .before .before .before .before .before .before .before .before .before .check-pass .kept .1 .1 .1 .1 .1 .1 .0 ∙ p .1 .to-variables in
+    let k = c .before .before .before .before .before .before .before .before .before .before .before .check-pass
+    .kept .1 .1 .1 .1 .1 .1 .0 ∙ p .1 .to-variables in
     (p .0 .posteriors ∙ sym b, (walks-both _ _ _ _ _ _ (sym b) (sym k) (s .pre .1 .0), p .1 .to-checks ∙ sym k))
 
 same-length : tie.Need-same-length

@@ -34,8 +34,14 @@ update-part-requires : tie.Need-update-part-requires
 update-part-requires c κs =
     let w = within (c .before .before .before) in
     let p = c .before .before .before .before .before .before .before .before .before .before .before .before .before .before .pre .1 .1 .1 .1 in
-    let s = c .before .before .before .before .before .before .before .before .before .before .before .before .before .before in
-    (w, (p, part-rises _ _ _ (s .args .c) _ _ (s .pre .1 .0 .rising) (s .pre .0) (c .before .before .before .before .at .ensures) (c .before .before .before .at2 .ensures)))
+    let s = c .before .before .before .before .before .before .before .before .before .before .before .before .before .before in (
+      w,
+      (
+        p,
+        part-rises _ _ _ (s .args .c) _ _ (s .pre .1 .0 .rising) (s .pre .0) (c .before .before .before .before .at .ensures) (c .before
+            .before .before .at2 .ensures),
+      ),
+    )
 
 mul-update-variables : tie.Need-mul-update-variables
 mul-update-variables c = omega (arith, within (c .before .before .before .before .before .before))
@@ -51,7 +57,8 @@ part-update-variables-end c = within (c .before .before .before .before .before 
 
 update-variables-requires : tie.Need-update-variables-requires
 update-variables-requires c κs =
-    let s = c .before .before .before .before .before .before .before .before .before .before .before .before .before .before .before .before .before .before .before .before .before in
+    let s = c .before .before .before .before .before .before .before .before .before .before .before .before .before .before .before .before
+    .before .before .before .before .before in
     let p = s .pre .1 .1 .1 in
     let k = c .before .before .before .before .before .before .update-part .kept .1 .1 .1 .1 .1 .1 .0 in (
       part-names _ _ _ _ (s .pre .1 .0 .named) (within (c .before .before .before .before .before .before .before .before .before .before) .1),

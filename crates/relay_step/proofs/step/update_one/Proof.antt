@@ -10,7 +10,8 @@ use Rattle.relay_step.proofs.step.update_one.Statement.{statement}
 use Rattle.relay_step.proofs.step.update_one.Tie as tie
 
 -- the check's part lies within the entries
-within : (c : tie.After-at2) → (c .before .at .result ≤ c .at2 .result) × (c .at2 .result ≤ length (c .before .before .before .before .before .before .before .args .check-var .now))
+within : (c : tie.After-at2) → (c .before .at .result ≤ c .at2 .result) × (c .at2 .result ≤ length (c .before .before .before .before .before
+    .before .before .args .check-var .now))
 within c = cut-bounds _ _ _ (c .before .before .before .before .before .before .before .args .c) _ _
     (c .before .before .before .before .before .before .before .pre .1 .0)
     (c .before .before .before .before .before .before .before .pre .0) (c .before .at .ensures) (c .at2 .ensures)
