@@ -14,7 +14,7 @@ use numbers::limits::MAX_CHECKS;
 use relay_calls::Decoded;
 use relay_settings::Settings;
 
-// A decode in index order, which is counted up in a list of one place to a check.
+// A decode in index order, which is counted up in a list of one place to a check and left there.
 fn decode_counting(
     t: Settings,
     gammas: &[f64],
@@ -45,7 +45,7 @@ fn decode_counting(
         LegsFit (suc (t .«num_legs»)) (length (now priors)) (now «leg_state») (now «leg_iterations») (now «leg_weight») (now rows) ⌝ }
     requires { ⌜ PerShot (length (now priors)) (now correction) (now posterior) (now gamma) (now bias) ⌝ }
     requires { ⌜ PerEdge (length (now «check_var»)) (now «c_to_v») (now «v_to_c») ⌝ }
-    ensures { λ r.
+    ensures outcome { λ r.
         let x = shotOf t (now (gammas .entry)) seed (now (syndrome .entry)) (now (priors .entry)) (now («check_var» .entry))
         (now («check_offset» .entry)) (now («var_message» .entry)) (now («var_offset» .entry))
         (upto (length (now (syndrome .entry)))) in
@@ -57,6 +57,7 @@ fn decode_counting(
         (now (correction .exit)) (now (posterior .exit)) (now (gamma .exit)) (now (bias .exit)) (now («c_to_v» .exit))
         (now («v_to_c» .exit)) in
         ⌜ decodeOutcome r after ≡ afterLegs (length (now («check_var» .entry))) x end before ⌝ }
+    ensures order { λ _. ⌜ now (order .exit) ≡ upto (length (now (order .entry))) ⌝ }
 {
     number(order);
     decode_fronts(

@@ -70,7 +70,7 @@ same-length-10 c = c .before .before .before .before .before .before .before .be
 
 returns : tie.Need-returns
 returns c = c .before .before .before .before .before .before .before .before .before .before .before .before .before .before .before .before
-    .before .before .before .before .before .decode-counting .ensures
+    .before .before .before .before .before .decode-counting .ensures .0
 
 array-borrow-prefix-order-2 : tie.Need-array-borrow-prefix-order-2
 array-borrow-prefix-order-2 c = search needs
@@ -129,7 +129,7 @@ same-length-20 c = c .before .before .before .before .before .before .before .be
 
 returns-2 : tie.Need-returns-2
 returns-2 c = c .before .before .before .before .before .before .before .before .before .before .before .before .before .before .before .before
-    .before .before .before .before .before .decode-counting2 .ensures
+    .before .before .before .before .before .decode-counting2 .ensures .0
 
 pub decode-counted-spec : {M : Type 1} → statement M
 decode-counted-spec =

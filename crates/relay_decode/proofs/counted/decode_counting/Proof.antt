@@ -1,4 +1,4 @@
--- `relay_decode::counted::decode_counting` meets its contract. The list, counted up, is the index order: it has one place to a check.
+-- `relay_decode::counted::decode_counting` meets its contract. The list, counted up, is the index order: it has one place to a check, and the legs only read it.
 -- Assumes nothing.
 use mathlib.Core.Path.{ap, _∙_}
 use Rattle.numbers.specs.Loops.{upto}
@@ -73,11 +73,14 @@ returns c =
     .before .before .before .before .before .before .before .before .before .before .before .before .before .before .before .before .before
     .before .before .before .before in
     let a = s .args in
-    along-order (a .t) (a .gammas .now) (a .seed) (a .syndrome .now) (a .priors .now) (a .check-var .now) (a .check-offset .now) (a .var-message .now)
-    (a .var-offset .now) _ _ _ _ _ (c .before .before .before .before .before .before .before .before .before .before .before .before .before
+    let n = c .before .before .before .before .before .before .before .before .before .before .before .before .before .before .before .before
     .before .before .before .before .before .before .before .before .before .before .before .before .before .before .before .before .before
-    .before .before .before .before .number .ensures ∙ ap upto (s .pre .0 .1)) (c .before .before .before .before .before .before .before
-    .before .before .before .before .before .before .before .before .before .before .before .before .before .decode-fronts .ensures)
+    .before .number .ensures in (
+      along-order (a .t) (a .gammas .now) (a .seed) (a .syndrome .now) (a .priors .now) (a .check-var .now) (a .check-offset .now) (a .var-message .now)
+          (a .var-offset .now) _ _ _ _ _ (n ∙ ap upto (s .pre .0 .1)) (c .before .before .before .before .before .before .before .before .before
+          .before .before .before .before .before .before .before .before .before .before .before .decode-fronts .ensures),
+      n,
+    )
 
 pub decode-counting-spec : {M : Type 1} → statement M
 decode-counting-spec =
