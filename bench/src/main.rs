@@ -13,11 +13,12 @@ mod table;
 mod timing;
 
 use oracle::toolchain;
+use proved::Size;
 use std::path::Path;
 use std::process::ExitCode;
 use timing::{HEAD, Row};
 
-const USAGE: &str = "usage: bench/run [building|beliefs|iterations|decodes|tests|stack] | --write
+const USAGE: &str = "usage: bench/run [building|beliefs|iterations|decodes|tests|stack|bytes] | --write
   without a word, all of them; --write besides puts the figures into docs/BENCHMARKS.md and docs/benchmarks.svg";
 
 type Part = (&'static str, fn() -> Vec<Row>);
@@ -50,7 +51,12 @@ fn machine(load_before: &str) -> String {
     )
 }
 
-fn write(rows: &[Row], stack: &[(&str, usize)], machine: &str) -> Result<(), String> {
+fn write(
+    rows: &[Row],
+    stack: &[(&str, usize)],
+    bytes: &[(Size, usize)],
+    machine: &str,
+) -> Result<(), String> {
     let docs = Path::new(env!("CARGO_MANIFEST_DIR")).join("../docs");
     let page = docs.join("BENCHMARKS.md");
     let failed = |error: std::io::Error| error.to_string();
@@ -60,6 +66,7 @@ fn write(rows: &[Row], stack: &[(&str, usize)], machine: &str) -> Result<(), Str
         ("times", table::beside(rows)),
         ("tests", table::tests(rows)),
         ("stack", table::stack(stack)),
+        ("bytes", table::bytes(bytes)),
     ] {
         text = table::replaced(&text, part, &with)?;
     }
@@ -74,7 +81,9 @@ fn main() -> ExitCode {
         [word] => Some(word.as_str()),
         _ => Some(""),
     };
-    let known = |name: &str| name == "stack" || PARTS.iter().any(|(part, _)| *part == name);
+    let known = |name: &str| {
+        matches!(name, "stack" | "bytes") || PARTS.iter().any(|(part, _)| *part == name)
+    };
     let all = matches!(word, None | Some("--write"));
     if !all && !word.is_some_and(known) {
         eprintln!("{USAGE}");
@@ -114,10 +123,21 @@ fn main() -> ExitCode {
     for (call, bytes) in &stack {
         println!("{:36} {bytes:>8} bytes", format!("stack/{call}"));
     }
+    let bytes = if asked("bytes") {
+        models::bytes()
+    } else {
+        Vec::new()
+    };
+    for (size, bytes) in &bytes {
+        println!(
+            "{:36} {bytes:>8} bytes",
+            format!("graph/{} edges", size.edges)
+        );
+    }
     let machine = machine(&load_before);
     println!("# {machine}");
     if word == Some("--write")
-        && let Err(why) = write(&rows, &stack, &machine)
+        && let Err(why) = write(&rows, &stack, &bytes, &machine)
     {
         eprintln!("bench: not all was written: {why}");
         return ExitCode::FAILURE;

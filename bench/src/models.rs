@@ -42,6 +42,19 @@ pub fn sized(edges: usize) -> Sized {
     })
 }
 
+/// Of each row's model its size, and the bytes of its graph's lists.
+pub fn bytes() -> Vec<(Size, usize)> {
+    let of = |edges: usize| {
+        let sized = sized(edges);
+        let lists = sized
+            .lists()
+            .each()
+            .map(|list| size_of_val(list.as_slice()));
+        (sized.size, lists.into_iter().sum())
+    };
+    EDGES.into_iter().map(of).collect()
+}
+
 pub fn nothing() -> Sized {
     flat(Model::nothing())
 }

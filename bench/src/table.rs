@@ -2,6 +2,7 @@
 
 use crate::models::EDGES;
 use crate::timing::Row;
+use proved::Size;
 use std::fmt::Write;
 
 /// A number with commas between thousands.
@@ -99,6 +100,19 @@ pub fn stack(rows: &[(&str, usize)]) -> String {
     let mut text = String::from("| Call | Bytes of stack |\n|---|--:|\n");
     for (call, bytes) in rows {
         writeln!(text, "| {call} | {} |", grouped(*bytes)).expect("a string takes all");
+    }
+    text
+}
+
+/// What a graph's lists take.
+pub fn bytes(rows: &[(Size, usize)]) -> String {
+    let mut text =
+        String::from("| Edges | Checks | Mechanisms | Bytes of a graph |\n|--:|--:|--:|--:|\n");
+    for (size, bytes) in rows {
+        let [edges, checks, mechanisms, bytes] =
+            [size.edges, size.checks, size.mechanisms, *bytes].map(grouped);
+        writeln!(text, "| {edges} | {checks} | {mechanisms} | {bytes} |")
+            .expect("a string takes all");
     }
     text
 }

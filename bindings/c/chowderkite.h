@@ -46,7 +46,7 @@ extern "C" {
 
 /* ---- the version: raised whenever a call, a list or a code changes its meaning */
 
-#define CHOWDERKITE_VERSION 1
+#define CHOWDERKITE_VERSION 2
 
 /* The version of the archive that is linked. Where it is not CHOWDERKITE_VERSION, this header is another archive's. */
 uint64_t chowderkite_version(void);
@@ -152,19 +152,20 @@ static inline int chowderkite_has_place(uint64_t code) {
 
 /* ---- the graph
  *
- * Six lists hold it, built from a model and then lent to every other call beside the priors (length mechanisms):
+ * Five lists hold it, built from a model and then lent to every other call beside the priors (length mechanisms):
  *
- *   check_var, check_message    length edges: the entries of check 0, then of check 1, and so on, mechanisms rising
- *                               within a check; a mechanism, and the number of its message, which is the entry's place
+ *   check_var                   length edges: the entries of check 0, then of check 1, and so on, mechanisms rising
+ *                               within a check; an entry is a mechanism, and its place is the number of its message
  *   check_offset                length checks + 1: check c has the entries from check_offset[c] to check_offset[c + 1]
- *   var_check, var_message      length edges: the entries of mechanism 0, then of 1, and so on, checks rising within one
+ *   var_check, var_message      length edges: the entries of mechanism 0, then of 1, and so on, checks rising within one;
+ *                               a check, and the number of the message
  *   var_offset                  length mechanisms + 1: as check_offset
  *
  * Every call over a graph begins by testing the lists and the priors: 1, 2, 4, 7. */
 
 /* Builds the graph of a sparse model: mechanism m has the detectors (checks) from detector_offsets[m] to
  * detector_offsets[m + 1], in any order. Lengths: priors mechanisms, detector_offsets mechanisms + 1, detectors edges, the
- * six graph lists as above. Refuses with 1, 2, 3, then mechanism by mechanism 4, 5, 6, where a mechanism's prior comes
+ * five graph lists as above. Refuses with 1, 2, 3, then mechanism by mechanism 4, 5, 6, where a mechanism's prior comes
  * first and then each detector in list order, range before repeat. */
 uint64_t chowderkite_build_sparse(
     size_t checks,
@@ -174,7 +175,6 @@ uint64_t chowderkite_build_sparse(
     const uint32_t *detector_offsets, size_t detector_offsets_len,
     const uint32_t *detectors, size_t detectors_len,
     uint32_t *check_var, size_t check_var_len,
-    uint32_t *check_message, size_t check_message_len,
     uint32_t *check_offset, size_t check_offset_len,
     uint32_t *var_check, size_t var_check_len,
     uint32_t *var_message, size_t var_message_len,
@@ -185,7 +185,7 @@ size_t chowderkite_count_edges(
     const uint8_t *matrix, size_t matrix_len);
 
 /* Builds the graph of a dense model, the same as of the sparse model with the same incidences: the matrix lies check by
- * check, and a byte that is not 0 is an incidence. Lengths: priors mechanisms, matrix checks times mechanisms, the six
+ * check, and a byte that is not 0 is an incidence. Lengths: priors mechanisms, matrix checks times mechanisms, the five
  * graph lists as above, where edges is what chowderkite_count_edges answers. Refuses with 1 for the counts, 2 for matrix
  * and priors, 1 for the edges, 2 for the graph lists, then 4. */
 uint64_t chowderkite_build_dense(
@@ -194,7 +194,6 @@ uint64_t chowderkite_build_dense(
     const double *priors, size_t priors_len,
     const uint8_t *matrix, size_t matrix_len,
     uint32_t *check_var, size_t check_var_len,
-    uint32_t *check_message, size_t check_message_len,
     uint32_t *check_offset, size_t check_offset_len,
     uint32_t *var_check, size_t var_check_len,
     uint32_t *var_message, size_t var_message_len,
@@ -207,7 +206,6 @@ uint64_t chowderkite_check_graph(
     size_t edges,
     const double *priors, size_t priors_len,
     const uint32_t *check_var, size_t check_var_len,
-    const uint32_t *check_message, size_t check_message_len,
     const uint32_t *check_offset, size_t check_offset_len,
     const uint32_t *var_check, size_t var_check_len,
     const uint32_t *var_message, size_t var_message_len,
@@ -225,7 +223,6 @@ uint64_t chowderkite_beliefs(
     size_t edges,
     const double *priors, size_t priors_len,
     const uint32_t *check_var, size_t check_var_len,
-    const uint32_t *check_message, size_t check_message_len,
     const uint32_t *check_offset, size_t check_offset_len,
     const uint32_t *var_check, size_t var_check_len,
     const uint32_t *var_message, size_t var_message_len,
@@ -298,7 +295,6 @@ uint64_t chowderkite_decode(
     size_t edges,
     const double *priors, size_t priors_len,
     const uint32_t *check_var, size_t check_var_len,
-    const uint32_t *check_message, size_t check_message_len,
     const uint32_t *check_offset, size_t check_offset_len,
     const uint32_t *var_check, size_t var_check_len,
     const uint32_t *var_message, size_t var_message_len,
@@ -339,7 +335,6 @@ uint64_t chowderkite_decode_in_order(
     size_t edges,
     const double *priors, size_t priors_len,
     const uint32_t *check_var, size_t check_var_len,
-    const uint32_t *check_message, size_t check_message_len,
     const uint32_t *check_offset, size_t check_offset_len,
     const uint32_t *var_check, size_t var_check_len,
     const uint32_t *var_message, size_t var_message_len,
@@ -399,7 +394,6 @@ uint64_t chowderkite_iteration(
     size_t edges,
     const double *priors, size_t priors_len,
     const uint32_t *check_var, size_t check_var_len,
-    const uint32_t *check_message, size_t check_message_len,
     const uint32_t *check_offset, size_t check_offset_len,
     const uint32_t *var_check, size_t var_check_len,
     const uint32_t *var_message, size_t var_message_len,

@@ -32,7 +32,7 @@ static const uint8_t stream[141] = {
 /* ---- the lists that the calls fill */
 
 typedef struct {
-    uint32_t check_var[EDGES], check_message[EDGES], check_offset[CHECKS + 1];
+    uint32_t check_var[EDGES], check_offset[CHECKS + 1];
     uint32_t var_check[EDGES], var_message[EDGES], var_offset[MECHANISMS + 1];
 } graph;
 
@@ -47,7 +47,7 @@ typedef struct {
 static uint64_t build(const double *some_priors, graph *g) {
     return chowderkite_build_sparse(
         CHECKS, MECHANISMS, EDGES, some_priors, MECHANISMS, detector_offsets, MECHANISMS + 1, detectors, EDGES,
-        g->check_var, EDGES, g->check_message, EDGES, g->check_offset, CHECKS + 1,
+        g->check_var, EDGES, g->check_offset, CHECKS + 1,
         g->var_check, EDGES, g->var_message, EDGES, g->var_offset, MECHANISMS + 1);
 }
 
@@ -60,7 +60,7 @@ static uint64_t decode(const graph *g, uint8_t schedule, const uint32_t *order, 
     if (order == NULL) {
         return chowderkite_decode(
             CHECKS, MECHANISMS, EDGES, priors, MECHANISMS,
-            g->check_var, EDGES, g->check_message, EDGES, g->check_offset, CHECKS + 1,
+            g->check_var, EDGES, g->check_offset, CHECKS + 1,
             g->var_check, EDGES, g->var_message, EDGES, g->var_offset, MECHANISMS + 1,
             schedule, alpha, gamma0, pre_iterations, num_legs, leg_iterations, low, high, stop,
             CHOWDERKITE_SEEDED, 0, NULL, 0, syndrome, CHECKS, seed,
@@ -70,7 +70,7 @@ static uint64_t decode(const graph *g, uint8_t schedule, const uint32_t *order, 
     }
     return chowderkite_decode_in_order(
         CHECKS, MECHANISMS, EDGES, priors, MECHANISMS,
-        g->check_var, EDGES, g->check_message, EDGES, g->check_offset, CHECKS + 1,
+        g->check_var, EDGES, g->check_offset, CHECKS + 1,
         g->var_check, EDGES, g->var_message, EDGES, g->var_offset, MECHANISMS + 1,
         schedule, alpha, gamma0, pre_iterations, num_legs, leg_iterations, low, high, stop,
         CHOWDERKITE_SEEDED, 0, NULL, 0, syndrome, CHECKS, seed, order, CHECKS,
@@ -162,7 +162,7 @@ int main(void) {
         const double scale = 1.0;
         const uint64_t code = chowderkite_beliefs(
             CHECKS, MECHANISMS, EDGES, priors, MECHANISMS,
-            g.check_var, EDGES, g.check_message, EDGES, g.check_offset, CHECKS + 1,
+            g.check_var, EDGES, g.check_offset, CHECKS + 1,
             g.var_check, EDGES, g.var_message, EDGES, g.var_offset, MECHANISMS + 1,
             syndrome, CHECKS, iterations, scale, 0,
             posterior, MECHANISMS, ewa, MECHANISMS, c_to_v, EDGES, v_to_c, EDGES);
@@ -208,7 +208,7 @@ int main(void) {
         memcpy(posterior, priors, sizeof priors);
         code = chowderkite_iteration(
             CHECKS, MECHANISMS, EDGES, priors, MECHANISMS,
-            g.check_var, EDGES, g.check_message, EDGES, g.check_offset, CHECKS + 1,
+            g.check_var, EDGES, g.check_offset, CHECKS + 1,
             g.var_check, EDGES, g.var_message, EDGES, g.var_offset, MECHANISMS + 1,
             CHOWDERKITE_CHECK_SERIAL, 1.0, gamma, MECHANISMS, syndrome, CHECKS, exchanged, CHECKS,
             c_to_v, EDGES, v_to_c, EDGES, posterior, MECHANISMS, bias, MECHANISMS);

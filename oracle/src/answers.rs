@@ -17,11 +17,10 @@ impl Refusal {
     }
 }
 
-/// The six lists of a graph.
+/// The five lists of a graph: the Rust's pairs taken apart, without the message numbers of the check entries.
 #[derive(Clone, Debug, PartialEq, Eq)]
 pub struct GraphLists {
     pub check_var: Vec<usize>,
-    pub check_message: Vec<usize>,
     pub check_offset: Vec<usize>,
     pub var_check: Vec<usize>,
     pub var_message: Vec<usize>,
@@ -47,12 +46,19 @@ pub struct Decoded {
 
 impl GraphLists {
     /// Read the lists out of the graph's debugging text, which alone shows the private offsets.
+    ///
+    /// # Panics
+    ///
+    /// If a check entry's message number is not its own place: then it could not be left out.
     pub fn from_debug(text: &str) -> Self {
-        let (check_var, check_message) = pairs(&numbers_of(text, "check_data"));
+        let (check_var, numbers) = pairs(&numbers_of(text, "check_data"));
+        assert!(
+            numbers.iter().copied().eq(0..check_var.len()),
+            "a check entry of the Rust's graph has another message number than its place"
+        );
         let (var_check, var_message) = pairs(&numbers_of(text, "var_data"));
         Self {
             check_var,
-            check_message,
             check_offset: numbers_of(text, "check_offset"),
             var_check,
             var_message,
@@ -63,7 +69,6 @@ impl GraphLists {
     pub fn write(&self, line: &mut Line) {
         for list in [
             &self.check_var,
-            &self.check_message,
             &self.check_offset,
             &self.var_check,
             &self.var_message,

@@ -5,7 +5,7 @@ use chowderkite_sys::calls;
 use chowderkite_sys::lists::{self, Size};
 use std::ops::Range;
 
-/// The six lists that hold a graph's incidences.
+/// The five lists that hold a graph's incidences.
 ///
 /// A message is an edge's, and message numbers run check by check, mechanisms rising within a check. So an entry's place in
 /// `check_var` is its message number. A mechanism's entries rise by check.
@@ -13,8 +13,6 @@ use std::ops::Range;
 pub struct GraphLists {
     /// The mechanism of each check entry, check by check.
     pub check_var: Vec<u32>,
-    /// The message number of each check entry.
-    pub check_message: Vec<u32>,
     /// Check `c` has the entries `check_offset[c]..check_offset[c + 1]`.
     pub check_offset: Vec<u32>,
     /// The check of each mechanism entry, mechanism by mechanism.
@@ -189,7 +187,6 @@ impl BpGraph {
             priors,
             lists: GraphLists {
                 check_var: lists.check_var,
-                check_message: lists.check_message,
                 check_offset: lists.check_offset,
                 var_check: lists.var_check,
                 var_message: lists.var_message,
@@ -215,7 +212,6 @@ impl BpGraph {
             edges: self.edges,
             priors: &self.priors,
             check_var: &lists.check_var,
-            check_message: &lists.check_message,
             check_offset: &lists.check_offset,
             var_check: &lists.var_check,
             var_message: &lists.var_message,

@@ -40,16 +40,15 @@ pub extern "C" fn chowderkite_build_sparse(
     detector_offsets: &[u32],
     detectors: &[u32],
     check_var: &mut [u32],
-    check_message: &mut [u32],
     check_offset: &mut [u32],
     var_check: &mut [u32],
     var_message: &mut [u32],
     var_offset: &mut [u32],
 ) -> u64
     ensures { λ r. ⌜ (
-        let g = graph checks mechanisms (now («check_var» .entry)) (now («check_message» .entry)) (now («check_offset» .entry))
+        let g = graph checks mechanisms (now («check_var» .entry)) (now («check_offset» .entry))
         (now («var_check» .entry)) (now («var_message» .entry)) (now («var_offset» .entry)) in
-        let after = graph checks mechanisms (now («check_var» .exit)) (now («check_message» .exit)) (now («check_offset» .exit))
+        let after = graph checks mechanisms (now («check_var» .exit)) (now («check_offset» .exit))
         (now («var_check» .exit)) (now («var_message» .exit)) (now («var_offset» .exit)) in
         graphLeft r after
         ≡ graphLeftBy (buildSparse edges (now (priors .entry)) (now («detector_offsets» .entry)) (now (detectors .entry)) g)) ⌝ }
@@ -62,7 +61,6 @@ pub extern "C" fn chowderkite_build_sparse(
         detector_offsets,
         detectors,
         check_var,
-        check_message,
         check_offset,
         var_check,
         var_message,
@@ -86,16 +84,15 @@ pub extern "C" fn chowderkite_build_dense(
     priors: &[f64],
     matrix: &[u8],
     check_var: &mut [u32],
-    check_message: &mut [u32],
     check_offset: &mut [u32],
     var_check: &mut [u32],
     var_message: &mut [u32],
     var_offset: &mut [u32],
 ) -> u64
     ensures { λ r. ⌜ (
-        let g = graph checks mechanisms (now («check_var» .entry)) (now («check_message» .entry)) (now («check_offset» .entry))
+        let g = graph checks mechanisms (now («check_var» .entry)) (now («check_offset» .entry))
         (now («var_check» .entry)) (now («var_message» .entry)) (now («var_offset» .entry)) in
-        let after = graph checks mechanisms (now («check_var» .exit)) (now («check_message» .exit)) (now («check_offset» .exit))
+        let after = graph checks mechanisms (now («check_var» .exit)) (now («check_offset» .exit))
         (now («var_check» .exit)) (now («var_message» .exit)) (now («var_offset» .exit)) in
         graphLeft r after ≡ graphLeftBy (buildDense (now (priors .entry)) (now (matrix .entry)) g)) ⌝ }
 {
@@ -105,7 +102,6 @@ pub extern "C" fn chowderkite_build_dense(
         priors,
         matrix,
         check_var,
-        check_message,
         check_offset,
         var_check,
         var_message,
@@ -121,14 +117,13 @@ pub extern "C" fn chowderkite_check_graph(
     edges: usize,
     priors: &[f64],
     check_var: &[u32],
-    check_message: &[u32],
     check_offset: &[u32],
     var_check: &[u32],
     var_message: &[u32],
     var_offset: &[u32],
 ) -> u64
     ensures { λ r. ⌜ (
-        let g = graph checks mechanisms (now («check_var» .entry)) (now («check_message» .entry)) (now («check_offset» .entry))
+        let g = graph checks mechanisms (now («check_var» .entry)) (now («check_offset» .entry))
         (now («var_check» .entry)) (now («var_message» .entry)) (now («var_offset» .entry)) in
         r ≡ codeOf (graphFault edges (now (priors .entry)) g)) ⌝ }
 {
@@ -138,7 +133,6 @@ pub extern "C" fn chowderkite_check_graph(
         edges,
         priors,
         check_var,
-        check_message,
         check_offset,
         var_check,
         var_message,
@@ -156,7 +150,6 @@ pub extern "C" fn chowderkite_beliefs(
     edges: usize,
     priors: &[f64],
     check_var: &[u32],
-    check_message: &[u32],
     check_offset: &[u32],
     var_check: &[u32],
     var_message: &[u32],
@@ -171,7 +164,7 @@ pub extern "C" fn chowderkite_beliefs(
     v_to_c: &mut [f64],
 ) -> u64
     ensures { λ r. ⌜ (
-        let g = graph checks mechanisms (now («check_var» .entry)) (now («check_message» .entry)) (now («check_offset» .entry))
+        let g = graph checks mechanisms (now («check_var» .entry)) (now («check_offset» .entry))
         (now («var_check» .entry)) (now («var_message» .entry)) (now («var_offset» .entry)) in
         let before = beliefsLists (now (posterior .entry)) (now («ewa_posterior» .entry)) (now («c_to_v» .entry)) (now («v_to_c» .entry)) in
         let after = beliefsLists (now (posterior .exit)) (now («ewa_posterior» .exit)) (now («c_to_v» .exit)) (now («v_to_c» .exit)) in
@@ -184,7 +177,6 @@ pub extern "C" fn chowderkite_beliefs(
         edges,
         priors,
         check_var,
-        check_message,
         check_offset,
         var_check,
         var_message,
@@ -259,7 +251,6 @@ pub extern "C" fn chowderkite_decode(
     edges: usize,
     priors: &[f64],
     check_var: &[u32],
-    check_message: &[u32],
     check_offset: &[u32],
     var_check: &[u32],
     var_message: &[u32],
@@ -292,7 +283,7 @@ pub extern "C" fn chowderkite_decode(
     weight: &mut [f64; 1],
 ) -> u64
     ensures { λ r. ⌜ (
-        let g = graph checks mechanisms (now («check_var» .entry)) (now («check_message» .entry)) (now («check_offset» .entry))
+        let g = graph checks mechanisms (now («check_var» .entry)) (now («check_offset» .entry))
         (now («var_check» .entry)) (now («var_message» .entry)) (now («var_offset» .entry)) in
         let settings = settingsGiven schedule alpha gamma0 «pre_iterations» «num_legs» «leg_iterations» «gamma_low» «gamma_high»
         «stop_after_converged» explicit sets in
@@ -320,7 +311,6 @@ pub extern "C" fn chowderkite_decode(
         edges,
         priors,
         check_var,
-        check_message,
         check_offset,
         var_check,
         var_message,
@@ -362,7 +352,6 @@ pub extern "C" fn chowderkite_decode_in_order(
     edges: usize,
     priors: &[f64],
     check_var: &[u32],
-    check_message: &[u32],
     check_offset: &[u32],
     var_check: &[u32],
     var_message: &[u32],
@@ -396,7 +385,7 @@ pub extern "C" fn chowderkite_decode_in_order(
     weight: &mut [f64; 1],
 ) -> u64
     ensures { λ r. ⌜ (
-        let g = graph checks mechanisms (now («check_var» .entry)) (now («check_message» .entry)) (now («check_offset» .entry))
+        let g = graph checks mechanisms (now («check_var» .entry)) (now («check_offset» .entry))
         (now («var_check» .entry)) (now («var_message» .entry)) (now («var_offset» .entry)) in
         let settings = settingsGiven schedule alpha gamma0 «pre_iterations» «num_legs» «leg_iterations» «gamma_low» «gamma_high»
         «stop_after_converged» explicit sets in
@@ -424,7 +413,6 @@ pub extern "C" fn chowderkite_decode_in_order(
         edges,
         priors,
         check_var,
-        check_message,
         check_offset,
         var_check,
         var_message,
@@ -490,7 +478,6 @@ pub extern "C" fn chowderkite_iteration(
     edges: usize,
     priors: &[f64],
     check_var: &[u32],
-    check_message: &[u32],
     check_offset: &[u32],
     var_check: &[u32],
     var_message: &[u32],
@@ -506,7 +493,7 @@ pub extern "C" fn chowderkite_iteration(
     bias: &mut [f64],
 ) -> u64
     ensures { λ r. ⌜ (
-        let g = graph checks mechanisms (now («check_var» .entry)) (now («check_message» .entry)) (now («check_offset» .entry))
+        let g = graph checks mechanisms (now («check_var» .entry)) (now («check_offset» .entry))
         (now («var_check» .entry)) (now («var_message» .entry)) (now («var_offset» .entry)) in
         let before = stepLists (state (now («c_to_v» .entry)) (now («v_to_c» .entry)) (now (posterior .entry))) (now (bias .entry)) in
         let after = stepLists (state (now («c_to_v» .exit)) (now («v_to_c» .exit)) (now (posterior .exit))) (now (bias .exit)) in
@@ -521,7 +508,6 @@ pub extern "C" fn chowderkite_iteration(
         edges,
         priors,
         check_var,
-        check_message,
         check_offset,
         var_check,
         var_message,

@@ -56,7 +56,6 @@ pub fn decode_in_order(
     edges: usize,
     priors: &[f64],
     check_var: &[u32],
-    check_message: &[u32],
     check_offset: &[u32],
     var_check: &[u32],
     var_message: &[u32],
@@ -90,7 +89,7 @@ pub fn decode_in_order(
     weight: &mut [f64; 1],
 ) -> u64
     ensures { λ r. ⌜ (
-        let g = graph checks mechanisms (now («check_var» .entry)) (now («check_message» .entry)) (now («check_offset» .entry))
+        let g = graph checks mechanisms (now («check_var» .entry)) (now («check_offset» .entry))
         (now («var_check» .entry)) (now («var_message» .entry)) (now («var_offset» .entry)) in
         let settings = settingsGiven schedule alpha gamma0 «pre_iterations» «num_legs» «leg_iterations» «gamma_low» «gamma_high»
         «stop_after_converged» explicit sets in
@@ -134,7 +133,6 @@ pub fn decode_in_order(
         size,
         priors,
         check_var,
-        check_message,
         check_offset,
         var_check,
         var_message,
@@ -165,7 +163,6 @@ pub fn decode(
     edges: usize,
     priors: &[f64],
     check_var: &[u32],
-    check_message: &[u32],
     check_offset: &[u32],
     var_check: &[u32],
     var_message: &[u32],
@@ -198,7 +195,7 @@ pub fn decode(
     weight: &mut [f64; 1],
 ) -> u64
     ensures { λ r. ⌜ (
-        let g = graph checks mechanisms (now («check_var» .entry)) (now («check_message» .entry)) (now («check_offset» .entry))
+        let g = graph checks mechanisms (now («check_var» .entry)) (now («check_offset» .entry))
         (now («var_check» .entry)) (now («var_message» .entry)) (now («var_offset» .entry)) in
         let settings = settingsGiven schedule alpha gamma0 «pre_iterations» «num_legs» «leg_iterations» «gamma_low» «gamma_high»
         «stop_after_converged» explicit sets in
@@ -242,7 +239,6 @@ pub fn decode(
         size,
         priors,
         check_var,
-        check_message,
         check_offset,
         var_check,
         var_message,

@@ -16,16 +16,15 @@ pub fn build_sparse(
     detector_offsets: &[u32],
     detectors: &[u32],
     check_var: &mut [u32],
-    check_message: &mut [u32],
     check_offset: &mut [u32],
     var_check: &mut [u32],
     var_message: &mut [u32],
     var_offset: &mut [u32],
 ) -> u64
     ensures { λ r. ⌜ (
-        let g = graph checks mechanisms (now («check_var» .entry)) (now («check_message» .entry)) (now («check_offset» .entry))
+        let g = graph checks mechanisms (now («check_var» .entry)) (now («check_offset» .entry))
         (now («var_check» .entry)) (now («var_message» .entry)) (now («var_offset» .entry)) in
-        let after = graph checks mechanisms (now («check_var» .exit)) (now («check_message» .exit)) (now («check_offset» .exit))
+        let after = graph checks mechanisms (now («check_var» .exit)) (now («check_offset» .exit))
         (now («var_check» .exit)) (now («var_message» .exit)) (now («var_offset» .exit)) in
         graphLeft r after
         ≡ graphLeftBy (buildSparse edges (now (priors .entry)) (now («detector_offsets» .entry)) (now (detectors .entry)) g)) ⌝ }
@@ -41,7 +40,6 @@ pub fn build_sparse(
         detector_offsets,
         detectors,
         check_var,
-        check_message,
         check_offset,
         var_check,
         var_message,
@@ -56,16 +54,15 @@ pub fn build_dense(
     priors: &[f64],
     matrix: &[u8],
     check_var: &mut [u32],
-    check_message: &mut [u32],
     check_offset: &mut [u32],
     var_check: &mut [u32],
     var_message: &mut [u32],
     var_offset: &mut [u32],
 ) -> u64
     ensures { λ r. ⌜ (
-        let g = graph checks mechanisms (now («check_var» .entry)) (now («check_message» .entry)) (now («check_offset» .entry))
+        let g = graph checks mechanisms (now («check_var» .entry)) (now («check_offset» .entry))
         (now («var_check» .entry)) (now («var_message» .entry)) (now («var_offset» .entry)) in
-        let after = graph checks mechanisms (now («check_var» .exit)) (now («check_message» .exit)) (now («check_offset» .exit))
+        let after = graph checks mechanisms (now («check_var» .exit)) (now («check_offset» .exit))
         (now («var_check» .exit)) (now («var_message» .exit)) (now («var_offset» .exit)) in
         graphLeft r after ≡ graphLeftBy (buildDense (now (priors .entry)) (now (matrix .entry)) g)) ⌝ }
 {
@@ -75,7 +72,6 @@ pub fn build_dense(
         priors,
         matrix,
         check_var,
-        check_message,
         check_offset,
         var_check,
         var_message,
@@ -90,14 +86,13 @@ pub fn check_graph(
     edges: usize,
     priors: &[f64],
     check_var: &[u32],
-    check_message: &[u32],
     check_offset: &[u32],
     var_check: &[u32],
     var_message: &[u32],
     var_offset: &[u32],
 ) -> u64
     ensures { λ r. ⌜ (
-        let g = graph checks mechanisms (now («check_var» .entry)) (now («check_message» .entry)) (now («check_offset» .entry))
+        let g = graph checks mechanisms (now («check_var» .entry)) (now («check_offset» .entry))
         (now («var_check» .entry)) (now («var_message» .entry)) (now («var_offset» .entry)) in
         r ≡ codeOf (graphFault edges (now (priors .entry)) g)) ⌝ }
 {
@@ -110,7 +105,6 @@ pub fn check_graph(
         size,
         priors,
         check_var,
-        check_message,
         check_offset,
         var_check,
         var_message,

@@ -16,7 +16,6 @@ pub fn iteration(
     edges: usize,
     priors: &[f64],
     check_var: &[u32],
-    check_message: &[u32],
     check_offset: &[u32],
     var_check: &[u32],
     var_message: &[u32],
@@ -32,7 +31,7 @@ pub fn iteration(
     bias: &mut [f64],
 ) -> u64
     ensures { λ r. ⌜ (
-        let g = graph checks mechanisms (now («check_var» .entry)) (now («check_message» .entry)) (now («check_offset» .entry))
+        let g = graph checks mechanisms (now («check_var» .entry)) (now («check_offset» .entry))
         (now («var_check» .entry)) (now («var_message» .entry)) (now («var_offset» .entry)) in
         let before = stepLists (state (now («c_to_v» .entry)) (now («v_to_c» .entry)) (now (posterior .entry))) (now (bias .entry)) in
         let after = stepLists (state (now («c_to_v» .exit)) (now («v_to_c» .exit)) (now (posterior .exit))) (now (bias .exit)) in
@@ -50,7 +49,6 @@ pub fn iteration(
         size,
         priors,
         check_var,
-        check_message,
         check_offset,
         var_check,
         var_message,

@@ -22,7 +22,7 @@ use Rattle.relay_calls.specs.declared.Decoded.the-variants as Decoded
 
 -- the version of the exported calls: raised whenever a call, a list or a code changes its meaning
 abbrev pub version : ℕ
-version = 1
+version = 2
 
 -- ---- answers
 

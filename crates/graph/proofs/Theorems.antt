@@ -77,7 +77,7 @@ dense-good priors matrix g h =
 -- ---- sparse and dense
 
 -- Sparse and dense building give the same lists on the same incidences: where a sparse and a dense model are both accepted, and for each check and
--- mechanism within the counts the one names the pair exactly where the other marks it, the six lists are the same, whatever the priors.
+-- mechanism within the counts the one names the pair exactly where the other marks it, the five lists are the same, whatever the priors.
 pub sparse-is-dense : (edges : ℕ) (priors priors′ : List Float) (off dets matrix : List ℕ) (g : Graph) → buildSparse edges priors off dets g .answer ≡ Done → buildDense priors′ matrix g .answer ≡ Done
     → ((c m : ℕ) → c < g .checks → m < g .mechanisms → among off dets c m ≡ marked (g .mechanisms) matrix c m)
     → buildSparse edges priors off dets g .lists ≡ buildDense priors′ matrix g .lists
@@ -191,7 +191,7 @@ coincide x y z p q = p ∙ sym q
 outcomes : (a b : Answer) (g h : Graph) → buildOutcome a g ≡ buildOutcome b h → (a ≡ b) × (g ≡ h)
 outcomes a b g h e = (ap (λ (o : BuildOutcome). o .answer) e, ap (λ (o : BuildOutcome). o .lists) e)
 
--- Two results that the contract of `build_sparse` allows coincide, the answer and the six lists.
+-- Two results that the contract of `build_sparse` allows coincide, the answer and the five lists.
 pub sparse-once : (edges : ℕ) (priors : List Float) (off dets : List ℕ) (old : Graph) (a b : Answer) (g h : Graph) → buildOutcome a g ≡ buildSparse edges priors off dets old
     → buildOutcome b h ≡ buildSparse edges priors off dets old → (a ≡ b) × (g ≡ h)
 sparse-once edges priors off dets old a b g h p q = outcomes a b g h (coincide _ _ _ p q)

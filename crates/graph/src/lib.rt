@@ -1,4 +1,4 @@
-// The Tanner graph of a model, for users: its sizes, its six lists from a sparse or a dense model, and the test of lists that a caller
+// The Tanner graph of a model, for users: its sizes, its five lists from a sparse or a dense model, and the test of lists that a caller
 // lends. Every call takes every input; a refusal writes nothing.
 ghost use mathlib.Core.Path.{_≡_};
 ghost use Rattle.graph_lists.specs.Graph.{graph};
@@ -27,16 +27,15 @@ pub fn build_sparse(
     detector_offsets: &[u32],
     detectors: &[u32],
     check_var: &mut [u32],
-    check_message: &mut [u32],
     check_offset: &mut [u32],
     var_check: &mut [u32],
     var_message: &mut [u32],
     var_offset: &mut [u32],
 ) -> Answer
     ensures { λ r.
-        let g = graph (size .checks) (size .mechanisms) (now («check_var» .entry)) (now («check_message» .entry))
+        let g = graph (size .checks) (size .mechanisms) (now («check_var» .entry))
         (now («check_offset» .entry)) (now («var_check» .entry)) (now («var_message» .entry)) (now («var_offset» .entry)) in
-        let built = graph (size .checks) (size .mechanisms) (now («check_var» .exit)) (now («check_message» .exit))
+        let built = graph (size .checks) (size .mechanisms) (now («check_var» .exit))
         (now («check_offset» .exit)) (now («var_check» .exit)) (now («var_message» .exit)) (now («var_offset» .exit)) in
         ⌜ buildOutcome r built
         ≡ buildSparse (size .edges) (now (priors .entry)) (now («detector_offsets» .entry)) (now (detectors .entry)) g ⌝ }
@@ -44,7 +43,6 @@ pub fn build_sparse(
     let fit = lists_fit(
         size,
         check_var.len(),
-        check_message.len(),
         check_offset.len(),
         var_check.len(),
         var_message.len(),
@@ -60,7 +58,6 @@ pub fn build_sparse(
         detector_offsets,
         detectors,
         check_var,
-        check_message,
         check_offset,
         var_check,
         var_message,
@@ -91,16 +88,15 @@ pub fn build_dense(
     priors: &[f64],
     matrix: &[u8],
     check_var: &mut [u32],
-    check_message: &mut [u32],
     check_offset: &mut [u32],
     var_check: &mut [u32],
     var_message: &mut [u32],
     var_offset: &mut [u32],
 ) -> Answer
     ensures { λ r.
-        let g = graph checks mechanisms (now («check_var» .entry)) (now («check_message» .entry)) (now («check_offset» .entry))
+        let g = graph checks mechanisms (now («check_var» .entry)) (now («check_offset» .entry))
         (now («var_check» .entry)) (now («var_message» .entry)) (now («var_offset» .entry)) in
-        let built = graph checks mechanisms (now («check_var» .exit)) (now («check_message» .exit)) (now («check_offset» .exit))
+        let built = graph checks mechanisms (now («check_var» .exit)) (now («check_offset» .exit))
         (now («var_check» .exit)) (now («var_message» .exit)) (now («var_offset» .exit)) in
         ⌜ buildOutcome r built ≡ buildDense (now (priors .entry)) (now (matrix .entry)) g ⌝ }
 {
@@ -112,7 +108,6 @@ pub fn build_dense(
     let fit = lists_fit(
         size,
         check_var.len(),
-        check_message.len(),
         check_offset.len(),
         var_check.len(),
         var_message.len(),
@@ -127,7 +122,6 @@ pub fn build_dense(
         mechanisms,
         matrix,
         check_var,
-        check_message,
         check_offset,
         var_check,
         var_message,
@@ -141,14 +135,13 @@ pub fn check_graph(
     size: Size,
     priors: &[f64],
     check_var: &[u32],
-    check_message: &[u32],
     check_offset: &[u32],
     var_check: &[u32],
     var_message: &[u32],
     var_offset: &[u32],
 ) -> Answer
     ensures { λ r.
-        let g = graph (size .checks) (size .mechanisms) (now («check_var» .entry)) (now («check_message» .entry))
+        let g = graph (size .checks) (size .mechanisms) (now («check_var» .entry))
         (now («check_offset» .entry)) (now («var_check» .entry)) (now («var_message» .entry)) (now («var_offset» .entry)) in
         ⌜ r ≡ graphFault (size .edges) (now (priors .entry)) g ⌝ }
 {
@@ -158,7 +151,6 @@ pub fn check_graph(
     let fit = lists_fit(
         size,
         check_var.len(),
-        check_message.len(),
         check_offset.len(),
         var_check.len(),
         var_message.len(),
@@ -176,7 +168,6 @@ pub fn check_graph(
         size.mechanisms,
         size.edges,
         check_var,
-        check_message,
         check_offset,
         var_check,
         var_message,

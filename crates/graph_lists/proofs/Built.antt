@@ -8,11 +8,10 @@ use native.Mathlib.Omega.{arith}
 use lib.ListN.{length, getD, length-map}
 use Rattle.numbers.proofs.Cases.{either}
 use Rattle.numbers.proofs.Loops.{is-table, length-table, getD-table}
-use Rattle.numbers.specs.Loops.{upto}
 use Rattle.graph_lists.specs.Graph.{graph, mechanismsOf, flipped, checksOf, entries, graphOf, among}
 use Rattle.graph_lists.specs.Lists.{passing, joined, start, offsets, places}
 use Rattle.graph_lists.specs.Sound.{Offsets, Keys}
-use Rattle.graph_lists.specs.Steps.{rowOf, Bucketed, Finished, Distinct, Valid}
+use Rattle.graph_lists.specs.Steps.{rowOf, Bucketed, Distinct, Valid}
 use Rattle.graph_lists.proofs.Passing.{passing-at, passing-counts, passed, passing-same, start-zero, start-suc, length-joined, start-rises, joined-at, lies}
 use Rattle.graph_lists.proofs.Rows.{among-yes, among-place, rows-of, map-joined}
 use Rattle.graph_lists.proofs.Slots.{length-bucket}
@@ -146,22 +145,14 @@ module _ (checks mechanisms : ℕ) (inc : ℕ → ℕ → Bool) where
   graph-var-offsets = offsets-same mechanisms _ _ (λ m l. sym (length-map (places (entries checks mechanisms inc) m) _) ∙ ap length (vars-of m l))
 
   -- from the check lists the second pass makes the rest, whatever wrote them
-  second-pass : (checkOffset checkVar checkMessage next rowAt placeAt : List ℕ) → checkVar ≡ entries checks mechanisms inc → checkOffset ≡ offsets checks (mechanismsOf mechanisms inc)
-      → checkMessage ≡ upto (length (entries checks mechanisms inc)) → Bucketed checkOffset checks mechanisms checkVar next rowAt placeAt
-      → graph checks mechanisms checkVar checkMessage checkOffset rowAt placeAt next ≡ graphOf checks mechanisms inc
+  pub second-pass : (checkOffset checkVar next rowAt placeAt : List ℕ) → checkVar ≡ entries checks mechanisms inc → checkOffset ≡ offsets checks (mechanismsOf mechanisms inc)
+      → Bucketed checkOffset checks mechanisms checkVar next rowAt placeAt → graph checks mechanisms checkVar checkOffset rowAt placeAt next ≡ graphOf checks mechanisms inc
   unfolding graphOf
-  second-pass checkOffset checkVar checkMessage next rowAt placeAt em eo eg b =
+  second-pass checkOffset checkVar next rowAt placeAt em eo b =
       let vc : rowAt ≡ joined mechanisms (checksOf checks inc) = b .owners ∙ rw (em, eo) graph-vars in
       let vm : placeAt ≡ joined mechanisms (places (entries checks mechanisms inc)) = b .lists ∙ rw em in
       let vo : next ≡ offsets mechanisms (checksOf checks inc) = b .starts ∙ rw em graph-var-offsets in
-      rw (em, eo, eg, vc, vm, vo)
-
-  -- the same, with the numbers
-  pub finished : (checkVar checkMessage checkOffset varCheck varMessage varOffset : List ℕ) → checkVar ≡ entries checks mechanisms inc → checkOffset ≡ offsets checks (mechanismsOf mechanisms inc)
-      → Finished checks mechanisms checkVar checkMessage checkOffset varCheck varMessage varOffset → graph checks mechanisms checkVar checkMessage checkOffset
-      varCheck varMessage varOffset ≡ graphOf checks mechanisms inc
-  finished checkVar checkMessage checkOffset varCheck varMessage varOffset em eo f =
-      second-pass checkOffset checkVar checkMessage varOffset varCheck varMessage em eo (f .numbers ∙ ap (λ (x : List ℕ). upto (length x)) em) (f .pass)
+      rw (em, eo, vc, vm, vo)
 
   -- what the second pass asks of the first
   pub second-valid : (checkOffset checkVar : List ℕ) → checkVar ≡ entries checks mechanisms inc → checkOffset ≡ offsets checks (mechanismsOf mechanisms inc)

@@ -8,8 +8,8 @@ use native.Mathlib.Omega.{arith}
 use lib.ListN.{length, getD, length-map}
 use lib.Seq.{ext-getD}
 use Rattle.numbers.proofs.Cases.{less-or-not}
-use Rattle.numbers.proofs.Loops.{is-table, map-at, length-table, getD-table, length-part, getD-part}
-use Rattle.numbers.specs.Loops.{upto, row}
+use Rattle.numbers.proofs.Loops.{map-at, length-part, getD-part}
+use Rattle.numbers.specs.Loops.{row}
 use Rattle.graph_lists.specs.Graph.{Graph, mechanismsOf, flipped, checksOf, entries, graphOf, ownIncidence}
 use Rattle.graph_lists.specs.Lists.{has, joined, start, offsets, stands, places}
 use Rattle.graph_lists.specs.Sound.{Offsets, Long, Keys, Rising}
@@ -36,7 +36,6 @@ module _ (rows n : ℕ) (off xs : List ℕ) (o : Offsets rows n off) (many : len
 pub record Passes (edges : ℕ) (g : Graph) : Type 0 where
   pub check-cut : Offsets (g .checks) edges (g .checkOffset)
   pub check-rises : (c : ℕ) → c < (g .checks) → Rising (g .mechanisms) (row (g .checkOffset) c (g .checkVar))
-  pub numbers : (i : ℕ) → i < edges → getD (g .checkMessage) i 0 ≡ i
   pub var-cut : Offsets (g .mechanisms) edges (g .varOffset)
   pub var-rises : (v : ℕ) → v < (g .mechanisms) → Rising (g .checks) (row (g .varOffset) v (g .varCheck))
   pub var-meets : (v i : ℕ) → v < (g .mechanisms) → i < length (row (g .varOffset) v (g .varCheck))
@@ -174,14 +173,8 @@ module _ (edges : ℕ) (g : Graph) (f : Long edges g) (t : Passes edges g) where
   -- so the lists are the graph of what they tell
   pub passes-graph : g ≡ graphOf (g .checks) (g .mechanisms) (ownIncidence g)
   unfolding graphOf
-  passes-graph = graph-same _ _ _ _ _ _ _ _ _ _ _ _ _ _ check-var-is msg check-offset-is vc vm vo
+  passes-graph = graph-same _ _ _ _ _ _ _ _ _ _ _ _ check-var-is check-offset-is vc vm vo
     where
-      msg : g .checkMessage ≡ upto (length (entries (g .checks) (g .mechanisms) (ownIncidence g)))
-      msg = is-table _ (λ (k : ℕ). k) (g .checkMessage) (f .check-message ∙ many) (λ k l. t .numbers k (omega (arith, many)))
-        where
-          many : edges ≡ length (entries (g .checks) (g .mechanisms) (ownIncidence g))
-          many = sym (f .check-var) ∙ ap length check-var-is
-
       vc : g .varCheck ≡ joined (g .mechanisms) (checksOf (g .checks) (ownIncidence g))
       vc =
           checks-are
@@ -239,7 +232,6 @@ module _ (checks mechanisms : ℕ) (inc : ℕ → ℕ → Bool) where
   graph-long =
       record {
         check-var = refl;
-        check-message = length-table _ (λ (k : ℕ). k);
         check-offset = length-offsets checks _;
         var-check = sym graph-length;
         var-message = length-bucket mechanisms (entries checks mechanisms inc) (graph-keys checks mechanisms inc);
@@ -290,7 +282,6 @@ module _ (checks mechanisms : ℕ) (inc : ℕ → ℕ → Bool) where
       record {
         check-cut = graph-offsets checks mechanisms inc;
         check-rises = parts-rise checks mechanisms inc;
-        numbers = λ i l. getD-table _ (λ (k : ℕ). k) i 0 l;
         var-cut = graph-var-cut checks mechanisms inc;
         var-rises = var-parts-rise;
         var-meets = var-parts-meet;

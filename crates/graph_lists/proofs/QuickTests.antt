@@ -12,7 +12,7 @@ use Rattle.numbers.proofs.Loops.{every-at, every-true}
 use Rattle.numbers.specs.Loops.{row}
 use Rattle.graph_lists.specs.Graph.{Graph, entries, graphOf, ownIncidence}
 use Rattle.graph_lists.specs.Model.{rising, offsetsGood, isGraph}
-use Rattle.graph_lists.specs.QuickTest.{low, stepGood, risesBelow, ownNumber, metGood, entryGood, entriesGood, checkGood, varGood, graphTest}
+use Rattle.graph_lists.specs.QuickTest.{low, stepGood, risesBelow, metGood, entryGood, entriesGood, checkGood, varGood, graphTest}
 use Rattle.graph_lists.specs.Sound.{Offsets, Long, Rising}
 use Rattle.graph_lists.proofs.Cuts.{Met}
 use Rattle.graph_lists.proofs.ModelTests.{offsets-told}
@@ -82,30 +82,23 @@ var-told g v h =
 
 -- lists that pass the quick test have what it asks
 test-told : (edges : ℕ) (g : Graph) → Long edges g → graphTest edges g ≡ true → Passes edges g
-unfolding graphTest checkGood ownNumber
+unfolding graphTest checkGood
 test-told edges g f h =
     let a = and-both _ _ h in
     let b = and-both _ _ (a .1) in
     let c = and-both _ _ (b .1) in
-    let d = and-both _ _ (c .1) in
     record {
       check-cut = offsets-told (g .checks) edges (g .checkOffset) (f .check-offset) (a .0);
       check-rises = λ k l. rises-told (g .mechanisms) _ (every-at (g .checks) (checkGood (g .mechanisms) (g .checkOffset) (g .checkVar)) (b .0) k l);
-      numbers = λ i l. eqb-true _ _ (every-at edges (ownNumber (g .checkMessage)) (c .0) i l);
-      var-cut = offsets-told (g .mechanisms) edges (g .varOffset) (f .var-offset) (d .0);
-      var-rises = λ v l. var-told g v (every-at (g .mechanisms) (varGood g) (d .1) v l) .0;
-      var-meets = λ v i l m. var-told g v (every-at (g .mechanisms) (varGood g) (d .1) v l) .1 i m;
+      var-cut = offsets-told (g .mechanisms) edges (g .varOffset) (f .var-offset) (c .0);
+      var-rises = λ v l. var-told g v (every-at (g .mechanisms) (varGood g) (c .1) v l) .0;
+      var-meets = λ v i l m. var-told g v (every-at (g .mechanisms) (varGood g) (c .1) v l) .1 i m;
     }
 
 -- a check's entries that rise pass
 check-good : (g : Graph) (c : ℕ) → Rising (g .mechanisms) (row (g .checkOffset) c (g .checkVar)) → checkGood (g .mechanisms) (g .checkOffset) (g .checkVar) c ≡ true
 unfolding checkGood
 check-good g c r = rises-test (g .mechanisms) _ r
-
--- a number at its own place passes
-number-good : (xs : List ℕ) (i : ℕ) → getD xs i 0 ≡ i → ownNumber xs i ≡ true
-unfolding ownNumber
-number-good xs i e = eq-eqb _ _ e
 
 -- an entry in its check passes
 entry-good : (co cv : List ℕ) (v : ℕ) (cs ms : List ℕ) (i : ℕ) → Met co cv v (getD cs i 0) (getD ms i 0) → entryGood co cv v cs ms i ≡ true
@@ -142,16 +135,12 @@ test-true edges g t =
     rw (
       offsets-test (g .checks) edges (g .checkOffset) (t .check-cut),
       every-true (g .checks) (checkGood (g .mechanisms) (g .checkOffset) (g .checkVar)) (λ c l. check-true c l),
-      every-true edges (ownNumber (g .checkMessage)) (λ i l. number-true i l),
       offsets-test (g .mechanisms) edges (g .varOffset) (t .var-cut),
       every-true (g .mechanisms) (varGood g) (λ v l. var-true v l),
     )
   where
     check-true : (c : ℕ) → c < (g .checks) → checkGood (g .mechanisms) (g .checkOffset) (g .checkVar) c ≡ true
     check-true c l = check-good g c (t .check-rises c l)
-
-    number-true : (i : ℕ) → i < edges → ownNumber (g .checkMessage) i ≡ true
-    number-true i l = number-good (g .checkMessage) i (t .numbers i l)
 
     var-true : (v : ℕ) → v < (g .mechanisms) → varGood g v ≡ true
     var-true v l = var-good g v (t .var-rises v l) (λ i m. t .var-meets v i l m)

@@ -12,7 +12,7 @@ use Rattle.numbers.proofs.Loops.{length-part}
 use Rattle.numbers.specs.Loops.{every}
 use Rattle.graph_lists.specs.Graph.{Graph}
 use Rattle.graph_lists.specs.Model.{offsetsGood, isGraph}
-use Rattle.graph_lists.specs.QuickTest.{low, stepGood, risesBelow, ownNumber, metGood, entryGood, entriesGood, checkGood, varGood, graphTest}
+use Rattle.graph_lists.specs.QuickTest.{low, stepGood, risesBelow, metGood, entryGood, entriesGood, checkGood, varGood, graphTest}
 use Rattle.graph_lists.specs.Sound.{Offsets, Long}
 use Rattle.graph_lists.proofs.Cuts.{row-end}
 use Rattle.graph_lists.proofs.QuickTests.{test-is}
@@ -91,11 +91,6 @@ pub var-is : (g : Graph) (v a e : ℕ) (r : Bool) → a ≡ getD (g .varOffset) 
 unfolding varGood
 var-is g v a e r p q h = let w : e ≡ getD (g .varOffset) (suc v) 0 = rw add-one at q in rw (← p, ← w) h
 
--- a number at its place
-pub number-is : (xs : List ℕ) (i x : ℕ) (r : Bool) → x ≡ getD xs i 0 → r ≡ eqb x i → r ≡ ownNumber xs i
-unfolding ownNumber
-number-is xs i x r p h = rw (← p) h
-
 -- the tests of the whole, one after the other
 module _ (edges : ℕ) (g : Graph) (f : Long edges g) where
   -- the check offsets fail
@@ -108,31 +103,19 @@ module _ (edges : ℕ) (g : Graph) (f : Long edges g) where
   unfolding graphTest
   whole-2 a b = rw (a, b) at (test-is edges g f)
 
-  -- a number fails
-  pub whole-3 : offsetsGood (g .checks) edges (g .checkOffset) ≡ true → every
-      (g .checks) (checkGood (g .mechanisms) (g .checkOffset) (g .checkVar)) ≡ true → every edges (ownNumber (g .checkMessage)) ≡ false
-      → false ≡ isGraph g
+  -- the variable offsets fail
+  pub whole-3 : offsetsGood (g .checks) edges (g .checkOffset) ≡ true → every (g .checks) (checkGood (g .mechanisms) (g .checkOffset) (g .checkVar)) ≡ true
+      → offsetsGood (g .mechanisms) edges (g .varOffset) ≡ false → false ≡ isGraph g
   unfolding graphTest
   whole-3 a b c = rw (a, b, c) at (test-is edges g f)
 
-  -- the variable offsets fail
-  pub whole-4 : offsetsGood (g .checks) edges (g .checkOffset) ≡ true → every
-      (g .checks) (checkGood (g .mechanisms) (g .checkOffset) (g .checkVar)) ≡ true → every edges (ownNumber (g .checkMessage)) ≡ true
-      → offsetsGood (g .mechanisms) edges (g .varOffset) ≡ false → false ≡ isGraph g
-  unfolding graphTest
-  whole-4 a b c d = rw (a, b, c, d) at (test-is edges g f)
-
   -- the variables decide
-  pub whole-5 : (r : Bool) → offsetsGood (g .checks) edges (g .checkOffset) ≡ true → every
-      (g .checks) (checkGood (g .mechanisms) (g .checkOffset) (g .checkVar)) ≡ true → every edges (ownNumber (g .checkMessage)) ≡ true
+  pub whole-4 : (r : Bool) → offsetsGood (g .checks) edges (g .checkOffset) ≡ true → every
+      (g .checks) (checkGood (g .mechanisms) (g .checkOffset) (g .checkVar)) ≡ true
       → offsetsGood (g .mechanisms) edges (g .varOffset) ≡ true → r ≡ every (g .mechanisms) (varGood g) → r ≡ isGraph g
   unfolding graphTest
-  whole-5 r a b c d e = e ∙ rw (a, b, c, d) at (test-is edges g f)
+  whole-4 r a b c d = d ∙ rw (a, b, c) at (test-is edges g f)
 
 -- parts of lists of one length are of one length
 pub parts-long : (a e : ℕ) (xs ys : List ℕ) → e ≤ length xs → length ys ≡ length xs → length (take (e - a) (drop a ys)) ≡ length (take (e - a) (drop a xs))
 parts-long a e xs ys h k = length-part a e ys (omega arith) ∙ sym (length-part a e xs h)
-
--- there are as many numbers as edges
-pub own-edges : (edges : ℕ) (g : Graph) (b : Bool) → Long edges g → every (length (g .checkMessage)) (ownNumber (g .checkMessage)) ≡ b → every edges (ownNumber (g .checkMessage)) ≡ b
-own-edges edges g b f h = rw (f .check-message) at h

@@ -7,7 +7,6 @@ use Prim.Native.Nat.{ℕ, _<_}
 use lib.ListN.{length}
 use borrow.Author.Tests.{eq-eqb, eqb-true}
 use Rattle.numbers.proofs.Cases.{and-both}
-use Rattle.numbers.specs.Loops.{upto}
 use Rattle.graph_lists.specs.Graph.{Graph, graph, mechanismsOf, flipped, checksOf, entries, graphOf, among, ownIncidence}
 use Rattle.graph_lists.specs.Lists.{joined, offsets, places, sameList}
 use Rattle.graph_lists.specs.Model.{sameGraph, isGraph}
@@ -16,8 +15,8 @@ use Rattle.graph_lists.proofs.Passing.{passing-same}
 use Rattle.graph_lists.proofs.Rows.{joined-same}
 
 -- graphs of the same counts with the same lists
-pub graph-same : (k n : ℕ) (a b c d e f a′ b′ c′ d′ e′ f′ : List ℕ) → a ≡ a′ → b ≡ b′ → c ≡ c′ → d ≡ d′ → e ≡ e′ → f ≡ f′ → graph k n a b c d e f ≡ graph k n a′ b′ c′ d′ e′ f′
-graph-same k n a b c d e f a′ b′ c′ d′ e′ f′ p q r s t u = rw (p, q, r, s, t, u)
+pub graph-same : (k n : ℕ) (a b c d e a′ b′ c′ d′ e′ : List ℕ) → a ≡ a′ → b ≡ b′ → c ≡ c′ → d ≡ d′ → e ≡ e′ → graph k n a b c d e ≡ graph k n a′ b′ c′ d′ e′
+graph-same k n a b c d e a′ b′ c′ d′ e′ p q r s t = rw (p, q, r, s, t)
 
 -- incidences that agree give a check the same mechanisms
 mechanisms-same : (checks mechanisms : ℕ) (i j : ℕ → ℕ → Bool) → ((c m : ℕ) → c < checks → m < mechanisms → i c m ≡ j c m) →
@@ -41,7 +40,7 @@ entries-same checks mechanisms i j e = joined-same checks _ _ e
 -- the same graph
 pub graph-agrees : (checks mechanisms : ℕ) (i j : ℕ → ℕ → Bool) → ((c m : ℕ) → c < checks → m < mechanisms → i c m ≡ j c m) → graphOf checks mechanisms i ≡ graphOf checks mechanisms j
 unfolding graphOf
-graph-agrees checks mechanisms i j e = graph-same _ _ _ _ _ _ _ _ _ _ _ _ _ _ cv (ap (λ (x : List ℕ). upto (length x)) cv) co vc (ap (λ (x : List ℕ). joined mechanisms (places x)) cv) vo
+graph-agrees checks mechanisms i j e = graph-same _ _ _ _ _ _ _ _ _ _ _ _ cv co vc (ap (λ (x : List ℕ). joined mechanisms (places x)) cv) vo
   where
     cs : (c : ℕ) → c < checks → mechanismsOf mechanisms i c ≡ mechanismsOf mechanisms j c
     cs c h = mechanisms-same checks mechanisms i j e c h
@@ -64,13 +63,13 @@ graph-agrees checks mechanisms i j e = graph-same _ _ _ _ _ _ _ _ _ _ _ _ _ _ cv
 -- ---- equality of lists, as a test
 
 -- a list is the same as itself
-same-refl : (xs : List ℕ) → sameList xs xs ≡ true
+pub same-refl : (xs : List ℕ) → sameList xs xs ≡ true
 unfolding sameList
 same-refl [] = refl
 same-refl (x ∷ xs) = rw (eq-eqb x x refl, same-refl xs)
 
 -- lists that pass as the same are equal
-same-true : (xs ys : List ℕ) → sameList xs ys ≡ true → xs ≡ ys
+pub same-true : (xs ys : List ℕ) → sameList xs ys ≡ true → xs ≡ ys
 unfolding sameList
 same-true [] [] h = refl
 same-true [] (y ∷ ys) h = absurd (false≢true h)
@@ -80,7 +79,7 @@ same-true (x ∷ xs) (y ∷ ys) h = let w = and-both _ _ h in rw (eqb-true x y (
 -- a graph is the same as itself
 graph-refl : (g : Graph) → sameGraph g g ≡ true
 unfolding sameGraph
-graph-refl g = rw (same-refl (g .checkVar), same-refl (g .checkMessage), same-refl (g .checkOffset), same-refl (g .varCheck), same-refl (g .varMessage), same-refl (g .varOffset))
+graph-refl g = rw (same-refl (g .checkVar), same-refl (g .checkOffset), same-refl (g .varCheck), same-refl (g .varMessage), same-refl (g .varOffset))
 
 -- lists that pass as those of a graph are equal to them
 graph-true : (g : Graph) (inc : ℕ → ℕ → Bool) → sameGraph g (graphOf (g .checks) (g .mechanisms) inc) ≡ true → g ≡ graphOf (g .checks) (g .mechanisms) inc
@@ -90,8 +89,7 @@ graph-true g inc e =
     let b = and-both _ _ (a .1) in
     let c = and-both _ _ (b .1) in
     let d = and-both _ _ (c .1) in
-    let f = and-both _ _ (d .1) in
-    graph-same _ _ _ _ _ _ _ _ _ _ _ _ _ _ (same-true _ _ (a .0)) (same-true _ _ (b .0)) (same-true _ _ (c .0)) (same-true _ _ (d .0)) (same-true _ _ (f .0)) (same-true _ _ (f .1))
+    graph-same _ _ _ _ _ _ _ _ _ _ _ _ (same-true _ _ (a .0)) (same-true _ _ (b .0)) (same-true _ _ (c .0)) (same-true _ _ (d .0)) (same-true _ _ (d .1))
 
 -- ---- 7 says that some incidences give these lists
 
@@ -101,7 +99,7 @@ unfolding isGraph
 is-graph-told g h = graph-true g _ h
 
 -- a graph tells its incidences
-tells : (checks mechanisms : ℕ) (inc : ℕ → ℕ → Bool) (c m : ℕ) → c < checks → m < mechanisms → ownIncidence (graphOf checks mechanisms inc) c m ≡ inc c m
+pub tells : (checks mechanisms : ℕ) (inc : ℕ → ℕ → Bool) (c m : ℕ) → c < checks → m < mechanisms → ownIncidence (graphOf checks mechanisms inc) c m ≡ inc c m
 unfolding ownIncidence among graphOf
 tells checks mechanisms inc c m h l = graph-among checks mechanisms inc c m h l
 

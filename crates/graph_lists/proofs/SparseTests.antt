@@ -90,7 +90,7 @@ module _ (checks mechanisms edges : ℕ) (priors : List Float) (off dets : List 
         valid = valid-told checks mechanisms priors off dets (offsets-told mechanisms (length dets) off (l .off-many) (unless-done _ BadDetectorOffsets (c .0))) (c .1);
       }
 
--- the six lengths, where they fit
+-- the five lengths, where they fit
 pub long-told : (edges : ℕ) (g : Graph) → graphFits edges g ≡ true → Long edges g
 unfolding graphFits
 long-told edges g h =
@@ -98,14 +98,12 @@ long-told edges g h =
     let b = and-both _ _ (a .1) in
     let c = and-both _ _ (b .1) in
     let d = and-both _ _ (c .1) in
-    let e = and-both _ _ (d .1) in
     record {
       check-var = eqb-true _ _ (a .0);
-      check-message = eqb-true _ _ (b .0);
-      check-offset = eqb-true _ _ (c .0);
-      var-check = eqb-true _ _ (d .0);
-      var-message = eqb-true _ _ (e .0);
-      var-offset = eqb-true _ _ (e .1);
+      check-offset = eqb-true _ _ (b .0);
+      var-check = eqb-true _ _ (c .0);
+      var-message = eqb-true _ _ (d .0);
+      var-offset = eqb-true _ _ (d .1);
     }
 
 -- and the other way
@@ -114,7 +112,6 @@ unfolding graphFits
 long-fits edges g f =
     rw (
       eq-eqb (length (g .checkVar)) edges (f .check-var),
-      eq-eqb (length (g .checkMessage)) edges (f .check-message),
       eq-eqb (length (g .checkOffset)) (suc (g .checks)) (f .check-offset),
       eq-eqb (length (g .varCheck)) edges (f .var-check),
       eq-eqb (length (g .varMessage)) edges (f .var-message),

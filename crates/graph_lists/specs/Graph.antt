@@ -1,30 +1,31 @@
--- The Tanner graph: `BpGraph` of min_sum.rs, each of its lists of pairs as two lists, and its priors beside it. Definitions only. Assumes nothing.
+-- The Tanner graph: `BpGraph` of min_sum.rs, with lists of numbers for its lists of pairs, and its priors beside it. A check's entry is its variable
+-- alone: the Rust's pair carries its message number besides, which is always the entry's own place (`graph_layouts` `Numbered` has that layout).
+-- Definitions only. Assumes nothing.
 use Prim.Native.Nat.{ℕ, _+_, _*_}
 use mathlib.Core.Bool.{Bool, not}
 use mathlib.Core.List.{List}
 use lib.Dec.{eqb}
-use lib.ListN.{length, getD}
-use Rattle.numbers.specs.Loops.{upto, row}
+use lib.ListN.{getD}
+use Rattle.numbers.specs.Loops.{row}
 use Rattle.graph_lists.specs.Lists.{has, passing, joined, offsets, places}
 
--- `num_checks` and `num_vars`; `check_data`, pairs of a variable and a message, with its offsets; `var_data`, pairs of a check and a message, with its
--- offsets. A variable is a mechanism.
+-- `num_checks` and `num_vars`; the variables of `check_data`, with its offsets; `var_data`, pairs of a check and a message, as two lists, with its offsets.
+-- A variable is a mechanism.
 pub record Graph : Type 0 where
   pub checks : ℕ
   pub mechanisms : ℕ
   pub checkVar : List ℕ
-  pub checkMessage : List ℕ
   pub checkOffset : List ℕ
   pub varCheck : List ℕ
   pub varMessage : List ℕ
   pub varOffset : List ℕ
 
 -- a graph of its parts
-abbrev pub graph : ℕ → ℕ → List ℕ → List ℕ → List ℕ → List ℕ → List ℕ → List ℕ → Graph
-graph checks mechanisms cv cm co vc vm vo =
-    record { checks = checks; mechanisms = mechanisms; checkVar = cv; checkMessage = cm; checkOffset = co; varCheck = vc; varMessage = vm; varOffset = vo }
+abbrev pub graph : ℕ → ℕ → List ℕ → List ℕ → List ℕ → List ℕ → List ℕ → Graph
+graph checks mechanisms cv co vc vm vo =
+    record { checks = checks; mechanisms = mechanisms; checkVar = cv; checkOffset = co; varCheck = vc; varMessage = vm; varOffset = vo }
 
--- `check_entries`: the variables of a check. A check entry's place is its message number, so the messages of a check are the same part of a list of messages.
+-- `check_entries`: the variables of a check. A check entry's place is its message number.
 abbrev pub checkEntries : Graph → ℕ → List ℕ
 checkEntries g c = row (g .checkOffset) c (g .checkVar)
 
@@ -58,7 +59,6 @@ graphOf checks mechanisms inc =
       checks = checks;
       mechanisms = mechanisms;
       checkVar = entries checks mechanisms inc;
-      checkMessage = upto (length (entries checks mechanisms inc));
       checkOffset = offsets checks (mechanismsOf mechanisms inc);
       varCheck = joined mechanisms (checksOf checks inc);
       varMessage = joined mechanisms (places (entries checks mechanisms inc));

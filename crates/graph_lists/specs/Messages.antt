@@ -1,13 +1,13 @@
--- What min-sum and Relay do alike with messages, one to an edge: how they start, what a check's first pass knows, the sum at a variable,
--- and refusal 30.
+-- What min-sum and Relay do alike with messages, one to an edge: how they start, how a check's are had, what its first pass knows, the sum at a
+-- variable, and refusal 30.
 -- Definitions only. Assumes nothing.
-use Prim.Native.Nat.{ℕ}
+use Prim.Native.Nat.{ℕ, suc}
 use mathlib.Core.Bool.{Bool, false, cond}
 use mathlib.Core.List.{List, map, foldl}
 use lib.Ieee.{Float, nan, inf, lt, neg}
 use lib.ListN.{length, getD, replicate}
 use Rattle.numbers.specs.Floats.{_+ᶠ_, zero⁺, zero⁻, one⁺, one⁻, abs, isFinite}
-use Rattle.numbers.specs.Loops.{turns}
+use Rattle.numbers.specs.Loops.{turns, row, spliced}
 use Rattle.refusals.specs.declared.Refusal.the-variants.{NonFinite}
 use Rattle.refusals.specs.declared.Answer.{Answer}
 use Rattle.refusals.specs.Tests.{unless, firstOf}
@@ -20,6 +20,23 @@ fromVariables g values = map (λ v. getD values v nan) (g .checkVar)
 -- `c_to_v.fill(0.0)`
 unfoldable pub cleared : Graph → List Float
 cleared g = replicate (length (g .checkVar)) zero⁺
+
+-- ---- how the messages of a check are had
+
+-- a check's messages, one for each of its entries, out of a list of all messages; and the list of all with others in their place
+pub record Access : Type 0 where
+  pub messagesOf : Graph → ℕ → List Float → List Float
+  pub withMessages : Graph → ℕ → List Float → List Float → List Float
+
+-- by place: an entry's place is its message number, so the messages of a check are the part of the list that its offsets cut out
+abbrev pub byPlace : Access
+byPlace =
+    record {
+      messagesOf = λ g c all. row (g .checkOffset) c all;
+      withMessages = λ g c all new. spliced all (getD (g .checkOffset) c 0) (getD (g .checkOffset) (suc c) 0) new;
+    }
+
+-- ---- a check
 
 -- what the first pass over a check's messages knows: the total sign, the least and the next magnitude, and who holds the least. Min-sum says
 -- who by its position in the check, Relay by its variable

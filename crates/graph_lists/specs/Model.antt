@@ -31,15 +31,15 @@ sizesGood checks mechanisms edges = countsGood checks mechanisms && edgesGood ed
 
 -- ---- 2: lengths
 
--- the six graph lists have these lengths
-abbrev pub graphLengths : ℕ → ℕ → ℕ → ℕ → ℕ → ℕ → ℕ → ℕ → ℕ → Bool
-graphLengths checks mechanisms edges cv cm co vc vm vo =
-    eqb cv edges && (eqb cm edges && (eqb co (suc checks) && (eqb vc edges && (eqb vm edges && eqb vo (suc mechanisms)))))
+-- the five graph lists have these lengths
+abbrev pub graphLengths : ℕ → ℕ → ℕ → ℕ → ℕ → ℕ → ℕ → ℕ → Bool
+graphLengths checks mechanisms edges cv co vc vm vo =
+    eqb cv edges && (eqb co (suc checks) && (eqb vc edges && (eqb vm edges && eqb vo (suc mechanisms))))
 
 -- those of g have the lengths of a graph with this many edges
 unfoldable pub graphFits : ℕ → Graph → Bool
 graphFits edges g =
-    graphLengths (g .checks) (g .mechanisms) edges (length (g .checkVar)) (length (g .checkMessage)) (length (g .checkOffset)) (length (g .varCheck)) (length (g .varMessage)) (length (g .varOffset))
+    graphLengths (g .checks) (g .mechanisms) edges (length (g .checkVar)) (length (g .checkOffset)) (length (g .varCheck)) (length (g .varMessage)) (length (g .varOffset))
 
 -- a sparse model's three lists have these lengths
 abbrev pub sparseFits : ℕ → ℕ → ℕ → ℕ → ℕ → Bool
@@ -84,13 +84,12 @@ mechanismFault checks priors off dets m = mechanismTest checks m (getD priors m 
 
 -- ---- 7: graph lists that no model builds
 
--- the six lists are the same
+-- the five lists are the same
 unfoldable pub sameGraph : Graph → Graph → Bool
 sameGraph g h =
     sameList (g .checkVar) (h .checkVar)
-    && (sameList (g .checkMessage) (h .checkMessage)
     && (sameList (g .checkOffset) (h .checkOffset)
-    && (sameList (g .varCheck) (h .varCheck) && (sameList (g .varMessage) (h .varMessage) && sameList (g .varOffset) (h .varOffset)))))
+    && (sameList (g .varCheck) (h .varCheck) && (sameList (g .varMessage) (h .varMessage) && sameList (g .varOffset) (h .varOffset))))
 
 -- the lists are those of the graph of the incidences that they themselves tell
 unfoldable pub isGraph : Graph → Bool
@@ -141,9 +140,14 @@ buildDense priors matrix g =
     let edges = countEdges matrix in
     built (denseFault (g .checks) (g .mechanisms) edges priors (length matrix) (graphFits edges g)) (marked (g .mechanisms) matrix) g
 
--- `check_graph`, the tests of lent graph lists and their priors: 1, 2, 4 and 7. Every call over a graph begins with them.
+-- the tests of lent graph lists and their priors, in whatever layout: 1, 2, 4 and 7. `fit` says whether the lists have their lengths, and `is` whether they
+-- are the graph of what they tell
+abbrev pub graphTests : ℕ → ℕ → ℕ → List Float → Bool → Bool → Answer
+graphTests checks mechanisms edges priors fit is =
+    orElse (unless (sizesGood checks mechanisms edges) SizeAboveLimit)
+    (orElse (unless (eqb (length priors) mechanisms && fit) ModelListLength)
+    (orElse (firstOf mechanisms (priorFault priors)) (unless is NoSuchGraph)))
+
+-- `check_graph`: these tests of the five lists. Every call over a graph begins with them.
 unfoldable pub graphFault : ℕ → List Float → Graph → Answer
-graphFault edges priors g =
-    orElse (unless (sizesGood (g .checks) (g .mechanisms) edges) SizeAboveLimit)
-    (orElse (unless (eqb (length priors) (g .mechanisms) && graphFits edges g) ModelListLength)
-    (orElse (firstOf (g .mechanisms) (priorFault priors)) (unless (isGraph g) NoSuchGraph)))
+graphFault edges priors g = graphTests (g .checks) (g .mechanisms) edges priors (graphFits edges g) (isGraph g)

@@ -22,10 +22,6 @@ stepGood n xs i = leb (low xs i) (getD xs i 0) && ltb (getD xs i 0) n
 unfoldable pub risesBelow : ℕ → List ℕ → Bool
 risesBelow n xs = every (length xs) (stepGood n xs)
 
--- i stands at i
-unfoldable pub ownNumber : List ℕ → ℕ → Bool
-ownNumber xs i = eqb (getD xs i 0) i
-
 -- v's message m lies in the part of the check c, and v stands there
 unfoldable pub metGood : List ℕ → List ℕ → ℕ → ℕ → ℕ → Bool
 metGood checkOffset checkVar v c m = leb (getD checkOffset c 0) m && (ltb m (getD checkOffset (suc c) 0) && eqb (getD checkVar m 0) v)
@@ -51,4 +47,4 @@ unfoldable pub graphTest : ℕ → Graph → Bool
 graphTest edges g =
     offsetsGood (g .checks) edges (g .checkOffset)
     && (every (g .checks) (checkGood (g .mechanisms) (g .checkOffset) (g .checkVar))
-    && (every edges (ownNumber (g .checkMessage)) && (offsetsGood (g .mechanisms) edges (g .varOffset) && every (g .mechanisms) (varGood g))))
+    && (offsetsGood (g .mechanisms) edges (g .varOffset) && every (g .mechanisms) (varGood g)))

@@ -14,10 +14,9 @@ pub record Offsets (rows n : ℕ) (off : List ℕ) : Type 0 where
   pub rises : (r : ℕ) → r < rows → getD off r 0 ≤ getD off (suc r) 0
   pub ends : getD off rows 0 ≡ n
 
--- the six lists have the lengths of a graph with this many edges
+-- the five lists have the lengths of a graph with this many edges
 pub record Long (edges : ℕ) (g : Graph) : Type 0 where
   pub check-var : length (g .checkVar) ≡ edges
-  pub check-message : length (g .checkMessage) ≡ edges
   pub check-offset : length (g .checkOffset) ≡ suc (g .checks)
   pub var-check : length (g .varCheck) ≡ edges
   pub var-message : length (g .varMessage) ≡ edges

@@ -1,57 +1,19 @@
-// The six lists of a sparse model that has passed its tests: the check lists by one bucket pass over the detectors, and the variable lists
+// The five lists of a sparse model that has passed its tests: the check lists by one bucket pass over the detectors, and the variable lists
 // by another over the check lists.
 ghost use mathlib.Core.Path.{_≡_};
 ghost use Prim.Native.Nat.{suc, _<_};
 ghost use lib.ListN.{length};
 ghost use Rattle.graph_lists.specs.Graph.{graph, graphOf, among};
-ghost use Rattle.graph_lists.specs.Sound.{Offsets, Keys};
-ghost use Rattle.graph_lists.specs.Steps.{Valid, Finished};
+ghost use Rattle.graph_lists.specs.Steps.{Valid};
 use crate::buckets::bucket;
-use crate::indices::number;
 
-// The message numbers and the variable lists, from a graph's check lists.
-pub(crate) fn from_checks(
-    checks: usize,
-    mechanisms: usize,
-    check_var: &[u32],
-    check_offset: &[u32],
-    check_message: &mut [u32],
-    var_check: &mut [u32],
-    var_message: &mut [u32],
-    var_offset: &mut [u32],
-)
-    requires { ⌜ Offsets checks (length (now «check_var»)) (now «check_offset») ⌝ }
-    requires { ⌜ Keys mechanisms (now «check_var») ⌝ }
-    requires { ⌜ (checks < 4294967296) × (length (now «check_var») < 4294967296) ⌝ }
-    requires { ⌜ length (now «check_message») ≡ length (now «check_var») ⌝ }
-    requires { ⌜
-        (length (now «var_check») ≡ length (now «check_var»))
-        × (length (now «var_message») ≡ length (now «check_var»))
-        × (length (now «var_offset») ≡ suc mechanisms) ⌝ }
-    ensures { λ _. ⌜
-        Finished checks mechanisms (now («check_var» .entry)) (now («check_message» .exit)) (now («check_offset» .entry))
-        (now («var_check» .exit)) (now («var_message» .exit)) (now («var_offset» .exit)) ⌝ }
-{
-    number(check_message);
-    bucket(
-        mechanisms,
-        checks,
-        check_offset,
-        check_var,
-        var_offset,
-        var_check,
-        var_message,
-    );
-}
-
-// All six, from the detectors. The first pass leaves its places in `check_message`, which the numbers then overwrite.
+// All five, from the detectors. The first pass leaves its places in `var_message`, which the second overwrites.
 pub fn from_detectors(
     checks: usize,
     mechanisms: usize,
     off: &[u32],
     dets: &[u32],
     check_var: &mut [u32],
-    check_message: &mut [u32],
     check_offset: &mut [u32],
     var_check: &mut [u32],
     var_message: &mut [u32],
@@ -59,16 +21,13 @@ pub fn from_detectors(
 )
     requires { ⌜ Valid checks mechanisms (now off) (now dets) ⌝ }
     requires { ⌜ (checks < 4294967296) × (mechanisms < 4294967296) × (length (now dets) < 4294967296) ⌝ }
-    requires { ⌜
-        (length (now «check_var») ≡ length (now dets))
-        × (length (now «check_message») ≡ length (now dets))
-        × (length (now «check_offset») ≡ suc checks) ⌝ }
+    requires { ⌜ (length (now «check_var») ≡ length (now dets)) × (length (now «check_offset») ≡ suc checks) ⌝ }
     requires { ⌜
         (length (now «var_check») ≡ length (now dets))
         × (length (now «var_message») ≡ length (now dets))
         × (length (now «var_offset») ≡ suc mechanisms) ⌝ }
     ensures { λ _. ⌜
-        graph checks mechanisms (now («check_var» .exit)) (now («check_message» .exit)) (now («check_offset» .exit))
+        graph checks mechanisms (now («check_var» .exit)) (now («check_offset» .exit))
         (now («var_check» .exit)) (now («var_message» .exit)) (now («var_offset» .exit))
         ≡ graphOf checks mechanisms (among (now (off .entry)) (now (dets .entry))) ⌝ }
 {
@@ -79,16 +38,15 @@ pub fn from_detectors(
         dets,
         check_offset,
         check_var,
-        check_message,
+        var_message,
     );
-    from_checks(
-        checks,
+    bucket(
         mechanisms,
-        check_var,
+        checks,
         check_offset,
-        check_message,
+        check_var,
+        var_offset,
         var_check,
         var_message,
-        var_offset,
     );
 }

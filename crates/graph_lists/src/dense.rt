@@ -1,4 +1,4 @@
-// The six lists of a dense model that has passed its tests: the check lists row by row, and the variable lists by the bucket pass.
+// The five lists of a dense model that has passed its tests: the check lists row by row, and the variable lists by the bucket pass.
 ghost use mathlib.Core.Path.{_≡_};
 ghost use mathlib.Core.List.{_++_};
 ghost use Prim.Native.Nat.{suc, _+_, _*_, _<_, _≤_};
@@ -7,7 +7,7 @@ ghost use Rattle.graph_lists.specs.Lists.{offsets};
 ghost use Rattle.graph_lists.specs.Graph.{graph, graphOf, entries, mechanismsOf, marked};
 ghost use Rattle.graph_lists.specs.Model.{countEdges};
 ghost use Rattle.graph_lists.specs.Steps.{ofByte, marks};
-use crate::build::from_checks;
+use crate::buckets::bucket;
 use crate::indices::put;
 
 // The mechanism m written at `place`, unless its byte is zero. The next place.
@@ -66,13 +66,12 @@ fn mark_rows(
     }
 }
 
-// All six lists.
+// All five lists.
 pub fn from_matrix(
     checks: usize,
     mechanisms: usize,
     matrix: &[u8],
     check_var: &mut [u32],
-    check_message: &mut [u32],
     check_offset: &mut [u32],
     var_check: &mut [u32],
     var_message: &mut [u32],
@@ -82,26 +81,24 @@ pub fn from_matrix(
     requires { ⌜ (checks < 4294967296) × (mechanisms < 4294967296) × (countEdges (now matrix) < 4294967296) ⌝ }
     requires { ⌜
         (length (now «check_var») ≡ countEdges (now matrix))
-        × (length (now «check_message») ≡ countEdges (now matrix))
         × (length (now «check_offset») ≡ suc checks) ⌝ }
     requires { ⌜
         (length (now «var_check») ≡ countEdges (now matrix))
         × (length (now «var_message») ≡ countEdges (now matrix))
         × (length (now «var_offset») ≡ suc mechanisms) ⌝ }
     ensures { λ _. ⌜
-        graph checks mechanisms (now («check_var» .exit)) (now («check_message» .exit)) (now («check_offset» .exit))
+        graph checks mechanisms (now («check_var» .exit)) (now («check_offset» .exit))
         (now («var_check» .exit)) (now («var_message» .exit)) (now («var_offset» .exit))
         ≡ graphOf checks mechanisms (marked mechanisms (now (matrix .entry))) ⌝ }
 {
     mark_rows(checks, mechanisms, matrix, check_var, check_offset);
-    from_checks(
-        checks,
+    bucket(
         mechanisms,
-        check_var,
+        checks,
         check_offset,
-        check_message,
+        check_var,
+        var_offset,
         var_check,
         var_message,
-        var_offset,
     );
 }

@@ -1,4 +1,4 @@
-// Inner: lists of indices, for all inner crates, and the six lists of a model that has passed its tests, which `graph` alone builds. What
+// Inner: lists of indices, for all inner crates, and the five lists of a model that has passed its tests, which `graph` alone builds. What
 // graphs and models mean, and the tests of both, stands in specs/.
 mod buckets;
 pub mod build;

@@ -27,7 +27,7 @@ pub record Walks (rows n : ℕ) (entries off : List ℕ) : Type 0 where
 
 -- a graph by the lists that messages walk: the variables of the checks, the messages of the variables, and the offsets of both
 abbrev pub walked : ℕ → ℕ → List ℕ → List ℕ → List ℕ → List ℕ → Graph
-walked checks mechanisms cv co vm vo = graph checks mechanisms cv [] co [] vm vo
+walked checks mechanisms cv co vm vo = graph checks mechanisms cv co [] vm vo
 
 -- its checks alone
 abbrev pub ofChecks : ℕ → List ℕ → List ℕ → Graph

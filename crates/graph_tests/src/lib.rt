@@ -61,11 +61,10 @@ fn model_fits(s: Size, priors: usize, off: usize, dets: usize) -> bool
     )
 }
 
-// The lengths of the six graph lists.
+// The lengths of the five graph lists.
 pub fn lists_fit(
     s: Size,
     check_var: usize,
-    check_message: usize,
     check_offset: usize,
     var_check: usize,
     var_message: usize,
@@ -73,7 +72,7 @@ pub fn lists_fit(
 ) -> bool
     ensures { λ r. ⌜
         r
-        ≡ graphLengths (s .checks) (s .mechanisms) (s .edges) «check_var» «check_message» «check_offset» «var_check» «var_message»
+        ≡ graphLengths (s .checks) (s .mechanisms) (s .edges) «check_var» «check_offset» «var_check» «var_message»
         «var_offset» ⌝ }
 {
     let v = both(
@@ -85,10 +84,7 @@ pub fn lists_fit(
     );
     both(
         same_number(check_var, s.edges),
-        both(
-            same_number(check_message, s.edges),
-            both(one_more(check_offset, s.checks), v),
-        ),
+        both(one_more(check_offset, s.checks), v),
     )
 }
 

@@ -6,7 +6,7 @@ ghost use Rattle.numbers.specs.Loops.{every};
 ghost use Rattle.graph_lists.specs.Graph.{graph};
 ghost use Rattle.graph_lists.specs.Model.{isGraph};
 ghost use Rattle.graph_lists.specs.Sound.{Offsets, Long, Rising};
-ghost use Rattle.graph_lists.specs.QuickTest.{risesBelow, metGood, entryGood, entriesGood, checkGood, varGood, ownNumber};
+ghost use Rattle.graph_lists.specs.QuickTest.{risesBelow, metGood, entryGood, entriesGood, checkGood, varGood};
 use crate::offsets_good;
 use graph_lists::indices::at;
 use refusals_tests::same_number;
@@ -121,26 +121,11 @@ fn checks_good(checks: usize, mechanisms: usize, check_offset: &[u32], check_var
     true
 }
 
-// Each number at its own place.
-fn numbered(xs: &[u32]) -> bool
-    ensures { λ r. ⌜ r ≡ every (length (now (xs .entry))) (ownNumber (now (xs .entry))) ⌝ }
-{
-    let mut i = 0;
-    while i < xs.len() {
-        if !same_number(at(xs, i), i) {
-            return false;
-        }
-        i += 1;
-    }
-    true
-}
-
 // The entries of each variable.
 fn vars_good(
     checks: usize,
     mechanisms: usize,
     check_var: &[u32],
-    check_message: &[u32],
     check_offset: &[u32],
     var_check: &[u32],
     var_message: &[u32],
@@ -150,7 +135,7 @@ fn vars_good(
     requires { ⌜ Offsets mechanisms (length (now «var_check»)) (now «var_offset») ⌝ }
     requires { ⌜ length (now «var_message») ≡ length (now «var_check») ⌝ }
     ensures { λ r.
-        let g = graph checks mechanisms (now («check_var» .entry)) (now («check_message» .entry)) (now («check_offset» .entry))
+        let g = graph checks mechanisms (now («check_var» .entry)) (now («check_offset» .entry))
         (now («var_check» .entry)) (now («var_message» .entry)) (now («var_offset» .entry)) in
         ⌜ r ≡ every mechanisms (varGood g) ⌝ }
 {
@@ -179,18 +164,17 @@ pub fn is_graph(
     mechanisms: usize,
     edges: usize,
     check_var: &[u32],
-    check_message: &[u32],
     check_offset: &[u32],
     var_check: &[u32],
     var_message: &[u32],
     var_offset: &[u32],
 ) -> bool
-    requires { let g = graph checks mechanisms (now «check_var») (now «check_message») (now «check_offset»)
+    requires { let g = graph checks mechanisms (now «check_var») (now «check_offset»)
         (now «var_check») (now «var_message»)
         (now «var_offset») in
         ⌜ Long edges g ⌝ }
     ensures { λ r.
-        let g = graph checks mechanisms (now («check_var» .entry)) (now («check_message» .entry)) (now («check_offset» .entry))
+        let g = graph checks mechanisms (now («check_var» .entry)) (now («check_offset» .entry))
         (now («var_check» .entry)) (now («var_message» .entry)) (now («var_offset» .entry)) in
         ⌜ r ≡ isGraph g ⌝ }
 {
@@ -200,9 +184,6 @@ pub fn is_graph(
     if !checks_good(checks, mechanisms, check_offset, check_var) {
         return false;
     }
-    if !numbered(check_message) {
-        return false;
-    }
     if !offsets_good(mechanisms, edges, var_offset) {
         return false;
     }
@@ -210,7 +191,6 @@ pub fn is_graph(
         checks,
         mechanisms,
         check_var,
-        check_message,
         check_offset,
         var_check,
         var_message,

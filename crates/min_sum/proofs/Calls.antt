@@ -1,4 +1,4 @@
--- The public call: what its tests tell where none refuses, that a run reads four of the six graph lists, and what the call leaves. Assumes nothing.
+-- The public call: what its tests tell where none refuses, that a run reads four of the five graph lists, and what the call leaves. Assumes nothing.
 use mathlib.Core.Path.{_≡_, refl, sym, ap, _∙_}
 use mathlib.Core.Bool.{Bool, true, false, not, true≢false}
 use mathlib.Core.List.{List}
@@ -13,7 +13,7 @@ use Rattle.refusals.specs.declared.Answer.{Answer}
 use Rattle.refusals.specs.declared.Answer.the-variants.{Done, Refused}
 use Rattle.refusals.specs.Tests.{isDone, firstOf, unlessRefused}
 use Rattle.graph_lists.specs.Graph.{Graph, graph}
-use Rattle.graph_lists.specs.Messages.{cleared, fromVariables, valueFault, posteriorFault}
+use Rattle.graph_lists.specs.Messages.{byPlace, cleared, fromVariables, valueFault, posteriorFault}
 use Rattle.graph_lists.proofs.GraphTests.{graph-told}
 use Rattle.graph_messages.specs.Needs.{Walks, walked}
 use Rattle.graph_messages.proofs.Parts.{walks-both}
@@ -43,20 +43,20 @@ module _ (edges : ℕ) (g : Graph) (m out w c v : List Float) (a : Answer) (b : 
   unfolding unlessRefused
   ran-refused p h e = left p (rw (sym told ∙ not-true b h) (e ∙ ap (λ n. replicate n zero⁺) many))
 
--- ---- a run reads four of the six lists
+-- ---- a run reads four of the five lists
 
-module _ (checks mechanisms : ℕ) (cv cm co vc vm vo : List ℕ) (scale : Float) (syndrome : List ℕ) (priors : List Float) (n : ℕ) where
+module _ (checks mechanisms : ℕ) (cv co vc vm vo : List ℕ) (scale : Float) (syndrome : List ℕ) (priors : List Float) (n : ℕ) where
   -- the beliefs of the whole graph are those of the four
   same-run : (serial : Bool)
-      → minSumBp (walked checks mechanisms cv co vm vo) serial scale syndrome priors n ≡ minSumBp (graph checks mechanisms cv cm co vc vm vo) serial scale syndrome priors n
+      → minSumBp byPlace (walked checks mechanisms cv co vm vo) serial scale syndrome priors n ≡ minSumBp byPlace (graph checks mechanisms cv co vc vm vo) serial scale syndrome priors n
   unfolding minSumBp chosenTo allRounds outerRound outerRoundTo startRound cleared fromVariables iteratedIn iterated averaged averagedTo rawPosterior updateVariable updateCheck skipped parallelCheck checksTo variablesTo parallelIteration serialCheck serialTo serialIteration
   same-run true = refl
   same-run false = refl
 
   -- and so is all that a run leaves
   same-ran : (edges : ℕ) (serial : Bool)
-      → ran edges (walked checks mechanisms cv co vm vo) (minSumBp (walked checks mechanisms cv co vm vo) serial scale syndrome priors n)
-      ≡ ran edges (graph checks mechanisms cv cm co vc vm vo) (minSumBp (graph checks mechanisms cv cm co vc vm vo) serial scale syndrome priors n)
+      → ran edges (walked checks mechanisms cv co vm vo) (minSumBp byPlace (walked checks mechanisms cv co vm vo) serial scale syndrome priors n)
+      ≡ ran edges (graph checks mechanisms cv co vc vm vo) (minSumBp byPlace (graph checks mechanisms cv co vc vm vo) serial scale syndrome priors n)
   unfolding ran posteriorFault
   same-ran edges serial = rw (same-run serial)
 
@@ -70,8 +70,8 @@ leaves (Refused r) o l h = refl
 -- what a run leaves, however checks, mechanisms and edges are counted
 ran-counted : (edges edges′ checks checks′ mechanisms mechanisms′ : ℕ) (cv co vm vo : List ℕ) (scale : Float) (syndrome : List ℕ) (priors : List Float) (n : ℕ) (serial : Bool)
     → edges ≡ edges′ → checks ≡ checks′ → mechanisms ≡ mechanisms′
-    → ran edges (walked checks mechanisms cv co vm vo) (minSumBp (walked checks mechanisms cv co vm vo) serial scale syndrome priors n)
-    ≡ ran edges′ (walked checks′ mechanisms′ cv co vm vo) (minSumBp (walked checks′ mechanisms′ cv co vm vo) serial scale syndrome priors n)
+    → ran edges (walked checks mechanisms cv co vm vo) (minSumBp byPlace (walked checks mechanisms cv co vm vo) serial scale syndrome priors n)
+    ≡ ran edges′ (walked checks′ mechanisms′ cv co vm vo) (minSumBp byPlace (walked checks′ mechanisms′ cv co vm vo) serial scale syndrome priors n)
 ran-counted edges edges′ checks checks′ mechanisms mechanisms′ cv co vm vo scale syndrome priors n serial p q r = rw (p, q, r)
 
 -- what the tests tell where none refuses
@@ -86,21 +86,21 @@ pub record Told (edges checks mechanisms : ℕ) (cv co vm vo : List ℕ) (priors
   pub c-many : length (l .cToV) ≡ length cv
   pub v-many : length (l .vToC) ≡ length cv
 
-module _ (edges checks mechanisms : ℕ) (cv cm co vc vm vo : List ℕ) (priors : List Float) (syndrome : List ℕ) (iterations : ℕ) (l : BeliefsLists) where
+module _ (edges checks mechanisms : ℕ) (cv co vc vm vo : List ℕ) (priors : List Float) (syndrome : List ℕ) (iterations : ℕ) (l : BeliefsLists) where
   -- where none refuses, they tell all that the run asks
-  pub told : (a : Answer) (b : Bool) → a ≡ beliefsFault edges priors (graph checks mechanisms cv cm co vc vm vo) syndrome iterations l → b ≡ isDone a
+  pub told : (a : Answer) (b : Bool) → a ≡ beliefsFault edges priors (graph checks mechanisms cv co vc vm vo) syndrome iterations l → b ≡ isDone a
       → not b ≡ false → Told edges checks mechanisms cv co vm vo priors syndrome l
   unfolding beliefsFault beliefsListsFit
   told a b e d h =
       let t1 = or-done _ _ (sym e ∙ done-is a (sym d ∙ not-false b h)) in
       let t2 = or-done _ _ (t1 .1) in
       let t3 = or-done _ _ (t2 .1) in
-      let g = graph-told edges priors (graph checks mechanisms cv cm co vc vm vo) (t1 .0) in
+      let g = graph-told edges priors (graph checks mechanisms cv co vc vm vo) (t1 .0) in
       let many = eqb-true (length syndrome) checks (unless-done _ _ (t3 .0)) in
       let f1 = and-both _ _ (unless-done _ _ (t3 .1)) in
       let f2 = and-both _ _ (f1 .1) in
       let f3 = and-both _ _ (f2 .1) in
-      let w = graph-walks (graph checks mechanisms cv cm co vc vm vo) (g .is-graph) in
+      let w = graph-walks (graph checks mechanisms cv co vc vm vo) (g .is-graph) in
       record {
         edges-many = g .long .check-var;
         checks-many = many;
@@ -115,21 +115,21 @@ module _ (edges checks mechanisms : ℕ) (cv cm co vc vm vo : List ℕ) (priors 
 
   module _ (scale : Float) (serial : Bool) where
     -- a call that is refused
-    pub beliefs-refused : (a : Answer) (b : Bool) → a ≡ beliefsFault edges priors (graph checks mechanisms cv cm co vc vm vo) syndrome iterations l → b ≡ isDone a
-        → not b ≡ true → beliefsOutcome a l ≡ beliefs edges priors (graph checks mechanisms cv cm co vc vm vo) syndrome iterations scale serial l
+    pub beliefs-refused : (a : Answer) (b : Bool) → a ≡ beliefsFault edges priors (graph checks mechanisms cv co vc vm vo) syndrome iterations l → b ≡ isDone a
+        → not b ≡ true → beliefsOutcome a l ≡ beliefs edges priors (graph checks mechanisms cv co vc vm vo) syndrome iterations scale serial l
     unfolding beliefs
     beliefs-refused a b e d h = rw (← e) (leaves a _ l (sym d ∙ not-true b h))
 
     -- one that is not
-    pub beliefs-ran : (a : Answer) (b : Bool) (o : BeliefsOutcome) → a ≡ beliefsFault edges priors (graph checks mechanisms cv cm co vc vm vo) syndrome iterations l
+    pub beliefs-ran : (a : Answer) (b : Bool) (o : BeliefsOutcome) → a ≡ beliefsFault edges priors (graph checks mechanisms cv co vc vm vo) syndrome iterations l
         → b ≡ isDone a → not b ≡ false
-        → o ≡ ran (length cv) (walked (length syndrome) (length priors) cv co vm vo) (minSumBp (walked (length syndrome) (length priors) cv co vm vo) serial scale syndrome priors iterations)
-        → o ≡ beliefs edges priors (graph checks mechanisms cv cm co vc vm vo) syndrome iterations scale serial l
+        → o ≡ ran (length cv) (walked (length syndrome) (length priors) cv co vm vo) (minSumBp byPlace (walked (length syndrome) (length priors) cv co vm vo) serial scale syndrome priors iterations)
+        → o ≡ beliefs edges priors (graph checks mechanisms cv co vc vm vo) syndrome iterations scale serial l
     unfolding beliefs
     beliefs-ran a b o e d h q =
         let t = told a b e d h in
-        let done : beliefsFault edges priors (graph checks mechanisms cv cm co vc vm vo) syndrome iterations l ≡ Done = sym e ∙ done-is a (sym d ∙ not-false b h) in
+        let done : beliefsFault edges priors (graph checks mechanisms cv co vc vm vo) syndrome iterations l ≡ Done = sym e ∙ done-is a (sym d ∙ not-false b h) in
         rw done
         (q
         ∙ ran-counted _ _ _ _ _ _ cv co vm vo scale syndrome priors iterations serial (t .edges-many) (t .checks-many) (t .mechanisms-many)
-        ∙ same-ran checks mechanisms cv cm co vc vm vo scale syndrome priors iterations edges serial)
+        ∙ same-ran checks mechanisms cv co vc vm vo scale syndrome priors iterations edges serial)

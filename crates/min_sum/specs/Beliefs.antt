@@ -12,7 +12,7 @@ use Rattle.refusals.specs.declared.Answer.{Answer}
 use Rattle.refusals.specs.declared.Answer.the-variants.{Done, Refused}
 use Rattle.refusals.specs.Tests.{unless, orElse, unlessRefused}
 use Rattle.graph_lists.specs.Graph.{Graph}
-use Rattle.graph_lists.specs.Messages.{posteriorFault}
+use Rattle.graph_lists.specs.Messages.{Access, byPlace, posteriorFault}
 use Rattle.graph_lists.specs.Model.{graphFault}
 use Rattle.min_sum_pass.specs.MinSum.{minSumBp}
 
@@ -42,12 +42,15 @@ beliefsListsFit edges g l =
     eqb (length (l .posterior)) (g .mechanisms)
     && (eqb (length (l .ewaPosterior)) (g .mechanisms) && (eqb (length (l .cToV)) edges && eqb (length (l .vToC)) edges))
 
--- the tests before the run: 1, 2, 4, 7, 12, 20, 22. The scale is untested
+-- the tests behind those of the graph: 12, 20, 22. The scale is untested
+abbrev pub beliefsRest : ℕ → Graph → List ℕ → ℕ → BeliefsLists → Answer
+beliefsRest edges g syndrome iterations l =
+    orElse (unless (leb iterations maxCount) BadIterations)
+    (orElse (unless (eqb (length syndrome) (g .checks)) SyndromeLength) (unless (beliefsListsFit edges g l) LentListLength))
+
+-- the tests before the run: 1, 2, 4, 7, 12, 20, 22
 unfoldable pub beliefsFault : ℕ → List Float → Graph → List ℕ → ℕ → BeliefsLists → Answer
-beliefsFault edges priors g syndrome iterations l =
-    orElse (graphFault edges priors g)
-    (orElse (unless (leb iterations maxCount) BadIterations)
-    (orElse (unless (eqb (length syndrome) (g .checks)) SyndromeLength) (unless (beliefsListsFit edges g l) LentListLength)))
+beliefsFault edges priors g syndrome iterations l = orElse (graphFault edges priors g) (beliefsRest edges g syndrome iterations l)
 
 -- past the tests: 30 with the first mechanism whose belief is not finite, the posterior, zeroed on 30, and zeroed work lists
 unfoldable pub ran : ℕ → Graph → List Float → BeliefsOutcome
@@ -61,8 +64,13 @@ abbrev pub afterBeliefsTests : Answer → BeliefsOutcome → BeliefsLists → Be
 afterBeliefsTests Done o l = o
 afterBeliefsTests (Refused r) o l = beliefsOutcome (Refused r) l
 
+-- a call whose tests answer `tested`, with a check's messages had so
+abbrev pub beliefsBy : Access → Answer → ℕ → List Float → Graph → List ℕ → ℕ → Float → Bool → BeliefsLists → BeliefsOutcome
+beliefsBy had tested edges priors g syndrome iterations scale serial l =
+    let o = ran edges g (minSumBp had g serial scale syndrome priors iterations) in
+    afterBeliefsTests tested o l
+
 -- `beliefs`: serial or not
 unfoldable pub beliefs : ℕ → List Float → Graph → List ℕ → ℕ → Float → Bool → BeliefsLists → BeliefsOutcome
 beliefs edges priors g syndrome iterations scale serial l =
-    let o = ran edges g (minSumBp g serial scale syndrome priors iterations) in
-    afterBeliefsTests (beliefsFault edges priors g syndrome iterations l) o l
+    beliefsBy byPlace (beliefsFault edges priors g syndrome iterations l) edges priors g syndrome iterations scale serial l

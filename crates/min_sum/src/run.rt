@@ -3,6 +3,7 @@ ghost use mathlib.Core.Path.{_≡_};
 ghost use mathlib.Core.Bool.{true, false};
 ghost use mathlib.Core.List.{[]};
 ghost use lib.ListN.{length};
+ghost use Rattle.graph_lists.specs.Messages.{byPlace};
 ghost use Rattle.graph_messages.specs.Needs.{Walks, walked, ofVariables, RunLists};
 ghost use Rattle.min_sum_pass.specs.MinSum.{messages, belief, weightOf, iterated, outerRound as outerRoundOf, allRounds as allRoundsOf};
 ghost use Rattle.min_sum_pass.specs.MinSum.{chosen as chosenOf, chosenTo, minSumBp};
@@ -45,7 +46,7 @@ fn iterate_parallel(
         let before = belief (messages (now («c_to_v» .entry)) (now («v_to_c» .entry))) (now («ewa_posterior» .entry)) in
         let after = messages (now («c_to_v» .exit)) (now («v_to_c» .exit)) in
         ⌜ belief after (now («ewa_posterior» .exit))
-        ≡ iterated g false scale (now (syndrome .entry)) (now (priors .entry)) weight before ⌝ }
+        ≡ iterated byPlace g false scale (now (syndrome .entry)) (now (priors .entry)) weight before ⌝ }
 {
     min_sum_pass::pass::parallel_checks(scale, syndrome, check_var, check_offset, v_to_c, c_to_v);
     min_sum_pass::pass::update_and_average(
@@ -81,7 +82,7 @@ fn iterate_serial(
         (now («check_offset» .entry)) (now («var_message» .entry)) (now («var_offset» .entry)) in
         let before = belief (messages (now («c_to_v» .entry)) (now («v_to_c» .entry))) (now («ewa_posterior» .entry)) in
         let after = messages (now («c_to_v» .exit)) (now («v_to_c» .exit)) in
-        ⌜ belief after (now («ewa_posterior» .exit)) ≡ iterated g true scale (now (syndrome .entry)) (now (priors .entry)) weight before ⌝ }
+        ⌜ belief after (now («ewa_posterior» .exit)) ≡ iterated byPlace g true scale (now (syndrome .entry)) (now (priors .entry)) weight before ⌝ }
 {
     min_sum_pass::pass::serial_checks(
         scale,
@@ -128,7 +129,7 @@ fn iterate(
         let before = belief (messages (now («c_to_v» .entry)) (now («v_to_c» .entry))) (now («ewa_posterior» .entry)) in
         let after = messages (now («c_to_v» .exit)) (now («v_to_c» .exit)) in
         ⌜ belief after (now («ewa_posterior» .exit))
-        ≡ iterated g serial scale (now (syndrome .entry)) (now (priors .entry)) weight before ⌝ }
+        ≡ iterated byPlace g serial scale (now (syndrome .entry)) (now (priors .entry)) weight before ⌝ }
 {
     if serial {
         iterate_serial(
@@ -186,7 +187,7 @@ fn outer_round(
         let before = belief (messages (now («c_to_v» .entry)) (now («v_to_c» .entry))) (now («ewa_posterior» .entry)) in
         let after = messages (now («c_to_v» .exit)) (now («v_to_c» .exit)) in
         ⌜ belief after (now («ewa_posterior» .exit))
-        ≡ outerRoundOf g serial scale (now (syndrome .entry)) (now (priors .entry)) inner outer before ⌝ }
+        ≡ outerRoundOf byPlace g serial scale (now (syndrome .entry)) (now (priors .entry)) inner outer before ⌝ }
 {
     graph_messages::clear(c_to_v);
     graph_messages::from_variables(check_var, ewa_posterior, v_to_c);
@@ -234,8 +235,8 @@ fn two_outer_rounds(
         let before = belief (messages (now («c_to_v» .entry)) (now («v_to_c» .entry))) (now («ewa_posterior» .entry)) in
         let after = messages (now («c_to_v» .exit)) (now («v_to_c» .exit)) in
         ⌜ belief after (now («ewa_posterior» .exit))
-        ≡ outerRoundOf g serial scale (now (syndrome .entry)) (now (priors .entry)) inner 1
-        (outerRoundOf g serial scale (now (syndrome .entry)) (now (priors .entry)) inner 0 before) ⌝ }
+        ≡ outerRoundOf byPlace g serial scale (now (syndrome .entry)) (now (priors .entry)) inner 1
+        (outerRoundOf byPlace g serial scale (now (syndrome .entry)) (now (priors .entry)) inner 0 before) ⌝ }
 {
     outer_round(
         inner,
@@ -291,7 +292,7 @@ fn all_rounds(
         let g = walked (length (now (syndrome .entry))) (length (now (priors .entry))) (now («check_var» .entry))
         (now («check_offset» .entry)) (now («var_message» .entry)) (now («var_offset» .entry)) in
         let after = messages (now («c_to_v» .exit)) (now («v_to_c» .exit)) in
-        ⌜ belief after (now («ewa_posterior» .exit)) ≡ allRoundsOf g serial scale (now (syndrome .entry)) (now (priors .entry)) n ⌝ }
+        ⌜ belief after (now («ewa_posterior» .exit)) ≡ allRoundsOf byPlace g serial scale (now (syndrome .entry)) (now (priors .entry)) n ⌝ }
 {
     graph_messages::copy(priors, ewa_posterior);
     if n < 6 {
@@ -388,7 +389,7 @@ pub(crate) fn min_sum_bp(
     ensures { λ _.
         let g = walked (length (now (syndrome .entry))) (length (now (priors .entry))) (now («check_var» .entry))
         (now («check_offset» .entry)) (now («var_message» .entry)) (now («var_offset» .entry)) in
-        ⌜ now (posterior .exit) ≡ minSumBp g serial scale (now (syndrome .entry)) (now (priors .entry)) n ⌝ }
+        ⌜ now (posterior .exit) ≡ minSumBp byPlace g serial scale (now (syndrome .entry)) (now (priors .entry)) n ⌝ }
 {
     all_rounds(
         n,
@@ -439,7 +440,7 @@ pub(crate) fn ran(
         (now («check_offset» .entry)) (now («var_message» .entry)) (now («var_offset» .entry)) in
         let after = beliefsLists (now (posterior .exit)) (now («ewa_posterior» .exit)) (now («c_to_v» .exit)) (now («v_to_c» .exit)) in
         ⌜ beliefsOutcome r after
-        ≡ ranOf (length (now («check_var» .entry))) g (minSumBp g serial scale (now (syndrome .entry)) (now (priors .entry)) n) ⌝ }
+        ≡ ranOf (length (now («check_var» .entry))) g (minSumBp byPlace g serial scale (now (syndrome .entry)) (now (priors .entry)) n) ⌝ }
 {
     min_sum_bp(
         n,

@@ -65,7 +65,6 @@ pub(crate) fn fault(
     size: graph::Size,
     priors: &[f64],
     check_var: &[u32],
-    check_message: &[u32],
     check_offset: &[u32],
     var_check: &[u32],
     var_message: &[u32],
@@ -74,7 +73,7 @@ pub(crate) fn fault(
     n: Lengths,
 ) -> Answer
     ensures { λ r.
-        let g = graph (size .checks) (size .mechanisms) (now («check_var» .entry)) (now («check_message» .entry))
+        let g = graph (size .checks) (size .mechanisms) (now («check_var» .entry))
         (now («check_offset» .entry)) (now («var_check» .entry)) (now («var_message» .entry)) (now («var_offset» .entry)) in
         ⌜ r
         ≡ orElse (graphFault (size .edges) (now (priors .entry)) g) (orElse (unless (leb iterations maxCount) BadIterations) (orElse
@@ -86,7 +85,6 @@ pub(crate) fn fault(
         size,
         priors,
         check_var,
-        check_message,
         check_offset,
         var_check,
         var_message,

@@ -14,6 +14,7 @@ use Rattle.numbers.specs.Loops.{part, spliced}
 use Rattle.numbers.proofs.Cases.{either}
 use Rattle.numbers.proofs.Turns.{turns-turn}
 use Rattle.graph_lists.specs.Graph.{Graph}
+use Rattle.graph_lists.specs.Messages.{byPlace}
 use Rattle.graph_messages.specs.Needs.{walked, ofVariables}
 use Rattle.min_sum_pass.specs.MinSum.{Messages, messages, checkMessages, skipped, rawPosterior, updateVariable, updateCheck, parallelCheck, serialCheck, checksTo, serialTo}
 
@@ -42,25 +43,25 @@ module _ (checks mechanisms : ℕ) (cv co vm vo : List ℕ) (scale : Float) (syn
 
   -- what it sends
   sends : (out : List Float) → out ≡ spliced cToV a e (checkMessages scale (not (eqb (getD syndrome c 0) 0)) (part a e vToC))
-      → updateCheck (walked checks mechanisms cv co vm vo) scale syndrome (messages cToV vToC) c ≡ messages out vToC
+      → updateCheck byPlace (walked checks mechanisms cv co vm vo) scale syndrome (messages cToV vToC) c ≡ messages out vToC
   unfolding updateCheck
   sends out w = sym (rw (w, from, to, add-one))
 
   -- a check that is not serial, and is skipped
-  parallel-skips : few ≡ true → messages cToV vToC ≡ parallelCheck (walked checks mechanisms cv co vm vo) scale syndrome (messages cToV vToC) c
+  parallel-skips : few ≡ true → messages cToV vToC ≡ parallelCheck byPlace (walked checks mechanisms cv co vm vo) scale syndrome (messages cToV vToC) c
   unfolding parallelCheck
   parallel-skips h = rw (skips, h)
 
   -- and that is not
   parallel-sends : (out : List Float) → few ≡ false
       → out ≡ spliced cToV a e (checkMessages scale (not (eqb (getD syndrome c 0) 0)) (part a e vToC))
-      → messages out vToC ≡ parallelCheck (walked checks mechanisms cv co vm vo) scale syndrome (messages cToV vToC) c
+      → messages out vToC ≡ parallelCheck byPlace (walked checks mechanisms cv co vm vo) scale syndrome (messages cToV vToC) c
   unfolding parallelCheck
   parallel-sends out h w = rw (skips, h, sends out w)
 
   -- a serial check that is skipped
   serial-skips : (priors : List Float) → few ≡ true
-      → messages cToV vToC ≡ serialCheck (walked checks mechanisms cv co vm vo) scale syndrome priors (messages cToV vToC) c
+      → messages cToV vToC ≡ serialCheck byPlace (walked checks mechanisms cv co vm vo) scale syndrome priors (messages cToV vToC) c
   unfolding serialCheck
   serial-skips priors h = rw (skips, h)
 
@@ -68,7 +69,7 @@ module _ (checks mechanisms : ℕ) (cv co vm vo : List ℕ) (scale : Float) (syn
   serial-sends : (priors out : List Float) (u : Messages) → few ≡ false
       → out ≡ spliced cToV a e (checkMessages scale (not (eqb (getD syndrome c 0) 0)) (part a e vToC))
       → u ≡ foldl (updateVariable (ofVariables mechanisms vm vo) priors) (messages out vToC) (part a e cv)
-      → u ≡ serialCheck (walked checks mechanisms cv co vm vo) scale syndrome priors (messages cToV vToC) c
+      → u ≡ serialCheck byPlace (walked checks mechanisms cv co vm vo) scale syndrome priors (messages cToV vToC) c
   unfolding serialCheck updateVariable rawPosterior
   serial-sends priors out u h w t = rw (skips, h, sends out w) (t ∙ rw (from, to, add-one))
 
@@ -77,29 +78,29 @@ module _ (checks mechanisms : ℕ) (cv co vm vo : List ℕ) (scale : Float) (syn
   sentBy = cond few cToV (spliced cToV a e (checkMessages scale (not (eqb (getD syndrome c 0) 0)) (part a e vToC)))
 
   -- a check that is not serial
-  pub parallel-is : (out : List Float) → out ≡ sentBy → messages out vToC ≡ parallelCheck (walked checks mechanisms cv co vm vo) scale syndrome (messages cToV vToC) c
+  pub parallel-is : (out : List Float) → out ≡ sentBy → messages out vToC ≡ parallelCheck byPlace (walked checks mechanisms cv co vm vo) scale syndrome (messages cToV vToC) c
   parallel-is out w =
       ⊎-elim (λ (h : few ≡ true). ap (λ (l : List Float). messages l vToC) (w ∙ rw h) ∙ parallel-skips h) (λ (h : few ≡ false). parallel-sends out h (w ∙ rw h)) (either few)
 
   -- a serial check that is skipped
   pub serial-skipped : (priors out : List Float) → few ≡ true → out ≡ sentBy
-      → messages out vToC ≡ serialCheck (walked checks mechanisms cv co vm vo) scale syndrome priors (messages cToV vToC) c
+      → messages out vToC ≡ serialCheck byPlace (walked checks mechanisms cv co vm vo) scale syndrome priors (messages cToV vToC) c
   serial-skipped priors out h w = ap (λ (l : List Float). messages l vToC) (w ∙ rw h) ∙ serial-skips priors h
 
   -- and that is not
   pub serial-sent : (priors out : List Float) (u : Messages) → few ≡ false → out ≡ sentBy
       → u ≡ foldl (updateVariable (ofVariables mechanisms vm vo) priors) (messages out vToC) (part a e cv)
-      → u ≡ serialCheck (walked checks mechanisms cv co vm vo) scale syndrome priors (messages cToV vToC) c
+      → u ≡ serialCheck byPlace (walked checks mechanisms cv co vm vo) scale syndrome priors (messages cToV vToC) c
   serial-sent priors out u h w t = serial-sends priors out u h (w ∙ rw h) t
 
 -- one check further
-pub checks-turn : (g : Graph) (scale : Float) (syndrome : List ℕ) (s t u : Messages) (c : ℕ) → t ≡ checksTo g scale syndrome s c
-    → u ≡ parallelCheck g scale syndrome t c → u ≡ checksTo g scale syndrome s (c + 1)
+pub checks-turn : (g : Graph) (scale : Float) (syndrome : List ℕ) (s t u : Messages) (c : ℕ) → t ≡ checksTo byPlace g scale syndrome s c
+    → u ≡ parallelCheck byPlace g scale syndrome t c → u ≡ checksTo byPlace g scale syndrome s (c + 1)
 unfolding checksTo
 checks-turn g scale syndrome s t u c p q = turns-turn _ s t u c p q
 
 -- one serial check further
-pub serial-turn : (g : Graph) (scale : Float) (syndrome : List ℕ) (priors : List Float) (s t u : Messages) (c : ℕ) → t ≡ serialTo g scale syndrome priors s c
-    → u ≡ serialCheck g scale syndrome priors t c → u ≡ serialTo g scale syndrome priors s (c + 1)
+pub serial-turn : (g : Graph) (scale : Float) (syndrome : List ℕ) (priors : List Float) (s t u : Messages) (c : ℕ) → t ≡ serialTo byPlace g scale syndrome priors s c
+    → u ≡ serialCheck byPlace g scale syndrome priors t c → u ≡ serialTo byPlace g scale syndrome priors s (c + 1)
 unfolding serialTo
 serial-turn g scale syndrome priors s t u c p q = turns-turn _ s t u c p q

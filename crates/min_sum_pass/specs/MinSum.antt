@@ -1,5 +1,5 @@
 -- `min_sum_bp_into` of min_sum.rs past its tests, as functions on lists, in its order. Definitions only. Assumes nothing.
-use Prim.Native.Nat.{ℕ, suc, _/_}
+use Prim.Native.Nat.{ℕ, _/_}
 use mathlib.Core.Bool.{Bool, true, false, not, _&&_, Bool·beq, cond}
 use mathlib.Core.List.{List, foldl}
 use lib.Dec.{eqb, ltb, leb}
@@ -7,9 +7,9 @@ use lib.IntN.{negsuc}
 use lib.Ieee.{Float, nan, fin, lt}
 use lib.ListN.{length, getD, set}
 use Rattle.numbers.specs.Floats.{_+ᶠ_, _-ᶠ_, _*ᶠ_, zero⁺, one⁺, one⁻, abs, isNegative}
-use Rattle.numbers.specs.Loops.{turns, table, row, spliced}
+use Rattle.numbers.specs.Loops.{turns, table}
 use Rattle.graph_lists.specs.Graph.{Graph, checkEntries, varEntries}
-use Rattle.graph_lists.specs.Messages.{Scan, scan, total, fromVariables, cleared}
+use Rattle.graph_lists.specs.Messages.{Access, Scan, scan, total, fromVariables, cleared}
 
 -- `damp`: 0.25
 abbrev pub damp : Float
@@ -37,7 +37,7 @@ sentTo scale s messages n = table n (λ i. sentAt scale s i (getD messages i nan
 unfoldable pub checkMessages : Float → Bool → List Float → List Float
 checkMessages scale odd messages = sentTo scale (scan odd messages (length messages)) messages (length messages)
 
--- ---- one iteration, over all messages
+-- ---- one iteration, over all messages. `had` says how a check's are had out of them, and it is all that the layout of the graph changes
 
 -- the messages, to variables and to checks
 pub record Messages : Type 0 where
@@ -52,12 +52,11 @@ messages c v = record { cToV = c; vToC = v }
 unfoldable pub skipped : Graph → ℕ → Bool
 skipped g c = ltb (length (checkEntries g c)) 2
 
--- a check that is not skipped: its part of `c_to_v` from its part of `v_to_c`
-unfoldable pub updateCheck : Graph → Float → List ℕ → Messages → ℕ → Messages
-updateCheck g scale syndrome s c =
-    let off = g .checkOffset in
-    let new = checkMessages scale (not (eqb (getD syndrome c 0) 0)) (row off c (s .vToC)) in
-    messages (spliced (s .cToV) (getD off c 0) (getD off (suc c) 0) new) (s .vToC)
+-- a check that is not skipped: its messages in `c_to_v` from its messages in `v_to_c`
+unfoldable pub updateCheck : Access → Graph → Float → List ℕ → Messages → ℕ → Messages
+updateCheck had g scale syndrome s c =
+    let new = checkMessages scale (not (eqb (getD syndrome c 0) 0)) (had .messagesOf g c (s .vToC)) in
+    messages (had .withMessages g c (s .cToV) new) (s .vToC)
 
 -- what is written over an old message: new is sum - own, and (1 - damp) new + damp old is written
 unfoldable pub damped : Float → Float → Float → Float
@@ -76,36 +75,36 @@ unfoldable pub updateVariable : Graph → List Float → Messages → ℕ → Me
 updateVariable g priors s v = messages (s .cToV) (dampedMessages (rawPosterior g priors s v) (s .cToV) (s .vToC) (varEntries g v))
 
 -- one check of an iteration that is not serial
-unfoldable pub parallelCheck : Graph → Float → List ℕ → Messages → ℕ → Messages
-parallelCheck g scale syndrome s c = cond (skipped g c) s (updateCheck g scale syndrome s c)
+unfoldable pub parallelCheck : Access → Graph → Float → List ℕ → Messages → ℕ → Messages
+parallelCheck had g scale syndrome s c = cond (skipped g c) s (updateCheck had g scale syndrome s c)
 
 -- the first n checks, in index order
-unfoldable pub checksTo : Graph → Float → List ℕ → Messages → ℕ → Messages
-checksTo g scale syndrome s n = turns n (λ c t. parallelCheck g scale syndrome t c) s
+unfoldable pub checksTo : Access → Graph → Float → List ℕ → Messages → ℕ → Messages
+checksTo had g scale syndrome s n = turns n (λ c t. parallelCheck had g scale syndrome t c) s
 
 -- the first n variables, in index order
 unfoldable pub variablesTo : Graph → List Float → Messages → ℕ → Messages
 variablesTo g priors s n = turns n (λ v t. updateVariable g priors t v) s
 
 -- all checks, then all variables
-unfoldable pub parallelIteration : Graph → Float → List ℕ → List Float → Messages → Messages
-parallelIteration g scale syndrome priors s = variablesTo g priors (checksTo g scale syndrome s (g .checks)) (g .mechanisms)
+unfoldable pub parallelIteration : Access → Graph → Float → List ℕ → List Float → Messages → Messages
+parallelIteration had g scale syndrome priors s = variablesTo g priors (checksTo had g scale syndrome s (g .checks)) (g .mechanisms)
 
 -- one check of a serial iteration, and then each variable of its entries
-unfoldable pub serialCheck : Graph → Float → List ℕ → List Float → Messages → ℕ → Messages
-serialCheck g scale syndrome priors s c =
-    cond (skipped g c) s (foldl (updateVariable g priors) (updateCheck g scale syndrome s c) (checkEntries g c))
+unfoldable pub serialCheck : Access → Graph → Float → List ℕ → List Float → Messages → ℕ → Messages
+serialCheck had g scale syndrome priors s c =
+    cond (skipped g c) s (foldl (updateVariable g priors) (updateCheck had g scale syndrome s c) (checkEntries g c))
 
 -- the first n checks so, in index order
-unfoldable pub serialTo : Graph → Float → List ℕ → List Float → Messages → ℕ → Messages
-serialTo g scale syndrome priors s n = turns n (λ c t. serialCheck g scale syndrome priors t c) s
+unfoldable pub serialTo : Access → Graph → Float → List ℕ → List Float → Messages → ℕ → Messages
+serialTo had g scale syndrome priors s n = turns n (λ c t. serialCheck had g scale syndrome priors t c) s
 
 -- all checks
-unfoldable pub serialIteration : Graph → Float → List ℕ → List Float → Messages → Messages
-serialIteration g scale syndrome priors s = serialTo g scale syndrome priors s (g .checks)
+unfoldable pub serialIteration : Access → Graph → Float → List ℕ → List Float → Messages → Messages
+serialIteration had g scale syndrome priors s = serialTo had g scale syndrome priors s (g .checks)
 
 -- one iteration, serial or not
-abbrev pub iteration : Bool → Graph → Float → List ℕ → List Float → Messages → Messages
+abbrev pub iteration : Bool → Access → Graph → Float → List ℕ → List Float → Messages → Messages
 iteration true = serialIteration
 iteration false = parallelIteration
 
@@ -148,11 +147,11 @@ chosenTo g priors b n = table n (λ v. chosen (getD (b .ewaPosterior) v nan) (ra
 unfoldable pub startRound : Graph → List Float → Belief
 startRound g ewa = belief (messages (cleared g) (fromVariables g ewa)) ewa
 
-module _ (g : Graph) (serial : Bool) (scale : Float) (syndrome : List ℕ) (priors : List Float) where
+module _ (had : Access) (g : Graph) (serial : Bool) (scale : Float) (syndrome : List ℕ) (priors : List Float) where
   -- an iteration of this weight
   unfoldable pub iterated : Float → Belief → Belief
   iterated weight b =
-      let s = iteration serial g scale syndrome priors (b .now) in
+      let s = iteration serial had g scale syndrome priors (b .now) in
       belief s (averaged g priors weight s (b .ewaPosterior))
 
   -- iteration i of the outer round `outer`

@@ -3,6 +3,7 @@ ghost use mathlib.Core.Path.{_≡_};
 ghost use mathlib.Core.List.{[]};
 ghost use Prim.Native.Nat.{_<_};
 ghost use lib.ListN.{length};
+ghost use Rattle.graph_lists.specs.Messages.{byPlace};
 ghost use Rattle.graph_lists.specs.Sound.{Offsets};
 ghost use Rattle.graph_messages.specs.Needs.{Walks, walked, ofChecks, ofVariables, PerEdge};
 ghost use Rattle.min_sum_pass.specs.MinSum.{messages, parallelCheck, serialCheck, checksTo, serialTo, variablesTo};
@@ -24,7 +25,7 @@ fn parallel_check(
     ensures { λ _.
         let g = ofChecks (length (now (syndrome .entry))) (now («check_var» .entry)) (now («check_offset» .entry)) in
         let before = messages (now («c_to_v» .entry)) (now («v_to_c» .entry)) in
-        ⌜ messages (now («c_to_v» .exit)) (now («v_to_c» .entry)) ≡ parallelCheck g scale (now (syndrome .entry)) before c ⌝ }
+        ⌜ messages (now («c_to_v» .exit)) (now («v_to_c» .entry)) ≡ parallelCheck byPlace g scale (now (syndrome .entry)) before c ⌝ }
 {
     let start = graph_lists::indices::at(check_offset, c);
     let end = graph_lists::indices::at(check_offset, c + 1);
@@ -54,7 +55,7 @@ pub fn parallel_checks(
         let g = ofChecks (length (now (syndrome .entry))) (now («check_var» .entry)) (now («check_offset» .entry)) in
         let before = messages (now («c_to_v» .entry)) (now («v_to_c» .entry)) in
         ⌜ messages (now («c_to_v» .exit)) (now («v_to_c» .entry))
-        ≡ checksTo g scale (now (syndrome .entry)) before (length (now (syndrome .entry))) ⌝ }
+        ≡ checksTo byPlace g scale (now (syndrome .entry)) before (length (now (syndrome .entry))) ⌝ }
 {
     let mut c = 0;
     while c < syndrome.len() {
@@ -153,7 +154,7 @@ fn serial_check(
         (now («check_offset» .entry)) (now («var_message» .entry)) (now («var_offset» .entry)) in
         let before = messages (now («c_to_v» .entry)) (now («v_to_c» .entry)) in
         ⌜ messages (now («c_to_v» .exit)) (now («v_to_c» .exit))
-        ≡ serialCheck g scale (now (syndrome .entry)) (now (priors .entry)) before c ⌝ }
+        ≡ serialCheck byPlace g scale (now (syndrome .entry)) (now (priors .entry)) before c ⌝ }
 {
     let start = graph_lists::indices::at(check_offset, c);
     let end = graph_lists::indices::at(check_offset, c + 1);
@@ -198,7 +199,7 @@ pub fn serial_checks(
         (now («check_offset» .entry)) (now («var_message» .entry)) (now («var_offset» .entry)) in
         let before = messages (now («c_to_v» .entry)) (now («v_to_c» .entry)) in
         ⌜ messages (now («c_to_v» .exit)) (now («v_to_c» .exit))
-        ≡ serialTo g scale (now (syndrome .entry)) (now (priors .entry)) before (length (now (syndrome .entry))) ⌝ }
+        ≡ serialTo byPlace g scale (now (syndrome .entry)) (now (priors .entry)) before (length (now (syndrome .entry))) ⌝ }
 {
     let mut c = 0;
     while c < syndrome.len() {

@@ -7,6 +7,7 @@ use Rattle.refusals.specs.declared.Answer.{Answer}
 use Rattle.refusals.specs.declared.Answer.the-variants.{Done, Refused}
 use Rattle.refusals.proofs.Tests.{or-done}
 use Rattle.graph_lists.specs.Graph.{Graph}
+use Rattle.graph_lists.specs.Messages.{byPlace}
 use Rattle.graph_lists.proofs.Sound.{Sound, passes-sound}
 use Rattle.graph_lists.proofs.GraphTests.{graph-told}
 use Rattle.relay_settings.specs.declared.Schedule.the-variants.{Flooding, CheckSerial}
@@ -36,16 +37,16 @@ module _ (edges : ℕ) (x : Shot) (l : DecodeLists) (names : namesFault (x .grap
   passed-sound h = passes-sound (x .graph) (graph-told edges (x .prior) (x .graph) (or-done _ _ h .0) .is-graph)
 
   -- whatever the tests say
-  whole-same : (a : Answer) → decodeFault edges x l ≡ a → afterDecodeTests a (afterLegs edges x (decodeLegs x) l) l ≡ afterDecodeTests a (afterLegs edges
-      (inIndexOrder x) (decodeLegs (inIndexOrder x)) l) l
+  whole-same : (a : Answer) → decodeFault edges x l ≡ a → afterDecodeTests a (afterLegs edges x (decodeLegs byPlace x) l) l ≡ afterDecodeTests a (afterLegs edges
+      (inIndexOrder x) (decodeLegs byPlace (inIndexOrder x)) l) l
   whole-same Done h =
-      ap (λ e. afterLegs edges x e l) (decode-same x (passed-sound h) (names-told (x .graph .checks) (x .order) names) free) ∙ left-same (decodeLegs (inIndexOrder x))
+      ap (λ e. afterLegs edges x e l) (decode-same x (passed-sound h) (names-told (x .graph .checks) (x .order) names) free) ∙ left-same (decodeLegs byPlace (inIndexOrder x))
   whole-same (Refused r) h = refl
 
   -- the call in that order is the call in index order
   pub order-free : decodeInOrder edges x l ≡ decode edges x l
   unfolding decodeInOrder decode
-  order-free = whole-same (decodeFault edges x l) refl ∙ ap (λ a. afterDecodeTests a (afterLegs edges (inIndexOrder x) (decodeLegs (inIndexOrder x)) l) l) fault-same
+  order-free = whole-same (decodeFault edges x l) refl ∙ ap (λ a. afterDecodeTests a (afterLegs edges (inIndexOrder x) (decodeLegs byPlace (inIndexOrder x)) l) l) fault-same
 
 -- ---- which orders are taken
 

@@ -14,7 +14,7 @@ use Rattle.numbers.specs.Loops.{part, row, spliced}
 use Rattle.numbers.proofs.Loops.{length-table, Outside, length-part, getD-part, length-spliced, spliced-out}
 use Rattle.graph_lists.specs.Lists.{has}
 use Rattle.graph_lists.specs.Graph.{Graph, checkEntries, varEntries}
-use Rattle.graph_lists.specs.Messages.{total}
+use Rattle.graph_lists.specs.Messages.{byPlace, total}
 use Rattle.graph_lists.proofs.Sound.{Sound}
 use Rattle.graph_lists.proofs.Cuts.{offsets-rise, row-end}
 use Rattle.relay_step.specs.Step.{State, state, sentTo, checkMessages, updateCheck, written, updateVariable, serialCheck}
@@ -90,7 +90,7 @@ part-written a e p cToV l h (cons {x = m} {xs = ms} o t) =
     part-written a e p cToV (set l m (p -ᶠ getD cToV m nan)) h t ∙ part-set a e l m (p -ᶠ getD cToV m nan) h o
 
 -- a check sends as many messages as it has
-length-sent : (alpha : Float) (odd : Bool) (vs : List ℕ) (xs : List Float) → length (checkMessages alpha odd vs xs) ≡ length xs
+pub length-sent : (alpha : Float) (odd : Bool) (vs : List ℕ) (xs : List Float) → length (checkMessages alpha odd vs xs) ≡ length xs
 unfolding checkMessages sentTo
 length-sent alpha odd vs xs = length-table (length xs) _
 
@@ -122,7 +122,7 @@ state-is h k l = λ i. state (h i) (k i) (l i)
 module _ (g : Graph) (sound : Sound g) (alpha : Float) (syndrome : List ℕ) (bias : List Float) where
   -- the check c
   abbrev check : State → ℕ → State
-  check = updateCheck g alpha syndrome
+  check = updateCheck byPlace g alpha syndrome
 
   -- the variable v
   abbrev variable : State → ℕ → State
@@ -272,13 +272,13 @@ module _ (g : Graph) (sound : Sound g) (alpha : Float) (syndrome : List ℕ) (bi
       ap (λ u. foldl variable u ws) (sym (variable-past w h vs b t s z)) ∙ variables-past vs b ws hs ts (variable s w) (keep-variable w s z)
 
   -- a check of a serial iteration keeps the sizes
-  pub keep-serial : (c : ℕ) → c < g .checks → (s : State) → Sized g s → Sized g (serialCheck g alpha syndrome bias s c)
+  pub keep-serial : (c : ℕ) → c < g .checks → (s : State) → Sized g s → Sized g (serialCheck byPlace g alpha syndrome bias s c)
   unfolding serialCheck
   keep-serial c h s z = keep-variables (checkEntries g c) (check s c) (keep-check c h s z)
 
   -- checks that share no mechanism change places
   pub swap-serial : (a b : ℕ) → b < a → a < g .checks → shares (checkEntries g) b a ≡ false → (s : State) → Sized g s
-      → serialCheck g alpha syndrome bias (serialCheck g alpha syndrome bias s a) b ≡ serialCheck g alpha syndrome bias (serialCheck g alpha syndrome bias s b) a
+      → serialCheck byPlace g alpha syndrome bias (serialCheck byPlace g alpha syndrome bias s a) b ≡ serialCheck byPlace g alpha syndrome bias (serialCheck byPlace g alpha syndrome bias s b) a
   unfolding serialCheck shares
   swap-serial a b h k q s z =
       let l : b < g .checks = omega arith in

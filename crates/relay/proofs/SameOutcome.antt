@@ -8,7 +8,7 @@ use lib.Ieee.{Float}
 use lib.ListN.{length-replicate, length-map}
 use Rattle.refusals.specs.declared.Answer.the-variants.{Done}
 use Rattle.graph_lists.specs.Graph.{Graph, checkEntries}
-use Rattle.graph_lists.specs.Messages.{fromVariables, cleared}
+use Rattle.graph_lists.specs.Messages.{byPlace, fromVariables, cleared}
 use Rattle.graph_lists.proofs.Sound.{Sound}
 use Rattle.relay_settings.specs.declared.Schedule.{Schedule}
 use Rattle.relay_settings.specs.declared.Schedule.the-variants.{Flooding, CheckSerial}
@@ -33,32 +33,32 @@ module _ (g : Graph) (sound : Sound g) (order : List ℕ) (names : NamesOnce (g 
   Any x y = Unit
 
   -- the checks of a flooding iteration, in any order that names each once
-  pass-same : (s : State) → Sized g s → checkPass g alpha syndrome order s ≡ checkPass g alpha syndrome (upto (g .checks)) s
+  pass-same : (s : State) → Sized g s → checkPass byPlace g alpha syndrome order s ≡ checkPass byPlace g alpha syndrome (upto (g .checks)) s
   unfolding checkPass
   pass-same s z =
-      same (updateCheck g alpha syndrome) (g .checks) (Sized g) (FreeIf Any) (λ a b t. t .0) (keep-check g sound alpha syndrome [])
+      same (updateCheck byPlace g alpha syndrome) (g .checks) (Sized g) (FreeIf Any) (λ a b t. t .0) (keep-check g sound alpha syndrome [])
       (λ a b h t u y. sym (swap-checks g sound alpha syndrome [] b a (t .0) h u y)) (orders Any (g .checks) order names (keeps-any order)) (omega arith) s z
 
   -- a flooding iteration
   flooding-same : (prior gamma : List Float) (s : State) → Sized g s
-      → floodingIteration g alpha syndrome prior gamma order s ≡ floodingIteration g alpha syndrome prior gamma (upto (g .checks)) s
+      → floodingIteration byPlace g alpha syndrome prior gamma order s ≡ floodingIteration byPlace g alpha syndrome prior gamma (upto (g .checks)) s
   unfolding floodingIteration
   flooding-same prior gamma s z = ap (λ t. variablePass g (computeBias prior gamma (t .posterior)) t (g .mechanisms)) (pass-same s z)
 
   -- a serial iteration, in an order in which nothing is exchanged
   serial-same : exchanged (checkEntries g) [] order ≡ Done → (prior gamma : List Float) (s : State) → Sized g s
-      → checkSerialIteration g alpha syndrome prior gamma order s ≡ checkSerialIteration g alpha syndrome prior gamma (upto (g .checks)) s
+      → checkSerialIteration byPlace g alpha syndrome prior gamma order s ≡ checkSerialIteration byPlace g alpha syndrome prior gamma (upto (g .checks)) s
   unfolding checkSerialIteration serialPass
   serial-same e prior gamma s z =
       let bias = computeBias prior gamma (s .posterior) in
       let R = Apart (checkEntries g) in
-      same (serialCheck g alpha syndrome bias) (g .checks) (Sized g) (FreeIf R) (λ a b t. t .0) (keep-serial g sound alpha syndrome bias)
+      same (serialCheck byPlace g alpha syndrome bias) (g .checks) (Sized g) (FreeIf R) (λ a b t. t .0) (keep-serial g sound alpha syndrome bias)
       (λ a b h t u y. swap-serial g sound alpha syndrome bias a b (t .0) h (t .1) u y) (orders R (g .checks) order names (keeps-order (checkEntries g) order e))
       (omega arith) s z
 
   -- an iteration of either schedule
   iteration-same : (schedule : Schedule) → exchangeFault schedule g order ≡ Done → (prior gamma : List Float) (s : State) → Sized g s
-      → iteration schedule g alpha syndrome prior gamma order s ≡ iteration schedule g alpha syndrome prior gamma (upto (g .checks)) s
+      → iteration schedule byPlace g alpha syndrome prior gamma order s ≡ iteration schedule byPlace g alpha syndrome prior gamma (upto (g .checks)) s
   unfolding exchangeFault
   iteration-same Flooding e prior gamma s z = flooding-same prior gamma s z
   iteration-same CheckSerial e prior gamma s z = serial-same e prior gamma s z
@@ -72,22 +72,22 @@ module _ (g : Graph) (sound : Sound g) (order : List ℕ) (names : NamesOnce (g 
   keep-pass bias s (suc n) z = keep-variable g sound alpha syndrome bias n (variablePass g bias s n) (keep-pass bias s n z)
 
   -- so does an iteration
-  keep-iteration : (schedule : Schedule) (prior gamma : List Float) (s : State) → Sized g s → Sized g (iteration schedule g alpha syndrome prior gamma order s)
+  pub keep-iteration : (schedule : Schedule) (prior gamma : List Float) (s : State) → Sized g s → Sized g (iteration schedule byPlace g alpha syndrome prior gamma order s)
   unfolding floodingIteration checkSerialIteration serialPass checkPass
   keep-iteration Flooding prior gamma s z =
-      keep-pass (computeBias prior gamma (checkPass g alpha syndrome order s .posterior)) (checkPass g alpha syndrome order s) (g .mechanisms)
-      (keeps (updateCheck g alpha syndrome) (g .checks) (Sized g) (FreeIf Any) (λ a b t. t .0) (keep-check g sound alpha syndrome [])
+      keep-pass (computeBias prior gamma (checkPass byPlace g alpha syndrome order s .posterior)) (checkPass byPlace g alpha syndrome order s) (g .mechanisms)
+      (keeps (updateCheck byPlace g alpha syndrome) (g .checks) (Sized g) (FreeIf Any) (λ a b t. t .0) (keep-check g sound alpha syndrome [])
       (λ a b h t u y. sym (swap-checks g sound alpha syndrome [] b a (t .0) h u y)) order (names-below names) s z)
   keep-iteration CheckSerial prior gamma s z =
       let bias = computeBias prior gamma (s .posterior) in
       let R = Apart (checkEntries g) in
-      keeps (serialCheck g alpha syndrome bias) (g .checks) (Sized g) (FreeIf R) (λ a b t. t .0) (keep-serial g sound alpha syndrome bias)
+      keeps (serialCheck byPlace g alpha syndrome bias) (g .checks) (Sized g) (FreeIf R) (λ a b t. t .0) (keep-serial g sound alpha syndrome bias)
       (λ a b h t u y. swap-serial g sound alpha syndrome bias a b (t .0) h (t .1) u y) order (names-below names) s z
 
 -- ---- a leg
 
 -- two steps that agree on good states give one leg
-leg-same : (Good : State → Type 0) (step step′ : State → State) → ((s : State) → Good s → step s ≡ step′ s) → ((s : State) → Good s → Good (step s))
+pub leg-same : (Good : State → Type 0) (step step′ : State → State) → ((s : State) → Good s → step s ≡ step′ s) → ((s : State) → Good s → Good (step s))
     → (test : List Float → Bool) (n : ℕ) (ok : Bool) (k : ℕ) (s : State) → Good s → runLeg step test n ok k s ≡ runLeg step′ test n ok k s
 leg-same Good step step′ e keep test zero ok k s z = refl
 leg-same Good step step′ e keep test (suc n) true k s z = refl
@@ -96,7 +96,7 @@ leg-same Good step step′ e keep test (suc n) false k s z =
     ∙ ap (λ t. runLeg step′ test n (test (t .posterior)) (suc k) t) (e s z)
 
 -- a leg starts with a message for each edge
-start-sized : (g : Graph) (prior posterior : List Float) → Sized g (startLeg g prior posterior)
+pub start-sized : (g : Graph) (prior posterior : List Float) → Sized g (startLeg g prior posterior)
 unfolding startLeg cleared fromVariables
 start-sized g prior posterior = record { out = length-replicate _ _; back = simp length-map }
 
@@ -108,7 +108,7 @@ inIndexOrder x = withOrder x (upto (x .graph .checks))
 
 module _ (x : Shot) (sound : Sound (x .graph)) (names : NamesOnce (x .graph .checks) (x .order)) (free : exchangeFault (x .settings .schedule) (x .graph) (x .order) ≡ Done) where
   -- one leg
-  executed-same : (r : ℕ) (posterior : List Float) → executedLeg x r posterior ≡ executedLeg (inIndexOrder x) r posterior
+  executed-same : (r : ℕ) (posterior : List Float) → executedLeg byPlace x r posterior ≡ executedLeg byPlace (inIndexOrder x) r posterior
   unfolding executedLeg stepOf
   executed-same r posterior =
       let gamma = gammaOf (x .settings) (x .gammas) (x .graph .mechanisms) (x .seed) r in
@@ -117,11 +117,11 @@ module _ (x : Shot) (sound : Sound (x .graph)) (names : NamesOnce (x .graph .che
       (satisfied (x .graph) (x .syndrome)) (iterationLimit (x .settings) r) false 0 (startLeg (x .graph) (x .prior) posterior) (start-sized (x .graph) (x .prior) posterior)
 
   -- one leg, recorded and judged
-  after-same : (r : ℕ) (run : Run) → afterLeg x r run ≡ afterLeg (inIndexOrder x) r run
+  after-same : (r : ℕ) (run : Run) → afterLeg byPlace x r run ≡ afterLeg byPlace (inIndexOrder x) r run
   unfolding afterLeg recorded
   after-same r run = rw (executed-same r (run .posterior))
 
   -- for every settings, syndrome, seed and gammas
-  pub decode-same : decodeLegs x ≡ decodeLegs (inIndexOrder x)
+  pub decode-same : decodeLegs byPlace x ≡ decodeLegs byPlace (inIndexOrder x)
   unfolding decodeLegs startRun
-  decode-same = legs-agree x (inIndexOrder x) after-same (suc (x .settings .«num_legs»)) (running (startRun x)) 0
+  decode-same = legs-agree byPlace byPlace x (inIndexOrder x) after-same (suc (x .settings .«num_legs»)) (running (startRun x)) 0

@@ -11,6 +11,7 @@ use Rattle.refusals.specs.declared.Refusal.the-variants.{OrderExchanged}
 use Rattle.refusals.specs.declared.Answer.{Answer}
 use Rattle.refusals.specs.declared.Answer.the-variants.{Done, Refused}
 use Rattle.graph_lists.specs.Graph.{Graph, checkEntries}
+use Rattle.graph_lists.specs.Messages.{byPlace}
 use Rattle.relay_settings.specs.declared.Schedule.{Schedule}
 use Rattle.relay_settings.specs.declared.Schedule.the-variants.{Flooding, CheckSerial}
 use Rattle.relay_calls.specs.declared.LegRecord.{LegRecord}
@@ -58,15 +59,15 @@ one-decode edges x l a b p q h k = let e = h ∙ sym k in (ap (λ (o : DecodeOut
 
 -- a leg of a decode repeats the step that a single iteration takes, with the leg's gammas, until the test is passed or the limit reached
 pub decode-repeats : (x : Shot) (r : ℕ) (posterior : List Float) (step : State → State)
-    → step ≡ iteration (x .settings .schedule) (x .graph) (x .settings .alpha) (x .syndrome) (x .prior) (gammaOf (x .settings) (x .gammas) (x .graph .mechanisms) (x .seed) r) (x .order)
-    → executedLeg x r posterior ≡ runLeg step (satisfied (x .graph) (x .syndrome)) (iterationLimit (x .settings) r) false 0 (startLeg (x .graph) (x .prior) posterior)
+    → step ≡ iteration (x .settings .schedule) byPlace (x .graph) (x .settings .alpha) (x .syndrome) (x .prior) (gammaOf (x .settings) (x .gammas) (x .graph .mechanisms) (x .seed) r) (x .order)
+    → executedLeg byPlace x r posterior ≡ runLeg step (satisfied (x .graph) (x .syndrome)) (iterationLimit (x .settings) r) false 0 (startLeg (x .graph) (x .prior) posterior)
 unfolding executedLeg stepOf
 decode-repeats x r posterior step e = rw e
 
 -- and that is the step of the single iteration's call, past its tests
 pub iteration-steps : (edges : ℕ) (prior : List Float) (g : Graph) (schedule : Schedule) (alpha : Float) (gamma : List Float) (syndrome order : List ℕ) (l : StepLists)
     → stepFault edges prior g alpha gamma syndrome order l ≡ Done
-    → iterationCall edges prior g schedule alpha gamma syndrome order l ≡ stepped edges g (iteration schedule g alpha syndrome prior gamma order (l .now))
+    → iterationCall edges prior g schedule alpha gamma syndrome order l ≡ stepped edges g (iteration schedule byPlace g alpha syndrome prior gamma order (l .now))
 unfolding iterationCall
 iteration-steps edges prior g schedule alpha gamma syndrome order l h = rw h
 

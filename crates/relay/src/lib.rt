@@ -51,7 +51,6 @@ pub fn iteration(
     size: graph::Size,
     priors: &[f64],
     check_var: &[u32],
-    check_message: &[u32],
     check_offset: &[u32],
     var_check: &[u32],
     var_message: &[u32],
@@ -67,7 +66,7 @@ pub fn iteration(
     bias: &mut [f64],
 ) -> Answer
     ensures { λ r.
-        let g = graph (size .checks) (size .mechanisms) (now («check_var» .entry)) (now («check_message» .entry))
+        let g = graph (size .checks) (size .mechanisms) (now («check_var» .entry))
         (now («check_offset» .entry)) (now («var_check» .entry)) (now («var_message» .entry)) (now («var_offset» .entry)) in
         let before = stepLists (state (now («c_to_v» .entry)) (now («v_to_c» .entry)) (now (posterior .entry))) (now (bias .entry)) in
         let after = stepLists (state (now («c_to_v» .exit)) (now («v_to_c» .exit)) (now (posterior .exit))) (now (bias .exit)) in
@@ -79,7 +78,6 @@ pub fn iteration(
         size,
         priors,
         check_var,
-        check_message,
         check_offset,
         var_check,
         var_message,
@@ -121,7 +119,6 @@ pub fn decode_in_order(
     size: graph::Size,
     priors: &[f64],
     check_var: &[u32],
-    check_message: &[u32],
     check_offset: &[u32],
     var_check: &[u32],
     var_message: &[u32],
@@ -143,7 +140,7 @@ pub fn decode_in_order(
     v_to_c: &mut [f64],
 ) -> Decoded
     ensures { λ r.
-        let g = graph (size .checks) (size .mechanisms) (now («check_var» .entry)) (now («check_message» .entry))
+        let g = graph (size .checks) (size .mechanisms) (now («check_var» .entry))
         (now («check_offset» .entry)) (now («var_check» .entry)) (now («var_message» .entry)) (now («var_offset» .entry)) in
         let x = shot g (now (priors .entry)) settings (now (gammas .entry)) (now (order .entry)) (now (syndrome .entry)) seed in
         let before = decodeLists (now («leg_state» .entry)) (now («leg_iterations» .entry)) (now («leg_weight» .entry)) (now (rows .entry))
@@ -158,7 +155,6 @@ pub fn decode_in_order(
         size,
         priors,
         check_var,
-        check_message,
         check_offset,
         var_check,
         var_message,
@@ -210,7 +206,6 @@ pub fn decode(
     size: graph::Size,
     priors: &[f64],
     check_var: &[u32],
-    check_message: &[u32],
     check_offset: &[u32],
     var_check: &[u32],
     var_message: &[u32],
@@ -231,7 +226,7 @@ pub fn decode(
     v_to_c: &mut [f64],
 ) -> Decoded
     ensures { λ r.
-        let g = graph (size .checks) (size .mechanisms) (now («check_var» .entry)) (now («check_message» .entry))
+        let g = graph (size .checks) (size .mechanisms) (now («check_var» .entry))
         (now («check_offset» .entry)) (now («var_check» .entry)) (now («var_message» .entry)) (now («var_offset» .entry)) in
         let x = shot g (now (priors .entry)) settings (now (gammas .entry)) [] (now (syndrome .entry)) seed in
         let before = decodeLists (now («leg_state» .entry)) (now («leg_iterations» .entry)) (now («leg_weight» .entry)) (now (rows .entry))
@@ -246,7 +241,6 @@ pub fn decode(
         size,
         priors,
         check_var,
-        check_message,
         check_offset,
         var_check,
         var_message,

@@ -1,4 +1,4 @@
--- The public calls: what the tests of a single iteration tell where none refuses, that a step reads four of the six graph lists, what the call leaves, and
+-- The public calls: what the tests of a single iteration tell where none refuses, that a step reads four of the five graph lists, what the call leaves, and
 -- what the leg lists say of a leg. Assumes nothing.
 use mathlib.Core.Path.{_≡_, refl, sym, ap, _∙_}
 use mathlib.Core.Bool.{Bool, true, false, not, _&&_, true≢false}
@@ -18,6 +18,7 @@ use Rattle.refusals.specs.declared.Answer.the-variants.{Done, Refused}
 use Rattle.refusals.specs.Tests.{isDone, unless, orElse, firstOf, unlessRefused}
 use Rattle.refusals.proofs.Tests.{done-is, or-done, unless-done}
 use Rattle.graph_lists.specs.Graph.{Graph, graph}
+use Rattle.graph_lists.specs.Messages.{Access, byPlace}
 use Rattle.graph_lists.specs.Model.{graphFault}
 use Rattle.graph_lists.proofs.GraphTests.{graph-told}
 use Rattle.graph_lists.specs.Sound.{Keys}
@@ -91,27 +92,27 @@ stepped-is edges checks mechanisms cv co vm vo s t u bias a e n m k b h l =
     let q : a ≡ stepEnd (walked checks mechanisms cv co vm vo) t = h ∙ ap (λ x. stepEnd (ofVariables x vm vo) t) k in
     rw (l, b, n, m, k, q, e)
 
--- ---- a step reads four of the six lists
+-- ---- a step reads four of the five lists
 
-module _ (checks mechanisms : ℕ) (cv cm co vc vm vo : List ℕ) (alpha : Float) (syndrome : List ℕ) (prior gamma : List Float) (order : List ℕ) where
+module _ (checks mechanisms : ℕ) (cv co vc vm vo : List ℕ) (alpha : Float) (syndrome : List ℕ) (prior gamma : List Float) (order : List ℕ) where
   -- the step of the whole graph is that of the four
   pub same-step : (schedule : Schedule)
-      → iteration schedule (walked checks mechanisms cv co vm vo) alpha syndrome prior gamma order
-      ≡ iteration schedule (graph checks mechanisms cv cm co vc vm vo) alpha syndrome prior gamma order
+      → iteration schedule byPlace (walked checks mechanisms cv co vm vo) alpha syndrome prior gamma order
+      ≡ iteration schedule byPlace (graph checks mechanisms cv co vc vm vo) alpha syndrome prior gamma order
   unfolding floodingIteration checkSerialIteration checkPass variablePass serialPass serialCheck updateCheck updateVariable
   same-step Flooding = refl
   same-step CheckSerial = refl
 
   -- and so is its end
-  same-end : (edges : ℕ) (s : State) → stepped edges (walked checks mechanisms cv co vm vo) s ≡ stepped edges (graph checks mechanisms cv cm co vc vm vo) s
+  same-end : (edges : ℕ) (s : State) → stepped edges (walked checks mechanisms cv co vm vo) s ≡ stepped edges (graph checks mechanisms cv co vc vm vo) s
   unfolding stepped stepEnd finiteFault mechanismFinite
   same-end edges s = refl
 
 -- as many checks, mechanisms and edges, however they are counted
 stepped-counted : (edges edges′ checks checks′ mechanisms mechanisms′ : ℕ) (cv co vm vo : List ℕ) (schedule : Schedule) (alpha : Float) (syndrome : List ℕ)
     (prior gamma : List Float) (order : List ℕ) (s : State) → edges ≡ edges′ → checks ≡ checks′ → mechanisms ≡ mechanisms′
-    → stepped edges (walked checks mechanisms cv co vm vo) (iteration schedule (walked checks mechanisms cv co vm vo) alpha syndrome prior gamma order s)
-    ≡ stepped edges′ (walked checks′ mechanisms′ cv co vm vo) (iteration schedule (walked checks′ mechanisms′ cv co vm vo) alpha syndrome prior gamma order s)
+    → stepped edges (walked checks mechanisms cv co vm vo) (iteration schedule byPlace (walked checks mechanisms cv co vm vo) alpha syndrome prior gamma order s)
+    ≡ stepped edges′ (walked checks′ mechanisms′ cv co vm vo) (iteration schedule byPlace (walked checks′ mechanisms′ cv co vm vo) alpha syndrome prior gamma order s)
 stepped-counted edges edges′ checks checks′ mechanisms mechanisms′ cv co vm vo schedule alpha syndrome prior gamma order s p q r = rw (p, q, r)
 
 -- ---- the single iteration
@@ -135,9 +136,9 @@ pub record Passed (edges checks mechanisms : ℕ) (cv co vm vo : List ℕ) (prio
   pub c-many : length (l .now .cToV) ≡ length cv
   pub v-many : length (l .now .vToC) ≡ length cv
 
-module _ (edges checks mechanisms : ℕ) (cv cm co vc vm vo : List ℕ) (prior : List Float) (alpha : Float) (gamma : List Float) (syndrome order : List ℕ) (l : StepLists) where
+module _ (edges checks mechanisms : ℕ) (cv co vc vm vo : List ℕ) (prior : List Float) (alpha : Float) (gamma : List Float) (syndrome order : List ℕ) (l : StepLists) where
   -- where none refuses, they tell all that the step asks
-  pub passed : (a : Answer) (b : Bool) → a ≡ stepFault edges prior (graph checks mechanisms cv cm co vc vm vo) alpha gamma syndrome order l → b ≡ isDone a
+  pub passed : (a : Answer) (b : Bool) → a ≡ stepFault edges prior (graph checks mechanisms cv co vc vm vo) alpha gamma syndrome order l → b ≡ isDone a
       → not b ≡ false → Passed edges checks mechanisms cv co vm vo prior gamma syndrome order l
   unfolding stepFault stepFits syndromeFault
   passed a b e d h =
@@ -146,13 +147,13 @@ module _ (edges checks mechanisms : ℕ) (cv cm co vc vm vo : List ℕ) (prior :
       let t3 = or-done _ _ (t2 .1) in
       let t4 = or-done _ _ (t3 .1) in
       let t5 = or-done _ _ (t4 .1) in
-      let g = graph-told edges prior (graph checks mechanisms cv cm co vc vm vo) (t1 .0) in
+      let g = graph-told edges prior (graph checks mechanisms cv co vc vm vo) (t1 .0) in
       let many = eqb-true (length syndrome) checks (unless-done _ _ (or-done _ _ (t3 .0) .0)) in
       let f1 = and-both _ _ (unless-done _ _ (t4 .0)) in
       let f2 = and-both _ _ (f1 .1) in
       let f3 = and-both _ _ (f2 .1) in
       let f4 = and-both _ _ (f3 .1) in
-      let w = graph-walks (graph checks mechanisms cv cm co vc vm vo) (g .is-graph) in
+      let w = graph-walks (graph checks mechanisms cv co vc vm vo) (g .is-graph) in
       record {
         edges-many = g .long .check-var;
         checks-many = many;
@@ -169,37 +170,38 @@ module _ (edges checks mechanisms : ℕ) (cv cm co vc vm vo : List ℕ) (prior :
 
   module _ (schedule : Schedule) where
     -- a call that is refused
-    pub iteration-refused : (a : Answer) (b : Bool) → a ≡ stepFault edges prior (graph checks mechanisms cv cm co vc vm vo) alpha gamma syndrome order l
+    pub iteration-refused : (a : Answer) (b : Bool) → a ≡ stepFault edges prior (graph checks mechanisms cv co vc vm vo) alpha gamma syndrome order l
         → b ≡ isDone a → not b ≡ true
-        → stepOutcome a l ≡ iterationCall edges prior (graph checks mechanisms cv cm co vc vm vo) schedule alpha gamma syndrome order l
+        → stepOutcome a l ≡ iterationCall edges prior (graph checks mechanisms cv co vc vm vo) schedule alpha gamma syndrome order l
     unfolding iterationCall
     iteration-refused a b e d h = rw (← e) (leaves a _ l (sym d ∙ not-true b h))
 
     -- one that is not
-    pub iteration-ran : (a : Answer) (b : Bool) (o : StepOutcome) → a ≡ stepFault edges prior (graph checks mechanisms cv cm co vc vm vo) alpha gamma syndrome order l
+    pub iteration-ran : (a : Answer) (b : Bool) (o : StepOutcome) → a ≡ stepFault edges prior (graph checks mechanisms cv co vc vm vo) alpha gamma syndrome order l
         → b ≡ isDone a → not b ≡ false
         → o ≡ stepped (length cv) (walked (length syndrome) (length prior) cv co vm vo)
-        (iteration schedule (walked (length syndrome) (length prior) cv co vm vo) alpha syndrome prior gamma order (l .now))
-        → o ≡ iterationCall edges prior (graph checks mechanisms cv cm co vc vm vo) schedule alpha gamma syndrome order l
+        (iteration schedule byPlace (walked (length syndrome) (length prior) cv co vm vo) alpha syndrome prior gamma order (l .now))
+        → o ≡ iterationCall edges prior (graph checks mechanisms cv co vc vm vo) schedule alpha gamma syndrome order l
     unfolding iterationCall
     iteration-ran a b o e d h q =
         let t = passed a b e d h in
-        let done : stepFault edges prior (graph checks mechanisms cv cm co vc vm vo) alpha gamma syndrome order l ≡ Done = sym e ∙ done-is a (sym d ∙ not-false b h) in
+        let done : stepFault edges prior (graph checks mechanisms cv co vc vm vo) alpha gamma syndrome order l ≡ Done = sym e ∙ done-is a (sym d ∙ not-false b h) in
         rw done
         (q
         ∙ stepped-counted _ _ _ _ _ _ cv co vm vo schedule alpha syndrome prior gamma order (l .now) (t .edges-many) (t .checks-many) (t .mechanisms-many)
-        ∙ ap (λ step. stepped edges (walked checks mechanisms cv co vm vo) (step (l .now))) (same-step checks mechanisms cv cm co vc vm vo alpha syndrome prior gamma order schedule)
-        ∙ same-end checks mechanisms cv cm co vc vm vo alpha syndrome prior gamma order edges _)
+        ∙ ap (λ step. stepped edges (walked checks mechanisms cv co vm vo) (step (l .now))) (same-step checks mechanisms cv co vc vm vo alpha syndrome prior gamma order schedule)
+        ∙ same-end checks mechanisms cv co vc vm vo alpha syndrome prior gamma order edges _)
 
 -- ---- the legs
 
--- two shots each of whose legs is recorded and judged alike end alike
-pub legs-agree : (x y : Shot) → ((r : ℕ) (run : Run) → afterLeg x r run ≡ afterLeg y r run) → (n : ℕ) (p : Progress) (r : ℕ) → legsFrom x n p r ≡ legsFrom y n p r
+-- two shots each of whose legs is recorded and judged alike end alike, however the messages of a check are had in either
+pub legs-agree : (h k : Access) (x y : Shot) → ((r : ℕ) (run : Run) → afterLeg h x r run ≡ afterLeg k y r run)
+    → (n : ℕ) (p : Progress) (r : ℕ) → legsFrom h x n p r ≡ legsFrom k y n p r
 unfolding legsFrom
-legs-agree x y e zero (running run) r = refl
-legs-agree x y e zero (finished f) r = refl
-legs-agree x y e (suc n) (running run) r = legs-agree x y e n (afterLeg x r run) (suc r) ∙ ap (λ p. legsFrom y n p (suc r)) (e r run)
-legs-agree x y e (suc n) (finished f) r = refl
+legs-agree h k x y e zero (running run) r = refl
+legs-agree h k x y e zero (finished f) r = refl
+legs-agree h k x y e (suc n) (running run) r = legs-agree h k x y e n (afterLeg h x r run) (suc r) ∙ ap (λ p. legsFrom k y n p (suc r)) (e r run)
+legs-agree h k x y e (suc n) (finished f) r = refl
 
 -- ---- a leg's record
 

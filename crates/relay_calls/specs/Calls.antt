@@ -14,6 +14,7 @@ use Rattle.refusals.specs.declared.Answer.{Answer}
 use Rattle.refusals.specs.declared.Answer.the-variants.{Done, Refused}
 use Rattle.refusals.specs.Tests.{unless, orElse, firstOf, unlessRefused}
 use Rattle.graph_lists.specs.Graph.{Graph, varEntries}
+use Rattle.graph_lists.specs.Messages.{Access, byPlace}
 use Rattle.graph_lists.specs.Model.{graphFault}
 use Rattle.relay_settings.specs.declared.Schedule.{Schedule}
 use Rattle.relay_calls.specs.declared.Decoded.{Decoded}
@@ -68,14 +69,17 @@ allFinite xs = every (length xs) (finiteAt xs)
 unfoldable pub stateFinite : List Float → State → Bool
 stateFinite gamma s = allFinite (s .cToV) && (allFinite (s .vToC) && (allFinite (s .posterior) && allFinite gamma))
 
--- the tests of `iteration`: 1, 2, 4, 7, 10, 20, 21, 22, 23, 25
-unfoldable pub stepFault : ℕ → List Float → Graph → Float → List Float → List ℕ → List ℕ → StepLists → Answer
-stepFault edges prior g alpha gamma syndrome order l =
-    orElse (graphFault edges prior g)
-    (orElse (unless (alphaGood alpha) BadAlpha)
+-- the tests of `iteration` behind those of the graph: 10, 20, 21, 22, 23, 25
+abbrev pub stepRest : ℕ → Graph → Float → List Float → List ℕ → List ℕ → StepLists → Answer
+stepRest edges g alpha gamma syndrome order l =
+    orElse (unless (alphaGood alpha) BadAlpha)
     (orElse (syndromeFault (g .checks) syndrome)
     (orElse (unless (stepFits edges g gamma l) LentListLength)
-    (orElse (namesFault (g .checks) order) (unless (stateFinite gamma (l .now)) StateNotFinite)))))
+    (orElse (namesFault (g .checks) order) (unless (stateFinite gamma (l .now)) StateNotFinite))))
+
+-- the tests of `iteration`: 1, 2, 4, 7, 10, 20, 21, 22, 23, 25
+unfoldable pub stepFault : ℕ → List Float → Graph → Float → List Float → List ℕ → List ℕ → StepLists → Answer
+stepFault edges prior g alpha gamma syndrome order l = orElse (graphFault edges prior g) (stepRest edges g alpha gamma syndrome order l)
 
 -- both messages that the i-th of these entries names are finite
 unfoldable pub messageFinite : State → List ℕ → ℕ → Bool
@@ -105,11 +109,16 @@ abbrev pub afterStepTests : Answer → StepOutcome → StepLists → StepOutcome
 afterStepTests Done o l = o
 afterStepTests (Refused r) o l = stepOutcome (Refused r) l
 
+-- a call whose tests answer `tested`, with a check's messages had so
+abbrev pub iterationBy : Access → Answer → ℕ → List Float → Graph → Schedule → Float → List Float → List ℕ → List ℕ → StepLists → StepOutcome
+iterationBy had tested edges prior g schedule alpha gamma syndrome order l =
+    let o = stepped edges g (iteration schedule had g alpha syndrome prior gamma order (l .now)) in
+    afterStepTests tested o l
+
 -- `iteration`: one step of the schedule in the order given
 unfoldable pub iterationCall : ℕ → List Float → Graph → Schedule → Float → List Float → List ℕ → List ℕ → StepLists → StepOutcome
 iterationCall edges prior g schedule alpha gamma syndrome order l =
-    let o = stepped edges g (iteration schedule g alpha syndrome prior gamma order (l .now)) in
-    afterStepTests (stepFault edges prior g alpha gamma syndrome order l) o l
+    iterationBy byPlace (stepFault edges prior g alpha gamma syndrome order l) edges prior g schedule alpha gamma syndrome order l
 
 -- ---- decode
 
@@ -164,14 +173,17 @@ decodeListsFit edges x l =
     && (eqb (length (l .gamma)) mechanisms
     && (eqb (length (l .bias)) mechanisms && (eqb (length (l .cToV)) edges && eqb (length (l .vToC)) edges))))))))
 
--- the tests of a decode: 1, 2, 4, 7, 10 to 24
-unfoldable pub decodeFault : ℕ → Shot → DecodeLists → Answer
-decodeFault edges x l =
-    orElse (graphFault edges (x .prior) (x .graph))
-    (orElse (settingsFault (x .settings) (x .graph .mechanisms) (x .gammas))
+-- the tests of a decode behind those of the graph: 10 to 24
+abbrev pub decodeRest : ℕ → Shot → DecodeLists → Answer
+decodeRest edges x l =
+    orElse (settingsFault (x .settings) (x .graph .mechanisms) (x .gammas))
     (orElse (syndromeFault (x .graph .checks) (x .syndrome))
     (orElse (unless (decodeListsFit edges x l) LentListLength)
-    (orElse (namesFault (x .graph .checks) (x .order)) (exchangeFault (x .settings .schedule) (x .graph) (x .order))))))
+    (orElse (namesFault (x .graph .checks) (x .order)) (exchangeFault (x .settings .schedule) (x .graph) (x .order)))))
+
+-- the tests of a decode: 1, 2, 4, 7, 10 to 24
+unfoldable pub decodeFault : ℕ → Shot → DecodeLists → Answer
+decodeFault edges x l = orElse (graphFault edges (x .prior) (x .graph)) (decodeRest edges x l)
 
 -- what a run answers
 abbrev pub answered : Run → Option Float → Decoded
@@ -224,9 +236,13 @@ abbrev pub afterDecodeTests : Answer → DecodeOutcome → DecodeLists → Decod
 afterDecodeTests Done o l = o
 afterDecodeTests (Refused r) o l = decodeOutcome (Decoded.Refused r) l
 
+-- a call whose tests answer `tested`, with a check's messages had so
+abbrev pub decodeBy : Access → Answer → ℕ → Shot → DecodeLists → DecodeOutcome
+decodeBy had tested edges x l = let o = afterLegs edges x (decodeLegs had x) l in afterDecodeTests tested o l
+
 -- `decode_in_order`: the checks in the order that the shot has
 unfoldable pub decodeInOrder : ℕ → Shot → DecodeLists → DecodeOutcome
-decodeInOrder edges x l = let o = afterLegs edges x (decodeLegs x) l in afterDecodeTests (decodeFault edges x l) o l
+decodeInOrder edges x l = decodeBy byPlace (decodeFault edges x l) edges x l
 
 -- a shot in another order
 abbrev pub withOrder : Shot → List ℕ → Shot

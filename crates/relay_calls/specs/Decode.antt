@@ -11,7 +11,7 @@ use Rattle.refusals.specs.declared.Refusal.{Refusal}
 use Rattle.refusals.specs.declared.Answer.{Answer}
 use Rattle.refusals.specs.declared.Answer.the-variants.{Done, Refused}
 use Rattle.graph_lists.specs.Graph.{Graph}
-use Rattle.graph_lists.specs.Messages.{posteriorFault}
+use Rattle.graph_lists.specs.Messages.{Access, posteriorFault}
 use Rattle.relay_settings.specs.declared.Settings.{Settings}
 use Rattle.relay_step.specs.Step.{State, iteration}
 use Rattle.relay_step.specs.Leg.{Leg, startLeg, runLeg, satisfied, hardDecision, correctionWeight}
@@ -34,7 +34,7 @@ abbrev pub shot : Graph → List Float → Settings → List Float → List ℕ 
 shot g prior settings gammas order syndrome seed =
     record { graph = g; prior = prior; settings = settings; gammas = gammas; order = order; syndrome = syndrome; seed = seed }
 
--- ---- one leg
+-- ---- one leg. `had` says how a check's messages are had out of all
 
 -- `iteration_limit`
 unfoldable pub iterationLimit : Settings → ℕ → ℕ
@@ -42,16 +42,16 @@ iterationLimit t zero = t .«pre_iterations»
 iterationLimit t (suc r) = t .«leg_iterations»
 
 -- one iteration of the leg r: the public single iteration's step, with the leg's gammas
-unfoldable pub stepOf : Shot → ℕ → State → State
-stepOf x r =
-    iteration (x .settings .schedule) (x .graph) (x .settings .alpha) (x .syndrome) (x .prior)
+unfoldable pub stepOf : Access → Shot → ℕ → State → State
+stepOf had x r =
+    iteration (x .settings .schedule) had (x .graph) (x .settings .alpha) (x .syndrome) (x .prior)
     (gammaOf (x .settings) (x .gammas) (x .graph .mechanisms) (x .seed) r)
     (x .order)
 
 -- the leg r, from the posterior that the legs before it left
-unfoldable pub executedLeg : Shot → ℕ → List Float → Leg
-executedLeg x r posterior =
-    runLeg (stepOf x r) (satisfied (x .graph) (x .syndrome)) (iterationLimit (x .settings) r) false 0 (startLeg (x .graph) (x .prior) posterior)
+unfoldable pub executedLeg : Access → Shot → ℕ → List Float → Leg
+executedLeg had x r posterior =
+    runLeg (stepOf had x r) (satisfied (x .graph) (x .syndrome)) (iterationLimit (x .settings) r) false 0 (startLeg (x .graph) (x .prior) posterior)
 
 -- ---- between legs
 
@@ -136,21 +136,21 @@ legJudged Done true run = finished (decoded run)
 legJudged Done false run = running run
 
 -- the leg r, recorded and judged
-unfoldable pub afterLeg : Shot → ℕ → Run → Progress
-afterLeg x r before =
-    let run = recorded x before r (executedLeg x r (before .posterior)) in
+unfoldable pub afterLeg : Access → Shot → ℕ → Run → Progress
+afterLeg had x r before =
+    let run = recorded x before r (executedLeg had x r (before .posterior)) in
     legJudged (posteriorFault (x .graph) (run .posterior)) (leb (x .settings .«stop_after_converged») (run .numConverged)) run
 
 -- n legs to go, from the leg r on
-unfoldable pub legsFrom : Shot → ℕ → Progress → ℕ → Ended
-legsFrom x zero (running run) r = decoded run
-legsFrom x zero (finished e) r = e
-legsFrom x (suc n) (running run) r = legsFrom x n (afterLeg x r run) (suc r)
-legsFrom x (suc n) (finished e) r = e
+unfoldable pub legsFrom : Access → Shot → ℕ → Progress → ℕ → Ended
+legsFrom had x zero (running run) r = decoded run
+legsFrom had x zero (finished e) r = e
+legsFrom had x (suc n) (running run) r = legsFrom had x n (afterLeg had x r run) (suc r)
+legsFrom had x (suc n) (finished e) r = e
 
 -- all legs, from leg zero
-unfoldable pub decodeLegs : Shot → Ended
-decodeLegs x = legsFrom x (suc (x .settings .«num_legs»)) (running (startRun x)) 0
+unfoldable pub decodeLegs : Access → Shot → Ended
+decodeLegs had x = legsFrom had x (suc (x .settings .«num_legs»)) (running (startRun x)) 0
 
 -- the least weighty correction, or without convergence the last hard decision
 abbrev pub correctionOf : Run → Option Float → List ℕ

@@ -4,6 +4,7 @@ ghost use mathlib.Core.Path.{_≡_};
 ghost use mathlib.Core.List.{[]};
 ghost use Prim.Native.Nat.{_<_};
 ghost use lib.ListN.{length, replicate};
+ghost use Rattle.graph_lists.specs.Messages.{byPlace};
 ghost use Rattle.numbers.specs.Floats.{zero⁺};
 ghost use Rattle.numbers.specs.Loops.{every};
 ghost use Rattle.refusals.specs.Tests.{unlessRefused};
@@ -148,7 +149,7 @@ pub fn stepped(
         let after = stepLists (state (now («c_to_v» .exit)) (now («v_to_c» .exit)) (now (posterior .exit))) (now (bias .exit)) in
         ⌜ stepOutcome r after
         ≡ steppedOf (length (now («check_var» .entry))) g
-        (iteration schedule g alpha (now (syndrome .entry)) (now (priors .entry)) (now (gamma .entry)) (now (order .entry)) before) ⌝ }
+        (iteration schedule byPlace g alpha (now (syndrome .entry)) (now (priors .entry)) (now (gamma .entry)) (now (order .entry)) before) ⌝ }
 {
     step(
         schedule,

@@ -157,7 +157,6 @@ pub fn fault(
     size: graph::Size,
     priors: &[f64],
     check_var: &[u32],
-    check_message: &[u32],
     check_offset: &[u32],
     var_check: &[u32],
     var_message: &[u32],
@@ -172,7 +171,7 @@ pub fn fault(
     bias: &[f64],
 ) -> Answer
     ensures { λ r.
-        let g = graph (size .checks) (size .mechanisms) (now («check_var» .entry)) (now («check_message» .entry))
+        let g = graph (size .checks) (size .mechanisms) (now («check_var» .entry))
         (now («check_offset» .entry)) (now («var_check» .entry)) (now («var_message» .entry)) (now («var_offset» .entry)) in
         let before = stepLists (state (now («c_to_v» .entry)) (now («v_to_c» .entry)) (now (posterior .entry))) (now (bias .entry)) in
         ⌜ r
@@ -182,7 +181,6 @@ pub fn fault(
         size,
         priors,
         check_var,
-        check_message,
         check_offset,
         var_check,
         var_message,

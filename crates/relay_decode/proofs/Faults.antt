@@ -17,6 +17,7 @@ use Rattle.refusals.specs.declared.Answer.the-variants.{Done, Refused}
 use Rattle.refusals.specs.Tests.{isDone, unless, orElse}
 use Rattle.refusals.proofs.Tests.{done-is, or-first, or-second, or-done, unless-done}
 use Rattle.graph_lists.specs.Graph.{Graph, graph}
+use Rattle.graph_lists.specs.Messages.{byPlace}
 use Rattle.graph_lists.specs.Model.{graphFault}
 use Rattle.graph_lists.proofs.GraphTests.{graph-told}
 use Rattle.graph_lists.specs.Sound.{Offsets, Keys}
@@ -170,10 +171,10 @@ pub record Passed (edges checks mechanisms : ℕ) (t : Settings) (flat : List Fl
   pub mechanisms-many : length prior ≡ mechanisms
   pub checks-few : checks ≤ 65536
 
-module _ (edges checks mechanisms : ℕ) (t : Settings) (flat : List Float) (seed : ℕ) (syndrome : List ℕ) (prior : List Float) (cv cm co vc vm vo : List ℕ) where
+module _ (edges checks mechanisms : ℕ) (t : Settings) (flat : List Float) (seed : ℕ) (syndrome : List ℕ) (prior : List Float) (cv co vc vm vo : List ℕ) where
   -- the shot, in any order
   abbrev X : List ℕ → Shot
-  X o = whole t flat seed syndrome prior cv cm co vc vm vo o checks mechanisms
+  X o = whole t flat seed syndrome prior cv co vc vm vo o checks mechanisms
 
   module _ (order : List ℕ) (l : DecodeLists) where
     -- read off the tests of both calls, with an order that names checks
@@ -183,10 +184,10 @@ module _ (edges checks mechanisms : ℕ) (t : Settings) (flat : List Float) (see
         let t1 = or-done _ _ h in
         let t2 = or-done _ _ (t1 .1) in
         let t3 = or-done _ _ (t2 .1) in
-        let g = graph-told edges prior (graph checks mechanisms cv cm co vc vm vo) (t1 .0) in
+        let g = graph-told edges prior (graph checks mechanisms cv co vc vm vo) (t1 .0) in
         let s = settings-told t mechanisms flat (t2 .0) in
         let many = eqb-true (length syndrome) checks (unless-done _ _ (or-done _ _ (t3 .0) .0)) in
-        let w = graph-walks (graph checks mechanisms cv cm co vc vm vo) (g .is-graph) in
+        let w = graph-walks (graph checks mechanisms cv co vc vm vo) (g .is-graph) in
         let p = g .priors-many in
         let f1 = and-both _ _ (unless-done _ _ (t3 .1)) in
         let f2 = and-both _ _ (f1 .1) in
@@ -244,8 +245,8 @@ module _ (edges checks mechanisms : ℕ) (t : Settings) (flat : List Float) (see
         → (checks ≤ 65536) × (Offsets checks (length cv) co × Keys 65536 cv)
     unfolding shotFault
     order-asks a b e d h =
-        let g = graph-told edges prior (graph checks mechanisms cv cm co vc vm vo) (or-done _ _ (sym e ∙ done-is a (sym d ∙ not-false b h)) .0) in
-        let w = graph-walks (graph checks mechanisms cv cm co vc vm vo) (g .is-graph) .0 in
+        let g = graph-told edges prior (graph checks mechanisms cv co vc vm vo) (or-done _ _ (sym e ∙ done-is a (sym d ∙ not-false b h)) .0) in
+        let w = graph-walks (graph checks mechanisms cv co vc vm vo) (g .is-graph) .0 in
         (g .few .checks-few, (w .parts, record { small = λ k i. let q : getD cv k 0 < mechanisms = w .named .small k i in omega (arith, q, g .few .mechanisms-few) }))
 
     -- a shot that is refused before them
@@ -260,12 +261,12 @@ module _ (edges checks mechanisms : ℕ) (t : Settings) (flat : List Float) (see
     fault-after a r b e d h q =
         q ∙ ap (orElse (namesFault checks order)) (exchange-whole (t .schedule)) ∙ sym (fault-joined edges (X order) l ∙ or-second _ _ (sym e ∙ done-is a (sym d ∙ not-false b h)))
       where
-        exchange-whole : (schedule : Schedule) → exchangeFault schedule (ofChecks checks cv co) order ≡ exchangeFault schedule (graph checks mechanisms cv cm co vc vm vo) order
+        exchange-whole : (schedule : Schedule) → exchangeFault schedule (ofChecks checks cv co) order ≡ exchangeFault schedule (graph checks mechanisms cv co vc vm vo) order
         exchange-whole Flooding = refl
         exchange-whole CheckSerial = refl
 
     -- the tests do not look at the seed
-    pub fault-seed : decodeFault edges (whole t flat 0 syndrome prior cv cm co vc vm vo order checks mechanisms) l ≡ decodeFault edges (X order) l
+    pub fault-seed : decodeFault edges (whole t flat 0 syndrome prior cv co vc vm vo order checks mechanisms) l ≡ decodeFault edges (X order) l
     unfolding decodeFault decodeListsFit
     fault-seed = refl
 
@@ -285,25 +286,25 @@ module _ (edges checks mechanisms : ℕ) (t : Settings) (flat : List Float) (see
 
     -- let through: what the legs leave
     pub in-order-ran : (a : Answer) (o : DecodeOutcome) → a ≡ decodeFault edges (X order) l → a ≡ Done
-        → o ≡ afterLegs (length cv) (shotOf t flat seed syndrome prior cv co vm vo order) (decodeLegs (shotOf t flat seed syndrome prior cv co vm vo order)) l
+        → o ≡ afterLegs (length cv) (shotOf t flat seed syndrome prior cv co vm vo order) (decodeLegs byPlace (shotOf t flat seed syndrome prior cv co vm vo order)) l
         → o ≡ decodeInOrder edges (X order) l
     unfolding decodeInOrder
     in-order-ran a o e d q =
         let w = in-order-told a e d in
-        rw (sym e ∙ d) (legs-read-four t flat seed syndrome prior cv cm co vc vm vo order edges (length cv) checks mechanisms l o (w .edges-many) (w .checks-many) (w .mechanisms-many) q)
+        rw (sym e ∙ d) (legs-read-four t flat seed syndrome prior cv co vc vm vo order edges (length cv) checks mechanisms l o (w .edges-many) (w .checks-many) (w .mechanisms-many) q)
 
   -- ---- in index order
 
   module _ (l : DecodeLists) where
     -- the tests do not look at the seed
-    pub shot-seed : shotFault edges (whole t flat 0 syndrome prior cv cm co vc vm vo [] checks mechanisms) l ≡ shotFault edges (X []) l
+    pub shot-seed : shotFault edges (whole t flat 0 syndrome prior cv co vc vm vo [] checks mechanisms) l ≡ shotFault edges (X []) l
     unfolding shotFault decodeListsFit
     shot-seed = refl
 
     -- the index order passes 23 and 24
     index-fault : shotFault edges (X []) l ≡ decodeFault edges (X (upto checks)) l
     unfolding shotFault decodeListsFit
-    index-fault = sym (fault-joined edges (X (upto checks)) l ∙ ap (orElse _) (index-passes (t .schedule) (graph checks mechanisms cv cm co vc vm vo)) ∙ or-none _)
+    index-fault = sym (fault-joined edges (X (upto checks)) l ∙ ap (orElse _) (index-passes (t .schedule) (graph checks mechanisms cv co vc vm vo)) ∙ or-none _)
 
     -- refused by a test
     pub index-refused : (a : Answer) (r : Refusal) → a ≡ shotFault edges (X []) l → a ≡ Refused r → decodeOutcome (Decoded.Refused r) l ≡ decode edges (X []) l
@@ -324,7 +325,7 @@ module _ (edges checks mechanisms : ℕ) (t : Settings) (flat : List Float) (see
 
     -- let through: what the legs leave
     pub index-ran : (a : Answer) (o : DecodeOutcome) → a ≡ shotFault edges (X []) l → a ≡ Done
-        → o ≡ afterLegs (length cv) (shotOf t flat seed syndrome prior cv co vm vo (upto (length syndrome))) (decodeLegs (shotOf t flat seed syndrome prior cv co vm vo (upto (length syndrome)))) l
+        → o ≡ afterLegs (length cv) (shotOf t flat seed syndrome prior cv co vm vo (upto (length syndrome))) (decodeLegs byPlace (shotOf t flat seed syndrome prior cv co vm vo (upto (length syndrome)))) l
         → o ≡ decode edges (X []) l
     unfolding decode
     index-ran a o e d q =

@@ -13,7 +13,7 @@ use lib.ListN.{length, getD, replicate}
 use Rattle.refusals.specs.declared.Answer.{Answer}
 use Rattle.refusals.specs.declared.Answer.the-variants.{Done, Refused}
 use Rattle.refusals.specs.Tests.{isDone, firstOf}
-use Rattle.graph_lists.specs.Messages.{valueFault, posteriorFault}
+use Rattle.graph_lists.specs.Messages.{byPlace, valueFault, posteriorFault}
 use Rattle.relay_calls.specs.declared.Decoded.{Decoded}
 use Rattle.relay_step.specs.Leg.{Leg, hardDecision, correctionWeight}
 use Rattle.relay_calls.specs.Decode.{Shot, Run, Ended, decoded, refused, Progress, running, finished, isNoneOr, executedLeg, startRun, recorded, legJudged, afterLeg, legsFrom, decodeLegs, correctionOf}
@@ -71,7 +71,7 @@ judged-on Done true run h = absurd (true≢false h)
 judged-on Done false run h = refl
 
 -- nothing follows the end
-legs-finished : (x : Shot) (n : ℕ) (e : Ended) (r : ℕ) → legsFrom x n (finished e) r ≡ e
+legs-finished : (x : Shot) (n : ℕ) (e : Ended) (r : ℕ) → legsFrom byPlace x n (finished e) r ≡ e
 unfolding legsFrom
 legs-finished x zero e r = refl
 legs-finished x (suc n) e r = refl
@@ -84,13 +84,13 @@ module _ (x : Shot) where
   -- before the leg r, some run is reached of which this is kept
   pub record Reached (r : ℕ) (k : Kept) : Type 0 where
     pub run : Run
-    pub ahead : legsFrom x (many - r) (running run) r ≡ decodeLegs x
+    pub ahead : legsFrom byPlace x (many - r) (running run) r ≡ decodeLegs byPlace x
     pub is : keptOf run ≡ k
 
   -- and after it, not yet judged
   pub record Turned (r : ℕ) (k : Kept) : Type 0 where
     pub run : Run
-    pub ahead : legsFrom x (many - suc r) (legJudged (posteriorFault (x .graph) (k .posterior)) (leb (x .settings .«stop_after_converged») (k .numConverged)) run) (suc r) ≡ decodeLegs x
+    pub ahead : legsFrom byPlace x (many - suc r) (legJudged (posteriorFault (x .graph) (k .posterior)) (leb (x .settings .«stop_after_converged») (k .numConverged)) run) (suc r) ≡ decodeLegs byPlace x
     pub is : keptOf run ≡ k
 
   -- what is answered at the end e, and left
@@ -99,18 +99,18 @@ module _ (x : Shot) where
 
   module _ (r : ℕ) (k′ : Kept) where
     -- the leg r
-    pub turned : (k : Kept) → Reached r k → r < many → k′ ≡ keptAfter x k r (executedLeg x r (k .posterior)) → Turned r k′
+    pub turned : (k : Kept) → Reached r k → r < many → k′ ≡ keptAfter x k r (executedLeg byPlace x r (k .posterior)) → Turned r k′
     unfolding legsFrom afterLeg
     turned k s h e =
-        let l = executedLeg x r (s .run .posterior) in
+        let l = executedLeg byPlace x r (s .run .posterior) in
         let new = recorded x (s .run) r l in
-        let same : keptOf new ≡ k′ = kept-recorded x (s .run) r l ∙ ap (λ (z : Kept). keptAfter x z r (executedLeg x r (z .posterior))) (s .is) ∙ sym e in
+        let same : keptOf new ≡ k′ = kept-recorded x (s .run) r l ∙ ap (λ (z : Kept). keptAfter x z r (executedLeg byPlace x r (z .posterior))) (s .is) ∙ sym e in
         let left : many - r ≡ suc (many - suc r) = omega arith in
-        let whole : legsFrom x (many - suc r) (afterLeg x r (s .run)) (suc r) ≡ decodeLegs x = ap (λ n. legsFrom x n (running (s .run)) r) (sym left) ∙ s .ahead in
+        let whole : legsFrom byPlace x (many - suc r) (afterLeg byPlace x r (s .run)) (suc r) ≡ decodeLegs byPlace x = ap (λ n. legsFrom byPlace x n (running (s .run)) r) (sym left) ∙ s .ahead in
         record {
           run = new;
           ahead =
-              ap (λ (z : Kept). legsFrom x (many - suc r) (legJudged (posteriorFault (x .graph) (z .posterior)) (leb (x .settings .«stop_after_converged») (z .numConverged)) new) (suc r)) (sym same)
+              ap (λ (z : Kept). legsFrom byPlace x (many - suc r) (legJudged (posteriorFault (x .graph) (z .posterior)) (leb (x .settings .«stop_after_converged») (z .numConverged)) new) (suc r)) (sym same)
               ∙ whole;
           is = same;
         }
@@ -121,18 +121,18 @@ module _ (x : Shot) where
       abbrev verdict : Answer → Progress
       verdict z = legJudged z (leb (x .settings .«stop_after_converged») (k′ .numConverged)) (s .run)
 
-      ahead-by : legsFrom x (many - suc r) (verdict a) (suc r) ≡ decodeLegs x
-      ahead-by = ap (λ z. legsFrom x (many - suc r) (verdict z) (suc r)) e ∙ s .ahead
+      ahead-by : legsFrom byPlace x (many - suc r) (verdict a) (suc r) ≡ decodeLegs byPlace x
+      ahead-by = ap (λ z. legsFrom byPlace x (many - suc r) (verdict z) (suc r)) e ∙ s .ahead
 
       -- on to the next leg
       reached-on : b ≡ false → Reached (suc r) k′
-      reached-on h = record { run = s .run; ahead = ap (λ z. legsFrom x (many - suc r) z (suc r)) (sym (judged-on a _ (s .run) (sym d ∙ h))) ∙ ahead-by; is = s .is }
+      reached-on h = record { run = s .run; ahead = ap (λ z. legsFrom byPlace x (many - suc r) z (suc r)) (sym (judged-on a _ (s .run) (sym d ∙ h))) ∙ ahead-by; is = s .is }
 
       -- or no leg follows
-      ended-at : b ≡ true → endOf a (s .run) ≡ decodeLegs x
+      ended-at : b ≡ true → endOf a (s .run) ≡ decodeLegs byPlace x
       ended-at h =
           sym (legs-finished x (many - suc r) (endOf a (s .run)) (suc r))
-          ∙ ap (λ z. legsFrom x (many - suc r) z (suc r)) (sym (judged-end a _ (s .run) (sym d ∙ h)))
+          ∙ ap (λ z. legsFrom byPlace x (many - suc r) z (suc r)) (sym (judged-end a _ (s .run) (sym d ∙ h)))
           ∙ ahead-by
 
   -- what an end says of a run of which this is kept
@@ -157,17 +157,17 @@ module _ (x : Shot) where
         }
 
     -- a turn of the loop
-    pub run-on : (r : ℕ) (k : Kept) → Reached r k → r < many → kept best num total (suc r) ss is ws rows cor p ≡ keptAfter x k r (executedLeg x r (k .posterior))
+    pub run-on : (r : ℕ) (k : Kept) → Reached r k → r < many → kept best num total (suc r) ss is ws rows cor p ≡ keptAfter x k r (executedLeg byPlace x r (k .posterior))
         → (a : Answer) (b : Bool) → length p ≡ x .graph .mechanisms → a ≡ firstOf (length p) (valueFault p)
         → b ≡ (not (isDone a) || leb (x .settings .«stop_after_converged») num) → b ≡ false → Reached (r + 1) (kept best num total (r + 1) ss is ws rows cor p)
     unfolding posteriorFault
     run-on r k s l e a b m f d h = rw add-one (reached-on r _ (turned r _ k s l e) a b (f ∙ ap (λ n. firstOf n (valueFault p)) m) d h)
 
     -- the way out after a leg
-    pub run-ended : (r : ℕ) (k : Kept) → Reached r k → r < many → kept best num total (suc r) ss is ws rows cor p ≡ keptAfter x k r (executedLeg x r (k .posterior))
+    pub run-ended : (r : ℕ) (k : Kept) → Reached r k → r < many → kept best num total (suc r) ss is ws rows cor p ≡ keptAfter x k r (executedLeg byPlace x r (k .posterior))
         → (a : Answer) (b : Bool) (c : Decoded) → length p ≡ x .graph .mechanisms → a ≡ firstOf (length p) (valueFault p)
         → b ≡ (not (isDone a) || leb (x .settings .«stop_after_converged») num) → b ≡ true → c ≡ answerBy a best (r + 1) total
-        → (c ≡ answerOf (decodeLegs x)) × (isRefused c ≡ false → results ss is ws rows cor p ≡ resultsOf x (decodeLegs x))
+        → (c ≡ answerOf (decodeLegs byPlace x)) × (isRefused c ≡ false → results ss is ws rows cor p ≡ resultsOf x (decodeLegs byPlace x))
     unfolding posteriorFault
     run-ended r k s l e a b c m f d h q =
         let t = turned r (kept best num total (suc r) ss is ws rows cor p) k s l e in
@@ -176,11 +176,11 @@ module _ (x : Shot) where
 
     -- and after all of them
     pub run-over : (r : ℕ) (c : Decoded) → Reached r (kept best num total r ss is ws rows cor p) → many ≤ r → c ≡ answerBy Done best r total
-        → (c ≡ answerOf (decodeLegs x)) × (isRefused c ≡ false → results ss is ws rows cor p ≡ resultsOf x (decodeLegs x))
+        → (c ≡ answerOf (decodeLegs byPlace x)) × (isRefused c ≡ false → results ss is ws rows cor p ≡ resultsOf x (decodeLegs byPlace x))
     unfolding legsFrom
     run-over r c s h q =
         let none-left : many - r ≡ 0 = sub-eq-zero-of-le h in
-        let end : decoded (s .run) ≡ decodeLegs x = ap (λ n. legsFrom x n (running (s .run)) r) (sym none-left) ∙ s .ahead in
+        let end : decoded (s .run) ≡ decodeLegs byPlace x = ap (λ n. legsFrom byPlace x n (running (s .run)) r) (sym none-left) ∙ s .ahead in
         ends-as _ _ _ c (kept best num total r ss is ws rows cor p) end q (ends-by Done (s .run) _ (s .is))
 
 -- ---- the rows

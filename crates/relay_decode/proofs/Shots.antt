@@ -12,6 +12,7 @@ use lib.Ieee.{Float}
 use lib.ListN.{length, replicate, take, drop}
 use lib.Seq.{length-take-le}
 use borrow.Author.Tests.{not-true, not-false}
+use Rattle.graph_lists.specs.Messages.{byPlace}
 use Rattle.numbers.specs.Floats.{zero⁺}
 use Rattle.numbers.proofs.Cases.{either}
 use Rattle.relay_settings.specs.declared.Settings.{Settings}
@@ -109,8 +110,8 @@ module _ (x : Shot) (edges : ℕ) (l : DecodeLists) (ss is : List ℕ) (ws : Lis
 module _ (t : Settings) (flat : List Float) (seed : ℕ) (syndrome : List ℕ) (prior : List Float) (cv co vm vo : List ℕ) where
   -- the same decode in an order that is the same
   pub along-order : (o o′ : List ℕ) (n : ℕ) (l : DecodeLists) (r : DecodeOutcome) → o ≡ o′
-      → r ≡ afterLegs n (shotOf t flat seed syndrome prior cv co vm vo o) (decodeLegs (shotOf t flat seed syndrome prior cv co vm vo o)) l
-      → r ≡ afterLegs n (shotOf t flat seed syndrome prior cv co vm vo o′) (decodeLegs (shotOf t flat seed syndrome prior cv co vm vo o′)) l
+      → r ≡ afterLegs n (shotOf t flat seed syndrome prior cv co vm vo o) (decodeLegs byPlace (shotOf t flat seed syndrome prior cv co vm vo o)) l
+      → r ≡ afterLegs n (shotOf t flat seed syndrome prior cv co vm vo o′) (decodeLegs byPlace (shotOf t flat seed syndrome prior cv co vm vo o′)) l
   along-order o o′ n l r e q = rw e at q
 
   -- and what it asks

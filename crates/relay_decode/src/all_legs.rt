@@ -3,6 +3,7 @@ ghost use mathlib.Core.Path.{_≡_};
 ghost use mathlib.Core.Bool.{false, cond};
 ghost use Prim.Native.Nat.{_*_, suc};
 ghost use lib.ListN.{length, replicate};
+ghost use Rattle.graph_lists.specs.Messages.{byPlace};
 ghost use Rattle.numbers.specs.Floats.{zero⁺};
 ghost use Rattle.relay_calls.specs.Decode.{decodeLegs};
 ghost use Rattle.relay_calls.specs.Calls.{decodeOutcome, afterLegs, decodeLists};
@@ -57,12 +58,12 @@ fn run_legs(
     ensures answer { λ r.
         let x = shotOf t (now (gammas .entry)) seed (now (syndrome .entry)) (now (priors .entry)) (now («check_var» .entry))
         (now («check_offset» .entry)) (now («var_message» .entry)) (now («var_offset» .entry)) (now (order .entry)) in
-        let end = decodeLegs x in
+        let end = decodeLegs byPlace x in
         ⌜ r ≡ answerOf end ⌝ }
     ensures left { λ r.
         let x = shotOf t (now (gammas .entry)) seed (now (syndrome .entry)) (now (priors .entry)) (now («check_var» .entry))
         (now («check_offset» .entry)) (now («var_message» .entry)) (now («var_offset» .entry)) (now (order .entry)) in
-        let end = decodeLegs x in
+        let end = decodeLegs byPlace x in
         ⌜ (isRefused r ≡ false
         → results (now («leg_state» .exit)) (now («leg_iterations» .exit)) (now («leg_weight» .exit)) (now (rows .exit))
         (now (correction .exit)) (now (posterior .exit))
@@ -218,12 +219,12 @@ fn run_shot(
     ensures answer { λ r.
         let x = shotOf t (now (gammas .entry)) seed (now (syndrome .entry)) (now (priors .entry)) (now («check_var» .entry))
         (now («check_offset» .entry)) (now («var_message» .entry)) (now («var_offset» .entry)) (now (order .entry)) in
-        let end = decodeLegs x in
+        let end = decodeLegs byPlace x in
         ⌜ r ≡ answerOf end ⌝ }
     ensures left { λ _.
         let x = shotOf t (now (gammas .entry)) seed (now (syndrome .entry)) (now (priors .entry)) (now («check_var» .entry))
         (now («check_offset» .entry)) (now («var_message» .entry)) (now («var_offset» .entry)) (now (order .entry)) in
-        let end = decodeLegs x in
+        let end = decodeLegs byPlace x in
         ⌜ results (now («leg_state» .exit)) (now («leg_iterations» .exit)) (now («leg_weight» .exit)) (now (rows .exit))
         (now (correction .exit)) (now (posterior .exit))
         ≡ resultsOf x end ⌝ }
@@ -306,7 +307,7 @@ pub fn decode_fronts(
         let before = decodeLists (now («leg_state» .entry)) (now («leg_iterations» .entry)) (now («leg_weight» .entry)) (now (rows .entry))
         (now (correction .entry)) (now (posterior .entry)) (now (gamma .entry)) (now (bias .entry)) (now («c_to_v» .entry))
         (now («v_to_c» .entry)) in
-        let end = decodeLegs x in
+        let end = decodeLegs byPlace x in
         let after = decodeLists (now («leg_state» .exit)) (now («leg_iterations» .exit)) (now («leg_weight» .exit)) (now (rows .exit))
         (now (correction .exit)) (now (posterior .exit)) (now (gamma .exit)) (now (bias .exit)) (now («c_to_v» .exit))
         (now («v_to_c» .exit)) in

@@ -96,7 +96,6 @@ pub fn shot_fault(
     size: graph::Size,
     priors: &[f64],
     check_var: &[u32],
-    check_message: &[u32],
     check_offset: &[u32],
     var_check: &[u32],
     var_message: &[u32],
@@ -116,7 +115,7 @@ pub fn shot_fault(
     v_to_c: &[f64],
 ) -> Answer
     ensures { λ r.
-        let g = graph (size .checks) (size .mechanisms) (now («check_var» .entry)) (now («check_message» .entry))
+        let g = graph (size .checks) (size .mechanisms) (now («check_var» .entry))
         (now («check_offset» .entry)) (now («var_check» .entry)) (now («var_message» .entry)) (now («var_offset» .entry)) in
         let x = shot g (now (priors .entry)) t (now (gammas .entry)) [] (now (syndrome .entry)) 0 in
         let before = decodeLists (now («leg_state» .entry)) (now («leg_iterations» .entry)) (now («leg_weight» .entry)) (now (rows .entry))
@@ -129,7 +128,6 @@ pub fn shot_fault(
         size,
         priors,
         check_var,
-        check_message,
         check_offset,
         var_check,
         var_message,
@@ -196,7 +194,6 @@ pub fn decode_fault(
     size: graph::Size,
     priors: &[f64],
     check_var: &[u32],
-    check_message: &[u32],
     check_offset: &[u32],
     var_check: &[u32],
     var_message: &[u32],
@@ -217,7 +214,7 @@ pub fn decode_fault(
     v_to_c: &[f64],
 ) -> Answer
     ensures { λ r.
-        let g = graph (size .checks) (size .mechanisms) (now («check_var» .entry)) (now («check_message» .entry))
+        let g = graph (size .checks) (size .mechanisms) (now («check_var» .entry))
         (now («check_offset» .entry)) (now («var_check» .entry)) (now («var_message» .entry)) (now («var_offset» .entry)) in
         let x = shot g (now (priors .entry)) t (now (gammas .entry)) (now (order .entry)) (now (syndrome .entry)) 0 in
         let before = decodeLists (now («leg_state» .entry)) (now («leg_iterations» .entry)) (now («leg_weight» .entry)) (now (rows .entry))
@@ -230,7 +227,6 @@ pub fn decode_fault(
         size,
         priors,
         check_var,
-        check_message,
         check_offset,
         var_check,
         var_message,

@@ -14,7 +14,7 @@ use Rattle.numbers.specs.Loops.{over}
 use Rattle.numbers.proofs.Cases.{last-or-before}
 use Rattle.refusals.specs.declared.Answer.{Answer}
 use Rattle.refusals.specs.declared.Answer.the-variants.{Done, Refused}
-use Rattle.graph_lists.specs.Messages.{posteriorFault}
+use Rattle.graph_lists.specs.Messages.{byPlace, posteriorFault}
 use Rattle.relay_calls.specs.declared.LegRecord.{LegRecord}
 use Rattle.relay_calls.specs.declared.LegRecord.the-variants as LegRecord
 use Rattle.relay_calls.specs.Records.{valuesOf, recordOf, legRecord}
@@ -129,7 +129,7 @@ module _ (x : Shot) where
   after-finished r h = record { is = ap (runAfter x) (sym (executed r)); within = omega (arith, executed r) }
 
   -- an end that came
-  finished-is : (n r : ℕ) (e : Ended) → legsFrom x n (finished e) r ≡ e
+  finished-is : (n r : ℕ) (e : Ended) → legsFrom byPlace x n (finished e) r ≡ e
   unfolding legsFrom
   finished-is zero r e = refl
   finished-is (suc n) r e = refl
@@ -139,8 +139,8 @@ module _ (x : Shot) where
 
   -- after a leg: `next` is told of the legs that are left
   judged-finished : (n r : ℕ) (a : Answer) (enough : Bool) (run : Run) → suc r ≤ many
-      → (legsFrom x n (running (runAfter x (suc r))) (suc r) ≡ decoded run → Finished run)
-      → legsFrom x n (legJudged a enough (runAfter x (suc r))) (suc r) ≡ decoded run → Finished run
+      → (legsFrom byPlace x n (running (runAfter x (suc r))) (suc r) ≡ decoded run → Finished run)
+      → legsFrom byPlace x n (legJudged a enough (runAfter x (suc r))) (suc r) ≡ decoded run → Finished run
   judged-finished n r (Refused q) enough run h next e = absurd (let w = finished-is n (suc r) (refused q) in let z : _≡_ {A = ℕ} 0 1 = cc in omega arith)
   judged-finished n r Done true run h next e =
       let w = finished-is n (suc r) (decoded (runAfter x (suc r))) in
@@ -149,7 +149,7 @@ module _ (x : Shot) where
   judged-finished n r Done false run h next e = next e
 
   -- n legs from the leg r on
-  legs-finished : (n r : ℕ) (run : Run) → r + n ≡ many → legsFrom x n (running (runAfter x r)) r ≡ decoded run → Finished run
+  legs-finished : (n r : ℕ) (run : Run) → r + n ≡ many → legsFrom byPlace x n (running (runAfter x r)) r ≡ decoded run → Finished run
   unfolding legsFrom afterLeg runAfter
   legs-finished zero r run h e = let s : runAfter x r ≡ run = cc in same-finished run (runAfter x r) s (after-finished r (omega arith))
   legs-finished (suc n) r run h e =
@@ -158,6 +158,6 @@ module _ (x : Shot) where
       (λ q. legs-finished n (suc r) run (omega arith) q) e
 
   -- all legs
-  pub decode-finished : (run : Run) → decodeLegs x ≡ decoded run → Finished run
+  pub decode-finished : (run : Run) → decodeLegs byPlace x ≡ decoded run → Finished run
   unfolding decodeLegs runAfter
   decode-finished run e = legs-finished many 0 run (omega arith) e

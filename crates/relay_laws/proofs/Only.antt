@@ -11,7 +11,7 @@ use Rattle.refusals.specs.declared.Answer.the-variants.{Done, Refused}
 use Rattle.refusals.specs.Refusal.{numberOf}
 use Rattle.refusals.specs.Tests.{unless, orElse, firstOf}
 use Rattle.graph_lists.specs.Graph.{Graph}
-use Rattle.graph_lists.specs.Messages.{valueFault, posteriorFault}
+use Rattle.graph_lists.specs.Messages.{byPlace, valueFault, posteriorFault}
 use Rattle.relay_calls.specs.Decode.{Shot, Run, Ended, decoded, refused, Progress, running, finished, startRun, legJudged, afterLeg, legsFrom, decodeLegs}
 
 -- an answer that refuses with this number, if it refuses
@@ -61,7 +61,7 @@ judged-fair (Refused r) enough run f = fails r (f r refl)
 judged-fair Done true run f = ends run
 judged-fair Done false run f = goes run
 
-after-fair : (x : Shot) (r : ℕ) (run : Run) → Fair (afterLeg x r run)
+after-fair : (x : Shot) (r : ℕ) (run : Run) → Fair (afterLeg byPlace x r run)
 unfolding afterLeg
 after-fair x r run = judged-fair _ _ _ (posterior-30 _ _)
 
@@ -70,15 +70,15 @@ pub data Ends : Ended → Type 0 where
   with-run : (run : Run) → Ends (decoded run)
   with-30 : (r : Refusal) → numberOf r ≡ 30 → Ends (refused r)
 
-legs-end : (x : Shot) (n : ℕ) (p : Progress) (r : ℕ) → Fair p → Ends (legsFrom x n p r)
+legs-end : (x : Shot) (n : ℕ) (p : Progress) (r : ℕ) → Fair p → Ends (legsFrom byPlace x n p r)
 unfolding legsFrom
 legs-end x zero (running run) r f = with-run run
 legs-end x zero (finished (decoded run)) r f = with-run run
 legs-end x zero (finished (refused q)) r (fails _ h) = with-30 q h
-legs-end x (suc n) (running run) r f = legs-end x n (afterLeg x r run) (suc r) (after-fair x r run)
+legs-end x (suc n) (running run) r f = legs-end x n (afterLeg byPlace x r run) (suc r) (after-fair x r run)
 legs-end x (suc n) (finished (decoded run)) r f = with-run run
 legs-end x (suc n) (finished (refused q)) r (fails _ h) = with-30 q h
 
-pub decode-ends : (x : Shot) → Ends (decodeLegs x)
+pub decode-ends : (x : Shot) → Ends (decodeLegs byPlace x)
 unfolding decodeLegs
 decode-ends x = legs-end x _ (running (startRun x)) 0 (goes (startRun x))

@@ -14,6 +14,7 @@ use Rattle.refusals.specs.declared.Answer.the-variants.{Done, Refused}
 use Rattle.refusals.specs.Tests.{unless, orElse}
 use Rattle.refusals.proofs.Tests.{or-done, or-second}
 use Rattle.graph_lists.specs.Graph.{Graph, checkEntries}
+use Rattle.graph_lists.specs.Messages.{byPlace}
 use Rattle.relay_settings.specs.declared.Schedule.{Schedule}
 use Rattle.relay_settings.specs.declared.Schedule.the-variants.{Flooding, CheckSerial}
 use Rattle.relay_orders.specs.Order.{NamesOnce, KeepsOrder, FirstLate, namesOnce, late, exchanged, namesFault, exchangeFault}
@@ -94,12 +95,12 @@ module _ (edges : ℕ) (x : Shot) (l : DecodeLists) (others : OthersPass edges x
   -- a refusal of theirs is the answer
   answer-refused : (r : Refusal) → orElse names exchange ≡ Refused r → given ≡ Decoded.Refused r
   unfolding decodeInOrder
-  answer-refused r e = ap (λ (a : Answer). afterDecodeTests a (afterLegs edges x (decodeLegs x) l) l .answer) (tests-are ∙ e)
+  answer-refused r e = ap (λ (a : Answer). afterDecodeTests a (afterLegs edges x (decodeLegs byPlace x) l) l .answer) (tests-are ∙ e)
 
   -- past them the legs answer
-  answer-passed : orElse names exchange ≡ Done → given ≡ afterLegs edges x (decodeLegs x) l .answer
+  answer-passed : orElse names exchange ≡ Done → given ≡ afterLegs edges x (decodeLegs byPlace x) l .answer
   unfolding decodeInOrder
-  answer-passed e = ap (λ (a : Answer). afterDecodeTests a (afterLegs edges x (decodeLegs x) l) l .answer) (tests-are ∙ e)
+  answer-passed e = ap (λ (a : Answer). afterDecodeTests a (afterLegs edges x (decodeLegs byPlace x) l) l .answer) (tests-are ∙ e)
 
   -- which is no refusal, or 30
   legs-answer : (e : Ended) → Ends e → (refusedWith (afterLegs edges x e l .answer) ≡ 0) ⊎ (refusedWith (afterLegs edges x e l .answer) ≡ 30)
@@ -110,7 +111,7 @@ module _ (edges : ℕ) (x : Shot) (l : DecodeLists) (others : OthersPass edges x
   passed-other : (k : ℕ) → orElse names exchange ≡ Done → refusedWith given ≡ k → (k ≡ 0 → ⊥) → (k ≡ 30 → ⊥) → ⊥
   passed-other k e h f g =
       let q = ap refusedWith (answer-passed e) in
-      ⊎-elim (λ z. f (sym h ∙ q ∙ z)) (λ z. g (sym h ∙ q ∙ z)) (legs-answer (decodeLegs x) (decode-ends x))
+      ⊎-elim (λ z. f (sym h ∙ q ∙ z)) (λ z. g (sym h ∙ q ∙ z)) (legs-answer (decodeLegs byPlace x) (decode-ends x))
 
   -- a schedule's test, by what it asks
   kept : (s : Schedule) → x .settings .schedule ≡ s → KeepsOrder (x .graph) (x .order) ⊎ (s ≡ Flooding) → exchangeFault s (x .graph) (x .order) ≡ Done

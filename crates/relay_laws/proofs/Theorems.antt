@@ -5,6 +5,7 @@ use mathlib.Core.Logic.{_↔_}
 use mathlib.Core.Option.{Option, none, some}
 use native.Mathlib.Omega.{arith}
 use lib.Ieee.{Float}
+use Rattle.graph_lists.specs.Messages.{byPlace}
 use Rattle.numbers.specs.Loops.{upto}
 use Rattle.refusals.specs.declared.Refusal.the-variants.{OrderExchanged}
 use Rattle.refusals.specs.declared.Answer.{Answer}
@@ -65,7 +66,7 @@ module _ (edges : ℕ) (x : Shot) (l : DecodeLists) where
     pub others : (r : ℕ) → summaryOf (o .answer) .executedLegs ≤ r → r ≤ x .settings .«num_legs» → readAt o r ≡ LegRecord.NotExecuted
 
   -- after a run
-  run-read : (run : Run) → decodeLegs x ≡ decoded run → LegsRead (afterLegs edges x (decoded run) l)
+  run-read : (run : Run) → decodeLegs byPlace x ≡ decoded run → LegsRead (afterLegs edges x (decoded run) l)
   unfolding leftBy
   run-read run e =
       let f = decode-finished x run e in
@@ -85,14 +86,14 @@ module _ (edges : ℕ) (x : Shot) (l : DecodeLists) where
       }
 
   -- however the legs end
-  ended-read : (e : Ended) → decodeLegs x ≡ e → summaryOf (afterLegs edges x e l .answer) .refusal ≡ Done → LegsRead (afterLegs edges x e l)
+  ended-read : (e : Ended) → decodeLegs byPlace x ≡ e → summaryOf (afterLegs edges x e l .answer) .refusal ≡ Done → LegsRead (afterLegs edges x e l)
   ended-read (decoded run) q h = run-read run q
   ended-read (refused r) q h = absurd (let z : _≡_ {A = ℕ} 0 1 = cc in omega arith)
 
   -- whatever the tests say
-  tests-read : (a : Answer) → summaryOf (afterDecodeTests a (afterLegs edges x (decodeLegs x) l) l .answer) .refusal ≡ Done
-      → LegsRead (afterDecodeTests a (afterLegs edges x (decodeLegs x) l) l)
-  tests-read Done h = ended-read (decodeLegs x) refl h
+  tests-read : (a : Answer) → summaryOf (afterDecodeTests a (afterLegs edges x (decodeLegs byPlace x) l) l .answer) .refusal ≡ Done
+      → LegsRead (afterDecodeTests a (afterLegs edges x (decodeLegs byPlace x) l) l)
+  tests-read Done h = ended-read (decodeLegs byPlace x) refl h
   tests-read (Refused r) h = absurd (let z : _≡_ {A = ℕ} 0 1 = cc in omega arith)
 
   -- `leg_record` of the leg lists that an answered decode leaves gives back each executed leg's record, and of each leg that was not executed that it was not

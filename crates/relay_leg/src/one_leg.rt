@@ -3,6 +3,7 @@ ghost use mathlib.Core.Path.{_≡_};
 ghost use mathlib.Core.List.{[]};
 ghost use Prim.Native.Nat.{_+_, _*_, _<_, _≤_, suc};
 ghost use lib.ListN.{length};
+ghost use Rattle.graph_lists.specs.Messages.{byPlace};
 ghost use Rattle.numbers.specs.Limits.{maxCount};
 ghost use Rattle.graph_lists.specs.Sound.{Keys};
 ghost use Rattle.graph_messages.specs.Needs.{walked, PerEdge};
@@ -72,7 +73,7 @@ fn execute_leg(
         let x = shotOf t (now (gammas .entry)) seed (now (syndrome .entry)) (now (priors .entry)) (now («check_var» .entry))
         (now («check_offset» .entry)) (now («var_message» .entry)) (now («var_offset» .entry)) (now (order .entry)) in
         let after = state (now («c_to_v» .exit)) (now («v_to_c» .exit)) (now (posterior .exit)) in
-        ⌜ legOf (r .converged) (r .iterations) after ≡ executedLeg x leg (now (posterior .entry)) ⌝ }
+        ⌜ legOf (r .converged) (r .iterations) after ≡ executedLeg byPlace x leg (now (posterior .entry)) ⌝ }
     ensures bits { λ _. ⌜ now (bits .exit) ≡ hardDecision (now (posterior .exit)) ⌝ }
     ensures few { λ r. ⌜ r .iterations ≤ maxCount ⌝ }
 {
@@ -139,7 +140,7 @@ fn leg_in_row(
         (now («check_offset» .entry)) (now («var_message» .entry)) (now («var_offset» .entry)) (now (order .entry)) in
         let before = kept (bestOf (tally .found) (tally .weight)) (tally .«num_converged») (tally .«total_iterations») leg
         (now («leg_state» .entry)) (now («leg_iterations» .entry)) (now («leg_weight» .entry)) [] (now (correction .entry)) [] in
-        let leg′ = executedLeg x leg (now (posterior .entry)) in
+        let leg′ = executedLeg byPlace x leg (now (posterior .entry)) in
         ⌜ kept (bestOf (r .found) (r .weight)) (r .«num_converged») (r .«total_iterations») (suc leg) (now («leg_state» .exit))
         (now («leg_iterations» .exit)) (now («leg_weight» .exit)) (now (row .exit)) (now (correction .exit)) (now (posterior .exit))
         ≡ keptWith x before leg leg′ (rowAfter x leg′) ⌝ }
@@ -218,7 +219,7 @@ pub fn next_leg(
         let before = kept (bestOf (tally .found) (tally .weight)) (tally .«num_converged») (tally .«total_iterations») leg
         (now («leg_state» .entry)) (now («leg_iterations» .entry)) (now («leg_weight» .entry)) (now (rows .entry))
         (now (correction .entry)) (now (posterior .entry)) in
-        let leg′ = executedLeg x leg (now (posterior .entry)) in
+        let leg′ = executedLeg byPlace x leg (now (posterior .entry)) in
         ⌜ kept (bestOf (r .found) (r .weight)) (r .«num_converged») (r .«total_iterations») (suc leg) (now («leg_state» .exit))
         (now («leg_iterations» .exit)) (now («leg_weight» .exit)) (now (rows .exit)) (now (correction .exit)) (now (posterior .exit))
         ≡ keptAfter x before leg leg′ ⌝ }

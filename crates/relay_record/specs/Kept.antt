@@ -27,7 +27,7 @@ use Rattle.relay_calls.specs.Records.{valuesOf, recordOfLeg}
 use Rattle.relay_calls.specs.Decode.{Shot, Run, Ended, decoded, refused, isNoneOr, correctionOf}
 use Rattle.relay_calls.specs.Calls.{DecodeLists, syndromeFault, decodeListsFit, answered}
 
--- a shot by the lists that its legs read: four of the six graph lists
+-- a shot by the lists that its legs read: four of the five graph lists
 abbrev pub shotOf : Settings → List Float → ℕ → List ℕ → List Float → List ℕ → List ℕ → List ℕ → List ℕ → List ℕ → Shot
 shotOf t flat seed syndrome prior cv co vm vo order =
     record {

@@ -1,15 +1,15 @@
 -- One Relay iteration in a given order of checks: `update_check`, the two `update_variable_..`, `compute_bias`, `flooding_iteration` and
 -- `check_serial_iteration` of relay.rs, as functions on lists. Definitions only. Assumes nothing.
-use Prim.Native.Nat.{ℕ, suc}
+use Prim.Native.Nat.{ℕ}
 use mathlib.Core.Bool.{Bool, not, cond}
 use mathlib.Core.List.{List, foldl}
 use lib.Dec.{eqb}
 use lib.Ieee.{Float, nan}
 use lib.ListN.{length, getD, set}
 use Rattle.numbers.specs.Floats.{_+ᶠ_, _-ᶠ_, _*ᶠ_, saturation, isFinite, messageSign}
-use Rattle.numbers.specs.Loops.{turns, table, row, spliced}
+use Rattle.numbers.specs.Loops.{turns, table}
 use Rattle.graph_lists.specs.Graph.{Graph, checkEntries, varEntries}
-use Rattle.graph_lists.specs.Messages.{Scan, startScan, lowered, total}
+use Rattle.graph_lists.specs.Messages.{Access, Scan, startScan, lowered, total}
 use Rattle.relay_settings.specs.declared.Schedule.{Schedule}
 use Rattle.relay_settings.specs.declared.Schedule.the-variants.{Flooding, CheckSerial}
 
@@ -43,7 +43,8 @@ sentTo alpha s variables messages n = table n (λ i. sent alpha s (getD variable
 unfoldable pub checkMessages : Float → Bool → List ℕ → List Float → List Float
 checkMessages alpha odd variables messages = sentTo alpha (scan odd variables messages (length messages)) variables messages (length messages)
 
--- ---- one iteration, over all messages and the posterior
+-- ---- one iteration, over all messages and the posterior. `had` says how a check's messages are had out of all, and it is all that the layout of the
+-- graph changes
 
 -- the messages both ways, and the posterior
 pub record State : Type 0 where
@@ -55,12 +56,11 @@ pub record State : Type 0 where
 abbrev pub state : List Float → List Float → List Float → State
 state c v p = record { cToV = c; vToC = v; posterior = p }
 
--- a check's part of `c_to_v` from its part of `v_to_c`
-unfoldable pub updateCheck : Graph → Float → List ℕ → State → ℕ → State
-updateCheck g alpha syndrome s c =
-    let off = g .checkOffset in
-    let new = checkMessages alpha (not (eqb (getD syndrome c 0) 0)) (checkEntries g c) (row off c (s .vToC)) in
-    state (spliced (s .cToV) (getD off c 0) (getD off (suc c) 0) new) (s .vToC) (s .posterior)
+-- a check's messages in `c_to_v` from its messages in `v_to_c`
+unfoldable pub updateCheck : Access → Graph → Float → List ℕ → State → ℕ → State
+updateCheck had g alpha syndrome s c =
+    let new = checkMessages alpha (not (eqb (getD syndrome c 0) 0)) (checkEntries g c) (had .messagesOf g c (s .vToC)) in
+    state (had .withMessages g c (s .cToV) new) (s .vToC) (s .posterior)
 
 -- p without each own message, written over `v_to_c`
 unfoldable pub written : Float → List Float → List Float → List ℕ → List Float
@@ -86,32 +86,32 @@ unfoldable pub computeBias : List Float → List Float → List Float → List F
 computeBias prior gamma posterior = biasesTo prior gamma posterior (length prior)
 
 -- the checks in the order given
-unfoldable pub checkPass : Graph → Float → List ℕ → List ℕ → State → State
-checkPass g alpha syndrome order s = foldl (updateCheck g alpha syndrome) s order
+unfoldable pub checkPass : Access → Graph → Float → List ℕ → List ℕ → State → State
+checkPass had g alpha syndrome order s = foldl (updateCheck had g alpha syndrome) s order
 
 -- the variables below n
 unfoldable pub variablePass : Graph → List Float → State → ℕ → State
 variablePass g bias s n = turns n (λ v t. updateVariable g bias t v) s
 
 -- `flooding_iteration`: the checks, then the bias of the posterior, then the variables
-unfoldable pub floodingIteration : Graph → Float → List ℕ → List Float → List Float → List ℕ → State → State
-floodingIteration g alpha syndrome prior gamma order s =
-    let t = checkPass g alpha syndrome order s in
+unfoldable pub floodingIteration : Access → Graph → Float → List ℕ → List Float → List Float → List ℕ → State → State
+floodingIteration had g alpha syndrome prior gamma order s =
+    let t = checkPass had g alpha syndrome order s in
     variablePass g (computeBias prior gamma (t .posterior)) t (g .mechanisms)
 
 -- one check of a serial iteration, and then each variable of its entries
-unfoldable pub serialCheck : Graph → Float → List ℕ → List Float → State → ℕ → State
-serialCheck g alpha syndrome bias s c = foldl (updateVariable g bias) (updateCheck g alpha syndrome s c) (checkEntries g c)
+unfoldable pub serialCheck : Access → Graph → Float → List ℕ → List Float → State → ℕ → State
+serialCheck had g alpha syndrome bias s c = foldl (updateVariable g bias) (updateCheck had g alpha syndrome s c) (checkEntries g c)
 
 -- the checks of a serial iteration, in the order given
-unfoldable pub serialPass : Graph → Float → List ℕ → List Float → List ℕ → State → State
-serialPass g alpha syndrome bias order s = foldl (serialCheck g alpha syndrome bias) s order
+unfoldable pub serialPass : Access → Graph → Float → List ℕ → List Float → List ℕ → State → State
+serialPass had g alpha syndrome bias order s = foldl (serialCheck had g alpha syndrome bias) s order
 
 -- `check_serial_iteration`: the bias of the posterior, then the checks
-unfoldable pub checkSerialIteration : Graph → Float → List ℕ → List Float → List Float → List ℕ → State → State
-checkSerialIteration g alpha syndrome prior gamma order s = serialPass g alpha syndrome (computeBias prior gamma (s .posterior)) order s
+unfoldable pub checkSerialIteration : Access → Graph → Float → List ℕ → List Float → List Float → List ℕ → State → State
+checkSerialIteration had g alpha syndrome prior gamma order s = serialPass had g alpha syndrome (computeBias prior gamma (s .posterior)) order s
 
 -- one iteration of a schedule
-abbrev pub iteration : Schedule → Graph → Float → List ℕ → List Float → List Float → List ℕ → State → State
+abbrev pub iteration : Schedule → Access → Graph → Float → List ℕ → List Float → List Float → List ℕ → State → State
 iteration Flooding = floodingIteration
 iteration CheckSerial = checkSerialIteration

@@ -3,6 +3,7 @@ ghost use mathlib.Core.Path.{_≡_};
 ghost use mathlib.Core.Bool.{false};
 ghost use Prim.Native.Nat.{_<_};
 ghost use lib.ListN.{length};
+ghost use Rattle.graph_lists.specs.Messages.{byPlace};
 ghost use Rattle.numbers.specs.Loops.{every};
 ghost use Rattle.graph_lists.specs.Sound.{Keys};
 ghost use Rattle.graph_messages.specs.Needs.{Walks, walked, ofChecks, PerEdge};
@@ -158,7 +159,7 @@ pub fn run_leg(
         let before = state (now («c_to_v» .entry)) (now («v_to_c» .entry)) (now (posterior .entry)) in
         let after = state (now («c_to_v» .exit)) (now («v_to_c» .exit)) (now (posterior .exit)) in
         ⌜ legOf (r .converged) (r .iterations) after
-        ≡ runLeg (iteration schedule g alpha (now (syndrome .entry)) (now (priors .entry)) (now (gamma .entry)) (now (order .entry)))
+        ≡ runLeg (iteration schedule byPlace g alpha (now (syndrome .entry)) (now (priors .entry)) (now (gamma .entry)) (now (order .entry)))
         (satisfiedBy gChecks (now (syndrome .entry))) limit false 0 before ⌝ }
     ensures bits { λ _. ⌜ (0 < limit → now (bits .exit) ≡ hardDecision (now (posterior .exit))) ⌝ }
 {

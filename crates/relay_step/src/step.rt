@@ -3,6 +3,7 @@ ghost use mathlib.Core.Path.{_≡_};
 ghost use mathlib.Core.List.{[]};
 ghost use Prim.Native.Nat.{_<_};
 ghost use lib.ListN.{length};
+ghost use Rattle.graph_lists.specs.Messages.{byPlace};
 ghost use Rattle.graph_lists.specs.Sound.{Offsets, Keys};
 ghost use Rattle.graph_messages.specs.Needs.{Walks, walked, ofChecks, ofVariables, RowsRise, PerEdge};
 ghost use Rattle.relay_step.specs.Step.{state, biasOf, computeBias, updateCheck, checkPass, variablePass, serialCheck, serialPass};
@@ -53,7 +54,7 @@ fn update_one(
     ensures { λ _.
         let g = ofChecks (length (now (syndrome .entry))) (now («check_var» .entry)) (now («check_offset» .entry)) in
         let before = state (now («c_to_v» .entry)) (now («v_to_c» .entry)) [] in
-        ⌜ state (now («c_to_v» .exit)) (now («v_to_c» .entry)) [] ≡ updateCheck g alpha (now (syndrome .entry)) before c ⌝ }
+        ⌜ state (now («c_to_v» .exit)) (now («v_to_c» .entry)) [] ≡ updateCheck byPlace g alpha (now (syndrome .entry)) before c ⌝ }
 {
     let start = at(check_offset, c);
     let end = at(check_offset, c + 1);
@@ -86,7 +87,7 @@ fn check_pass(
         let g = ofChecks (length (now (syndrome .entry))) (now («check_var» .entry)) (now («check_offset» .entry)) in
         let before = state (now («c_to_v» .entry)) (now («v_to_c» .entry)) [] in
         ⌜ state (now («c_to_v» .exit)) (now («v_to_c» .entry)) []
-        ≡ checkPass g alpha (now (syndrome .entry)) (now (order .entry)) before ⌝ }
+        ≡ checkPass byPlace g alpha (now (syndrome .entry)) (now (order .entry)) before ⌝ }
 {
     let mut i = 0;
     while i < order.len() {
@@ -147,7 +148,7 @@ fn flooding_iteration(
         (now («check_offset» .entry)) (now («var_message» .entry)) (now («var_offset» .entry)) in
         let before = state (now («c_to_v» .entry)) (now («v_to_c» .entry)) (now (posterior .entry)) in
         ⌜ state (now («c_to_v» .exit)) (now («v_to_c» .exit)) (now (posterior .exit))
-        ≡ floodingIteration g alpha (now (syndrome .entry)) (now (priors .entry)) (now (gamma .entry)) (now (order .entry)) before ⌝ }
+        ≡ floodingIteration byPlace g alpha (now (syndrome .entry)) (now (priors .entry)) (now (gamma .entry)) (now (order .entry)) before ⌝ }
 {
     check_pass(
         alpha,
@@ -186,7 +187,7 @@ fn serial_check(
         (now («check_offset» .entry)) (now («var_message» .entry)) (now («var_offset» .entry)) in
         let before = state (now («c_to_v» .entry)) (now («v_to_c» .entry)) (now (posterior .entry)) in
         ⌜ state (now («c_to_v» .exit)) (now («v_to_c» .exit)) (now (posterior .exit))
-        ≡ serialCheck g alpha (now (syndrome .entry)) (now (bias .entry)) before c ⌝ }
+        ≡ serialCheck byPlace g alpha (now (syndrome .entry)) (now (bias .entry)) before c ⌝ }
 {
     let start = at(check_offset, c);
     let end = at(check_offset, c + 1);
@@ -234,7 +235,7 @@ fn serial_pass(
         (now («check_offset» .entry)) (now («var_message» .entry)) (now («var_offset» .entry)) in
         let before = state (now («c_to_v» .entry)) (now («v_to_c» .entry)) (now (posterior .entry)) in
         ⌜ state (now («c_to_v» .exit)) (now («v_to_c» .exit)) (now (posterior .exit))
-        ≡ serialPass g alpha (now (syndrome .entry)) (now (bias .entry)) (now (order .entry)) before ⌝ }
+        ≡ serialPass byPlace g alpha (now (syndrome .entry)) (now (bias .entry)) (now (order .entry)) before ⌝ }
 {
     let mut i = 0;
     while i < order.len() {
@@ -282,7 +283,7 @@ fn check_serial_iteration(
         (now («check_offset» .entry)) (now («var_message» .entry)) (now («var_offset» .entry)) in
         let before = state (now («c_to_v» .entry)) (now («v_to_c» .entry)) (now (posterior .entry)) in
         ⌜ state (now («c_to_v» .exit)) (now («v_to_c» .exit)) (now (posterior .exit))
-        ≡ checkSerialIteration g alpha (now (syndrome .entry)) (now (priors .entry)) (now (gamma .entry)) (now (order .entry)) before ⌝ }
+        ≡ checkSerialIteration byPlace g alpha (now (syndrome .entry)) (now (priors .entry)) (now (gamma .entry)) (now (order .entry)) before ⌝ }
 {
     compute_bias(priors, gamma, posterior, bias);
     serial_pass(
@@ -327,7 +328,7 @@ pub fn step(
         (now («check_offset» .entry)) (now («var_message» .entry)) (now («var_offset» .entry)) in
         let before = state (now («c_to_v» .entry)) (now («v_to_c» .entry)) (now (posterior .entry)) in
         ⌜ state (now («c_to_v» .exit)) (now («v_to_c» .exit)) (now (posterior .exit))
-        ≡ iteration schedule g alpha (now (syndrome .entry)) (now (priors .entry)) (now (gamma .entry)) (now (order .entry)) before ⌝ }
+        ≡ iteration schedule byPlace g alpha (now (syndrome .entry)) (now (priors .entry)) (now (gamma .entry)) (now (order .entry)) before ⌝ }
 {
     match schedule {
         Schedule::Flooding => flooding_iteration(

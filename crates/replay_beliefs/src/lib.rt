@@ -43,7 +43,6 @@ fn believed(
     size: Size,
     priors: &[f64],
     check_var: &[u32],
-    check_message: &[u32],
     check_offset: &[u32],
     var_check: &[u32],
     var_message: &[u32],
@@ -61,7 +60,6 @@ fn believed(
         size,
         priors,
         check_var,
-        check_message,
         check_offset,
         var_check,
         var_message,
@@ -89,7 +87,6 @@ fn with_beliefs(
     size: Size,
     priors: &[f64],
     check_var: &[u32],
-    check_message: &[u32],
     check_offset: &[u32],
     var_check: &[u32],
     var_message: &[u32],
@@ -114,7 +111,6 @@ fn with_beliefs(
         size,
         priors,
         check_var,
-        check_message,
         check_offset,
         var_check,
         var_message,
@@ -134,7 +130,6 @@ fn syndrome_read(
     size: Size,
     priors: &[f64],
     check_var: &[u32],
-    check_message: &[u32],
     check_offset: &[u32],
     var_check: &[u32],
     var_message: &[u32],
@@ -148,7 +143,6 @@ fn syndrome_read(
         size,
         priors,
         check_var,
-        check_message,
         check_offset,
         var_check,
         var_message,
@@ -164,7 +158,6 @@ fn with_syndrome(
     size: Size,
     priors: &[f64],
     check_var: &[u32],
-    check_message: &[u32],
     check_offset: &[u32],
     var_check: &[u32],
     var_message: &[u32],
@@ -182,7 +175,6 @@ fn with_syndrome(
         size,
         priors,
         check_var,
-        check_message,
         check_offset,
         var_check,
         var_message,
@@ -200,7 +192,6 @@ fn built(
     offsets: &mut [u32],
     detectors: &mut [u32],
     check_var: &mut [u32],
-    check_message: &mut [u32],
     check_offset: &mut [u32],
     var_check: &mut [u32],
     var_message: &mut [u32],
@@ -214,7 +205,6 @@ fn built(
         offsets,
         detectors,
         check_var,
-        check_message,
         check_offset,
         var_check,
         var_message,
@@ -230,7 +220,6 @@ fn built(
         size,
         priors,
         check_var,
-        check_message,
         check_offset,
         var_check,
         var_message,
@@ -256,7 +245,6 @@ fn with_graph(line: &[u8], at: usize, size: Size) -> bool {
     let mut offsets = [0u32; 64];
     let mut detectors = [0u32; 128];
     let mut check_var = [0u32; 128];
-    let mut check_message = [0u32; 128];
     let mut check_offset = [0u32; 64];
     let mut var_check = [0u32; 128];
     let mut var_message = [0u32; 128];
@@ -269,7 +257,6 @@ fn with_graph(line: &[u8], at: usize, size: Size) -> bool {
         &mut offsets[..mechanisms + 1],
         &mut detectors[..edges],
         &mut check_var[..edges],
-        &mut check_message[..edges],
         &mut check_offset[..checks + 1],
         &mut var_check[..edges],
         &mut var_message[..edges],

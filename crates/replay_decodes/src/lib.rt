@@ -75,7 +75,6 @@ fn decoded(
     size: Size,
     priors: &[f64],
     check_var: &[u32],
-    check_message: &[u32],
     check_offset: &[u32],
     var_check: &[u32],
     var_message: &[u32],
@@ -107,7 +106,6 @@ fn decoded(
         size,
         priors,
         check_var,
-        check_message,
         check_offset,
         var_check,
         var_message,
@@ -153,7 +151,6 @@ fn syndrome_read(
     size: Size,
     priors: &[f64],
     check_var: &[u32],
-    check_message: &[u32],
     check_offset: &[u32],
     var_check: &[u32],
     var_message: &[u32],
@@ -169,7 +166,6 @@ fn syndrome_read(
         size,
         priors,
         check_var,
-        check_message,
         check_offset,
         var_check,
         var_message,
@@ -187,7 +183,6 @@ fn gammas_read(
     size: Size,
     priors: &[f64],
     check_var: &[u32],
-    check_message: &[u32],
     check_offset: &[u32],
     var_check: &[u32],
     var_message: &[u32],
@@ -208,7 +203,6 @@ fn gammas_read(
         size,
         priors,
         check_var,
-        check_message,
         check_offset,
         var_check,
         var_message,
@@ -226,7 +220,6 @@ fn with_gammas(
     size: Size,
     priors: &[f64],
     check_var: &[u32],
-    check_message: &[u32],
     check_offset: &[u32],
     var_check: &[u32],
     var_message: &[u32],
@@ -245,7 +238,6 @@ fn with_gammas(
         size,
         priors,
         check_var,
-        check_message,
         check_offset,
         var_check,
         var_message,
@@ -273,7 +265,6 @@ fn with_graph(line: &[u8], at: usize, size: Size) -> bool {
     let mut offsets = [0u32; 64];
     let mut detectors = [0u32; 128];
     let mut check_var = [0u32; 128];
-    let mut check_message = [0u32; 128];
     let mut check_offset = [0u32; 64];
     let mut var_check = [0u32; 128];
     let mut var_message = [0u32; 128];
@@ -286,7 +277,6 @@ fn with_graph(line: &[u8], at: usize, size: Size) -> bool {
         &mut offsets[..mechanisms + 1],
         &mut detectors[..edges],
         &mut check_var[..edges],
-        &mut check_message[..edges],
         &mut check_offset[..checks + 1],
         &mut var_check[..edges],
         &mut var_message[..edges],
@@ -302,7 +292,6 @@ fn with_graph(line: &[u8], at: usize, size: Size) -> bool {
         size,
         &priors[..mechanisms],
         &check_var[..edges],
-        &check_message[..edges],
         &check_offset[..checks + 1],
         &var_check[..edges],
         &var_message[..edges],

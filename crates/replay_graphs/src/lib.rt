@@ -18,7 +18,6 @@ fn answered(
     at: usize,
     a: Answer,
     check_var: &[u32],
-    check_message: &[u32],
     check_offset: &[u32],
     var_check: &[u32],
     var_message: &[u32],
@@ -37,8 +36,7 @@ fn answered(
         next: place.next,
     };
     let cv = same_numbers(line, start, check_var);
-    let cm = same_numbers(line, cv, check_message);
-    let co = same_numbers(line, cm, check_offset);
+    let co = same_numbers(line, cv, check_offset);
     let vc = same_numbers(line, co, var_check);
     let vm = same_numbers(line, vc, var_message);
     let vo = same_numbers(line, vm, var_offset);
@@ -59,7 +57,6 @@ fn sparse_built(
     offsets: &mut [u32],
     detectors: &mut [u32],
     check_var: &mut [u32],
-    check_message: &mut [u32],
     check_offset: &mut [u32],
     var_check: &mut [u32],
     var_message: &mut [u32],
@@ -73,7 +70,6 @@ fn sparse_built(
         offsets,
         detectors,
         check_var,
-        check_message,
         check_offset,
         var_check,
         var_message,
@@ -85,7 +81,6 @@ fn sparse_built(
         b.next,
         a,
         check_var,
-        check_message,
         check_offset,
         var_check,
         var_message,
@@ -111,7 +106,6 @@ fn sparse(line: &[u8], at: usize, size: Size) -> bool {
     let mut offsets = [0u32; 64];
     let mut detectors = [0u32; 128];
     let mut check_var = [0u32; 128];
-    let mut check_message = [0u32; 128];
     let mut check_offset = [0u32; 64];
     let mut var_check = [0u32; 128];
     let mut var_message = [0u32; 128];
@@ -124,7 +118,6 @@ fn sparse(line: &[u8], at: usize, size: Size) -> bool {
         &mut offsets[..mechanisms + 1],
         &mut detectors[..edges],
         &mut check_var[..edges],
-        &mut check_message[..edges],
         &mut check_offset[..checks + 1],
         &mut var_check[..edges],
         &mut var_message[..edges],
@@ -142,7 +135,6 @@ fn dense_built(
     priors: &[f64],
     matrix: &[u8],
     check_var: &mut [u32],
-    check_message: &mut [u32],
     check_offset: &mut [u32],
     var_check: &mut [u32],
     var_message: &mut [u32],
@@ -154,7 +146,6 @@ fn dense_built(
         priors,
         matrix,
         check_var,
-        check_message,
         check_offset,
         var_check,
         var_message,
@@ -165,7 +156,6 @@ fn dense_built(
         at,
         a,
         check_var,
-        check_message,
         check_offset,
         var_check,
         var_message,
@@ -188,7 +178,6 @@ fn dense_graph(line: &[u8], at: usize, size: Size, priors: &[f64], matrix: &[u8]
         return false;
     }
     let mut check_var = [0u32; 128];
-    let mut check_message = [0u32; 128];
     let mut check_offset = [0u32; 64];
     let mut var_check = [0u32; 128];
     let mut var_message = [0u32; 128];
@@ -200,7 +189,6 @@ fn dense_graph(line: &[u8], at: usize, size: Size, priors: &[f64], matrix: &[u8]
         priors,
         matrix,
         &mut check_var[..edges],
-        &mut check_message[..edges],
         &mut check_offset[..checks + 1],
         &mut var_check[..edges],
         &mut var_message[..edges],

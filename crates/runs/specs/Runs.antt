@@ -57,7 +57,7 @@ nine = fin false 9 (pos 0)
 abbrev pub blank : ℕ → ℕ → ℕ → Graph
 blank checks mechanisms edges =
     let nines : List ℕ = replicate edges 9 in
-    graph checks mechanisms nines nines (replicate (suc checks) 9) nines nines (replicate (suc mechanisms) 9)
+    graph checks mechanisms nines (replicate (suc checks) 9) nines nines (replicate (suc mechanisms) 9)
 
 -- what `build_sparse` makes of checks, priors, detector offsets and detectors
 abbrev pub modelBuilt : ℕ → List Float → List ℕ → List ℕ → Model.BuildOutcome
@@ -175,7 +175,7 @@ at2 =
 -- the runs that docs/REFERENCE.md lists
 pub record Table : Type 0 where
   -- offsets 0,2,4 and 0,1,3,4; variable 1 has messages 1 and 2
-  pub r1 : (builtG ≡ Model.buildOutcome Done (graph 2 3 (0 ∷ 1 ∷ 1 ∷ 2 ∷ []) (0 ∷ 1 ∷ 2 ∷ 3 ∷ []) (0 ∷ 2 ∷ 4 ∷ []) (0 ∷ 0 ∷ 1 ∷ 1 ∷ []) (0 ∷ 1 ∷ 2 ∷ 3 ∷ []) (0 ∷ 1 ∷ 3 ∷ 4 ∷ [])))
+  pub r1 : (builtG ≡ Model.buildOutcome Done (graph 2 3 (0 ∷ 1 ∷ 1 ∷ 2 ∷ []) (0 ∷ 2 ∷ 4 ∷ []) (0 ∷ 0 ∷ 1 ∷ 1 ∷ []) (0 ∷ 1 ∷ 2 ∷ 3 ∷ []) (0 ∷ 1 ∷ 3 ∷ 4 ∷ [])))
       × (varEntries G 1 ≡ 1 ∷ 2 ∷ [])
   -- Flooding, pre 1: not converged, posterior 0,4,8, bits 000
   pub r2 : show (decodedRun G fours (1 ∷ 0 ∷ []) (0 ∷ 1 ∷ []) Flooding 1) ≡ shown (summary Done false 1 1 none) (0 ∷ 0 ∷ 0 ∷ []) (zero⁺ ∷ four ∷ eight ∷ [])

@@ -20,7 +20,7 @@ use Rattle.refusals.specs.Refusal.{numberOf}
 use Rattle.refusals.specs.Tests.{isDone, unless, orElse, firstOf, unlessRefused}
 use Rattle.refusals.proofs.Tests.{or-second, or-done, unless-done}
 use Rattle.graph_lists.specs.Graph.{Graph, graphOf}
-use Rattle.graph_lists.specs.Messages.{valueFault, posteriorFault}
+use Rattle.graph_lists.specs.Messages.{byPlace, valueFault, posteriorFault}
 use Rattle.graph_lists.specs.Model.{built, buildSparse, graphFault}
 use Rattle.graph.proofs.Theorems.{sparse-checked}
 use Rattle.relay_settings.specs.Settings.{sourceFault, settingsFault, checkSettings}
@@ -79,15 +79,15 @@ leg-of Done false run f r e = let z : _≡_ {A = ℕ} 0 1 = cc in absurd (omega 
 
 -- what some legs, and those behind them, are refused with
 legs-of : (x : Shot) (n : ℕ) (p : Progress) (k : ℕ) → ((r : Refusal) → p ≡ finished (refused r) → isOfShot (numberOf r) ≡ true)
-    → (r : Refusal) → legsFrom x n p k ≡ refused r → isOfShot (numberOf r) ≡ true
+    → (r : Refusal) → legsFrom byPlace x n p k ≡ refused r → isOfShot (numberOf r) ≡ true
 unfolding legsFrom afterLeg
 legs-of x zero (running run) k f r e = let z : _≡_ {A = ℕ} 0 1 = cc in absurd (omega arith)
 legs-of x zero (finished w) k f r e = f r (ap finished e)
-legs-of x (suc n) (running run) k f r e = legs-of x n (afterLeg x k run) (suc k) (leg-of _ _ _ (posterior-of (x .graph) _)) r e
+legs-of x (suc n) (running run) k f r e = legs-of x n (afterLeg byPlace x k run) (suc k) (leg-of _ _ _ (posterior-of (x .graph) _)) r e
 legs-of x (suc n) (finished w) k f r e = f r (ap finished e)
 
 -- all legs
-decode-of : (x : Shot) (r : Refusal) → decodeLegs x ≡ refused r → isOfShot (numberOf r) ≡ true
+decode-of : (x : Shot) (r : Refusal) → decodeLegs byPlace x ≡ refused r → isOfShot (numberOf r) ≡ true
 unfolding decodeLegs
 decode-of x r e = legs-of x _ (running _) 0 (λ y q. let z : _≡_ {A = ℕ} 0 1 = cc in absurd (omega arith)) r e
 
@@ -106,8 +106,8 @@ tested-of : (edges : ℕ) (x : Shot) (l : DecodeLists) → OfShot (decodeFault e
 unfolding decodeInOrder
 tested-of edges x l f r e = by (decodeFault edges x l) f e
   where
-    by : (a : Answer) → OfShot a → afterDecodeTests a (afterLegs edges x (decodeLegs x) l) l .answer ≡ Decoded.Refused r → isOfShot (numberOf r) ≡ true
-    by Done g q = ran-of edges x (decodeLegs x) l (decode-of x) r q
+    by : (a : Answer) → OfShot a → afterDecodeTests a (afterLegs edges x (decodeLegs byPlace x) l) l .answer ≡ Decoded.Refused r → isOfShot (numberOf r) ≡ true
+    by Done g q = ran-of edges x (decodeLegs byPlace x) l (decode-of x) r q
     by (Refused y) g q = let h : y ≡ r = cc in g r (ap Refused h)
 
 -- ---- the tests of a shot over what was accepted

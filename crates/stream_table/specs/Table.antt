@@ -37,7 +37,7 @@ modelRoom c = modelLists (lentFloats roomMechanisms (c .mechanisms)) (lentNumber
 abbrev pub graphRoom : Counts → Graph
 graphRoom c =
     let e = lentNumbers roomEdges (c .edges) in
-    graph (c .checks) (c .mechanisms) e e (lentNumbers (suc roomChecks) (c .checks + 1)) e e (lentNumbers (suc roomMechanisms) (c .mechanisms + 1))
+    graph (c .checks) (c .mechanisms) e (lentNumbers (suc roomChecks) (c .checks + 1)) e e (lentNumbers (suc roomMechanisms) (c .mechanisms + 1))
 
 -- those that a shot is decoded in, beside the correction that the caller lends: a row for each relayed leg and for the first
 abbrev pub shotRoom : Counts → List ℕ → Calls.DecodeLists

@@ -51,14 +51,13 @@ fn built(
     detector_offsets: &mut [u32],
     detectors: &mut [u32],
     check_var: &mut [u32],
-    check_message: &mut [u32],
     check_offset: &mut [u32],
     var_check: &mut [u32],
     var_message: &mut [u32],
     var_offset: &mut [u32],
 ) -> Answer
     ensures { λ a.
-        let g = graph (size .checks) (size .mechanisms) (now («check_var» .entry)) (now («check_message» .entry))
+        let g = graph (size .checks) (size .mechanisms) (now («check_var» .entry))
         (now («check_offset» .entry)) (now («var_check» .entry)) (now («var_message» .entry)) (now («var_offset» .entry)) in
         ⌜ a
         ≡ builtFrom (size .edges) (now (payload .entry))
@@ -71,7 +70,6 @@ fn built(
         detector_offsets,
         detectors,
         check_var,
-        check_message,
         check_offset,
         var_check,
         var_message,
@@ -96,7 +94,6 @@ fn built_within(c: Counts, payload: &[u8]) -> Answer
     let mut detector_offsets = [0u32; ROOM_MECHANISM_OFFSETS];
     let mut detectors = [0u32; ROOM_EDGES];
     let mut check_var = [0u32; ROOM_EDGES];
-    let mut check_message = [0u32; ROOM_EDGES];
     let mut check_offset = [0u32; ROOM_CHECK_OFFSETS];
     let mut var_check = [0u32; ROOM_EDGES];
     let mut var_message = [0u32; ROOM_EDGES];
@@ -108,7 +105,6 @@ fn built_within(c: Counts, payload: &[u8]) -> Answer
         &mut detector_offsets[..mechanisms + 1],
         &mut detectors[..edges],
         &mut check_var[..edges],
-        &mut check_message[..edges],
         &mut check_offset[..checks + 1],
         &mut var_check[..edges],
         &mut var_message[..edges],
@@ -146,7 +142,6 @@ fn decoded(
     detector_offsets: &mut [u32],
     detectors: &mut [u32],
     check_var: &mut [u32],
-    check_message: &mut [u32],
     check_offset: &mut [u32],
     var_check: &mut [u32],
     var_message: &mut [u32],
@@ -163,7 +158,7 @@ fn decoded(
     v_to_c: &mut [f64],
 ) -> Decoded
     ensures { λ d.
-        let g = graph (size .checks) (size .mechanisms) (now («check_var» .entry)) (now («check_message» .entry))
+        let g = graph (size .checks) (size .mechanisms) (now («check_var» .entry))
         (now («check_offset» .entry)) (now («var_check» .entry)) (now («var_message» .entry)) (now («var_offset» .entry)) in
         let before = decodeLists (now («leg_state» .entry)) (now («leg_iterations» .entry)) (now («leg_weight» .entry)) (now (rows .entry))
         (now (correction .entry)) (now (posterior .entry)) (now (gamma .entry)) (now (bias .entry)) (now («c_to_v» .entry))
@@ -179,7 +174,6 @@ fn decoded(
         detector_offsets,
         detectors,
         check_var,
-        check_message,
         check_offset,
         var_check,
         var_message,
@@ -190,7 +184,6 @@ fn decoded(
         size,
         priors,
         check_var,
-        check_message,
         check_offset,
         var_check,
         var_message,
@@ -239,7 +232,6 @@ fn decoded_within(
     let mut detector_offsets = [0u32; ROOM_MECHANISM_OFFSETS];
     let mut detectors = [0u32; ROOM_EDGES];
     let mut check_var = [0u32; ROOM_EDGES];
-    let mut check_message = [0u32; ROOM_EDGES];
     let mut check_offset = [0u32; ROOM_CHECK_OFFSETS];
     let mut var_check = [0u32; ROOM_EDGES];
     let mut var_message = [0u32; ROOM_EDGES];
@@ -263,7 +255,6 @@ fn decoded_within(
         &mut detector_offsets[..mechanisms + 1],
         &mut detectors[..edges],
         &mut check_var[..edges],
-        &mut check_message[..edges],
         &mut check_offset[..checks + 1],
         &mut var_check[..edges],
         &mut var_message[..edges],

@@ -43,8 +43,9 @@ pub fn damage_common(random: &mut SplitMix64, given: &mut Given) {
             given.probabilities.resize(given.priors.len(), 0.5);
         }
         3 => {
-            let which = random.below(6);
-            nudge_length(random, given.lists.each()[which], 0);
+            let mut all = given.lists.each();
+            let which = random.below(all.len());
+            nudge_length(random, all[which], 0);
         }
         4 if !given.priors.is_empty() => {
             let mechanism = random.below(given.priors.len());
@@ -108,10 +109,10 @@ pub fn damage_sparse(random: &mut SplitMix64, given: &mut Given) {
 
 pub fn damage_lists(random: &mut SplitMix64, given: &mut Given) {
     let numbers = given.size.edges.min(MOST_EDGES) + 2;
-    let which = random.below(6);
     match random.below(8) {
         0..=2 => {
             let mut all = given.lists.each();
+            let which = random.below(all.len());
             let list = &mut all[which];
             if !list.is_empty() {
                 let at = random.below(list.len());
@@ -123,15 +124,19 @@ pub fn damage_lists(random: &mut SplitMix64, given: &mut Given) {
             }
         }
         3 | 4 => {
-            // Two entries exchanged, in one list or in both of a pair.
-            let (both, pair) = (random.once_in(2), random.below(2) * 3);
-            let all = given.lists.each();
-            let length = all[pair].len().min(all[pair + 1].len());
+            // Two entries exchanged: of the checks, or of the mechanisms in one list of the pair or in both.
+            let [check_var, _, var_check, var_message, _] = given.lists.each();
+            let mut lists = match random.below(4) {
+                0 => vec![check_var],
+                1 => vec![var_check],
+                2 => vec![var_message],
+                _ => vec![var_check, var_message],
+            };
+            let length = lists.iter().map(|list| list.len()).min().unwrap_or(0);
             if length > 0 {
                 let (one, other) = (random.below(length), random.below(length));
-                all[pair].swap(one, other);
-                if both {
-                    all[pair + 1].swap(one, other);
+                for list in &mut lists {
+                    list.swap(one, other);
                 }
             }
         }

@@ -12,7 +12,6 @@ fn narrow(lists: &GraphLists) -> Lists {
     let list = |from: &[usize]| from.iter().map(|&number| number as u32).collect();
     Lists {
         check_var: list(&lists.check_var),
-        check_message: list(&lists.check_message),
         check_offset: list(&lists.check_offset),
         var_check: list(&lists.var_check),
         var_message: list(&lists.var_message),

@@ -23,12 +23,7 @@ fn size_fits(size: Size) -> bool {
 }
 
 fn lists_fit(lists: &Lists, edges: usize, size: Size) -> bool {
-    let entries = [
-        &lists.check_var,
-        &lists.check_message,
-        &lists.var_check,
-        &lists.var_message,
-    ];
+    let entries = [&lists.check_var, &lists.var_check, &lists.var_message];
     entries.iter().all(|list| list.len() == edges)
         && lists.check_offset.len() == size.checks + 1
         && lists.var_offset.len() == size.mechanisms + 1

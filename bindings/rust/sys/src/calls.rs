@@ -3,7 +3,7 @@
 
 #![allow(missing_docs)] // the fields are named as the parameters of the calls
 
-/// A graph: the counts as the caller says them, the priors, and the six lists.
+/// A graph: the counts as the caller says them, the priors, and the five lists.
 #[derive(Clone, Copy, Debug)]
 pub struct Graph<'a> {
     pub checks: usize,
@@ -11,18 +11,16 @@ pub struct Graph<'a> {
     pub edges: usize,
     pub priors: &'a [f64],
     pub check_var: &'a [u32],
-    pub check_message: &'a [u32],
     pub check_offset: &'a [u32],
     pub var_check: &'a [u32],
     pub var_message: &'a [u32],
     pub var_offset: &'a [u32],
 }
 
-/// The six lists of a graph, to be written.
+/// The five lists of a graph, to be written.
 #[derive(Debug)]
 pub struct GraphLists<'a> {
     pub check_var: &'a mut [u32],
-    pub check_message: &'a mut [u32],
     pub check_offset: &'a mut [u32],
     pub var_check: &'a mut [u32],
     pub var_message: &'a mut [u32],
@@ -108,8 +106,6 @@ pub fn build_sparse(
             detectors.len(),
             lists.check_var.as_mut_ptr(),
             lists.check_var.len(),
-            lists.check_message.as_mut_ptr(),
-            lists.check_message.len(),
             lists.check_offset.as_mut_ptr(),
             lists.check_offset.len(),
             lists.var_check.as_mut_ptr(),
@@ -151,8 +147,6 @@ pub fn build_dense(
             matrix.len(),
             lists.check_var.as_mut_ptr(),
             lists.check_var.len(),
-            lists.check_message.as_mut_ptr(),
-            lists.check_message.len(),
             lists.check_offset.as_mut_ptr(),
             lists.check_offset.len(),
             lists.var_check.as_mut_ptr(),
@@ -179,8 +173,6 @@ pub fn check_graph(graph: Graph) -> u64 {
             graph.priors.len(),
             graph.check_var.as_ptr(),
             graph.check_var.len(),
-            graph.check_message.as_ptr(),
-            graph.check_message.len(),
             graph.check_offset.as_ptr(),
             graph.check_offset.len(),
             graph.var_check.as_ptr(),
@@ -214,8 +206,6 @@ pub fn beliefs(
             graph.priors.len(),
             graph.check_var.as_ptr(),
             graph.check_var.len(),
-            graph.check_message.as_ptr(),
-            graph.check_message.len(),
             graph.check_offset.as_ptr(),
             graph.check_offset.len(),
             graph.var_check.as_ptr(),
@@ -297,8 +287,6 @@ pub fn decode(
             graph.priors.len(),
             graph.check_var.as_ptr(),
             graph.check_var.len(),
-            graph.check_message.as_ptr(),
-            graph.check_message.len(),
             graph.check_offset.as_ptr(),
             graph.check_offset.len(),
             graph.var_check.as_ptr(),
@@ -370,8 +358,6 @@ pub fn decode_in_order(
             graph.priors.len(),
             graph.check_var.as_ptr(),
             graph.check_var.len(),
-            graph.check_message.as_ptr(),
-            graph.check_message.len(),
             graph.check_offset.as_ptr(),
             graph.check_offset.len(),
             graph.var_check.as_ptr(),
@@ -473,8 +459,6 @@ pub fn iteration(
             graph.priors.len(),
             graph.check_var.as_ptr(),
             graph.check_var.len(),
-            graph.check_message.as_ptr(),
-            graph.check_message.len(),
             graph.check_offset.as_ptr(),
             graph.check_offset.len(),
             graph.var_check.as_ptr(),

@@ -29,7 +29,7 @@ pub mod lists;
 pub mod streams;
 
 /// The version of the calls that are declared here; [`chowderkite_version`] answers that of the archive that is linked.
-pub const VERSION: u64 = 1;
+pub const VERSION: u64 = 2;
 
 unsafe extern "C" {
     /// The version of the calls: raised whenever a call, a list or a code changes its meaning.
@@ -48,8 +48,6 @@ unsafe extern "C" {
         detectors_len: usize,
         check_var: *mut u32,
         check_var_len: usize,
-        check_message: *mut u32,
-        check_message_len: usize,
         check_offset: *mut u32,
         check_offset_len: usize,
         var_check: *mut u32,
@@ -73,8 +71,6 @@ unsafe extern "C" {
         matrix_len: usize,
         check_var: *mut u32,
         check_var_len: usize,
-        check_message: *mut u32,
-        check_message_len: usize,
         check_offset: *mut u32,
         check_offset_len: usize,
         var_check: *mut u32,
@@ -94,8 +90,6 @@ unsafe extern "C" {
         priors_len: usize,
         check_var: *const u32,
         check_var_len: usize,
-        check_message: *const u32,
-        check_message_len: usize,
         check_offset: *const u32,
         check_offset_len: usize,
         var_check: *const u32,
@@ -115,8 +109,6 @@ unsafe extern "C" {
         priors_len: usize,
         check_var: *const u32,
         check_var_len: usize,
-        check_message: *const u32,
-        check_message_len: usize,
         check_offset: *const u32,
         check_offset_len: usize,
         var_check: *const u32,
@@ -171,8 +163,6 @@ unsafe extern "C" {
         priors_len: usize,
         check_var: *const u32,
         check_var_len: usize,
-        check_message: *const u32,
-        check_message_len: usize,
         check_offset: *const u32,
         check_offset_len: usize,
         var_check: *const u32,
@@ -230,8 +220,6 @@ unsafe extern "C" {
         priors_len: usize,
         check_var: *const u32,
         check_var_len: usize,
-        check_message: *const u32,
-        check_message_len: usize,
         check_offset: *const u32,
         check_offset_len: usize,
         var_check: *const u32,
@@ -304,8 +292,6 @@ unsafe extern "C" {
         priors_len: usize,
         check_var: *const u32,
         check_var_len: usize,
-        check_message: *const u32,
-        check_message_len: usize,
         check_offset: *const u32,
         check_offset_len: usize,
         var_check: *const u32,

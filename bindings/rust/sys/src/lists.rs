@@ -13,11 +13,10 @@ pub struct Size {
     pub edges: usize,
 }
 
-/// The six lists of a graph.
+/// The five lists of a graph.
 #[derive(Clone, Debug, Default, PartialEq, Eq)]
 pub struct GraphLists {
     pub check_var: Vec<u32>,
-    pub check_message: Vec<u32>,
     pub check_offset: Vec<u32>,
     pub var_check: Vec<u32>,
     pub var_message: Vec<u32>,
@@ -31,7 +30,6 @@ impl GraphLists {
         let list = |length: usize| vec![with; length];
         Self {
             check_var: list(size.edges),
-            check_message: list(size.edges),
             check_offset: list(size.checks + 1),
             var_check: list(size.edges),
             var_message: list(size.edges),
@@ -39,11 +37,10 @@ impl GraphLists {
         }
     }
 
-    /// All six, in the order of the calls.
-    pub fn each(&mut self) -> [&mut Vec<u32>; 6] {
+    /// All five, in the order of the calls.
+    pub fn each(&mut self) -> [&mut Vec<u32>; 5] {
         [
             &mut self.check_var,
-            &mut self.check_message,
             &mut self.check_offset,
             &mut self.var_check,
             &mut self.var_message,
@@ -54,11 +51,9 @@ impl GraphLists {
     /// For a call that fills them.
     #[inline]
     pub fn written(&mut self) -> calls::GraphLists<'_> {
-        let [check_var, check_message, check_offset, var_check, var_message, var_offset] =
-            self.each();
+        let [check_var, check_offset, var_check, var_message, var_offset] = self.each();
         calls::GraphLists {
             check_var,
-            check_message,
             check_offset,
             var_check,
             var_message,
@@ -76,7 +71,6 @@ impl GraphLists {
             edges: size.edges,
             priors,
             check_var: &self.check_var,
-            check_message: &self.check_message,
             check_offset: &self.check_offset,
             var_check: &self.var_check,
             var_message: &self.var_message,

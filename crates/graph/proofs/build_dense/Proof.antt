@@ -15,19 +15,19 @@ use Rattle.graph.proofs.build_dense.Tie as tie
 
 -- the lists as they are lent
 abbrev lists : tie.Start → Graph
-lists c = let a = c .args in graph (a .checks) (a .mechanisms) (a .check-var .now) (a .check-message .now) (a .check-offset .now) (a .var-check .now) (a .var-message .now) (a .var-offset .now)
+lists c = let a = c .args in graph (a .checks) (a .mechanisms) (a .check-var .now) (a .check-offset .now) (a .var-check .now) (a .var-message .now) (a .var-offset .now)
 
 -- what the tests told
 told : (c : tie.Else1)
-    → let a = c .before .before .before .before .before .before .before .before .before .before .before .before .before .args in
+    → let a = c .before .before .before .before .before .before .before .before .before .before .before .before .args in
     DenseTold (a .checks) (a .mechanisms) (c .before .before .before .before .count-edges .result) (a .priors .now) (length (a .matrix .now)) (c .before .before .before .lists-fit .result)
 told c = dense-told _ _ _ _ _ _ (sym (c .before .before .dense-fault .ensures) ∙ done-is _ (was-true _ _ (c .before .is-done .ensures) (c .if1 .left)))
 
 -- and of the graph lists
 long : (c : tie.Else1) → Long (c .before .before .before .before .count-edges .result)
-    (lists (c .before .before .before .before .before .before .before .before .before .before .before .before .before))
+    (lists (c .before .before .before .before .before .before .before .before .before .before .before .before))
 unfolding graphFits
-long c = long-told _ (lists (c .before .before .before .before .before .before .before .before .before .before .before .before .before))
+long c = long-told _ (lists (c .before .before .before .before .before .before .before .before .before .before .before .before))
     (sym (c .before .before .before .lists-fit .ensures) ∙ told c .fits)
 
 count-edges-requires : tie.Need-count-edges-requires
@@ -44,19 +44,19 @@ is-done-requires c κs = search needs
 
 returns : tie.Need-returns
 unfolding graphFits
-returns c = dense-refused _ _ _ _ _ (lists (c .before .before .before .before .before .before .before .before .before .before .before .before .before))
+returns c = dense-refused _ _ _ _ _ (lists (c .before .before .before .before .before .before .before .before .before .before .before .before))
     (c .before .before .before .before .count-edges .ensures) (c .before .before .before .lists-fit .ensures) (c .before .before .dense-fault .ensures)
     (was-false _ _ (c .before .is-done .ensures) (c .if1 .taken))
 
 from-matrix-requires : tie.Need-from-matrix-requires
 from-matrix-requires c κs =
-    let t = told (c .before .before .before .before .before .before) in
-    let f = long (c .before .before .before .before .before .before) in
-    let d = c .before .before .before .before .before .before .before .before .before .before .count-edges .ensures in (
+    let t = told (c .before .before .before .before .before) in
+    let f = long (c .before .before .before .before .before) in
+    let d = c .before .before .before .before .before .before .before .before .before .count-edges .ensures in (
       t .bytes-many,
       (
         (omega (arith, t .few .checks-few), omega (arith, t .few .mechanisms-few), omega (arith, d, t .few .edges-few)),
-        ((f .check-var ∙ d, f .check-message ∙ d, f .check-offset), (f .var-check ∙ d, f .var-message ∙ d, f .var-offset)),
+        ((f .check-var ∙ d, f .check-offset), (f .var-check ∙ d, f .var-message ∙ d, f .var-offset)),
       ),
     )
 
@@ -75,21 +75,13 @@ same-length-4 c = search needs
 same-length-5 : tie.Need-same-length-5
 same-length-5 c = search needs
 
-same-length-6 : tie.Need-same-length-6
-same-length-6 c = search needs
-
 returns-2 : tie.Need-returns-2
 unfolding graphFits
-returns-2 c = dense-done _ _ _ _ _ (lists (c .before .before .before .before .before .before .before .before .before .before .before .before .before .before
-    .before .before .before .before .before .before .before .before .before .before .before .before .before .before .before .before .before .before))
-    (c .before .before .before .before .before .before .before .before .before .before .before .before .before .before .before .before .before .before .before
-    .before .before .before .before .count-edges .ensures) (c .before .before .before .before .before .before .before .before .before .before .before .before
-    .before .before .before .before .before .before .before .before .before .before .lists-fit .ensures)
-    (c .before .before .before .before .before .before .before .before .before .before .before .before .before .before .before .before .before .before .before
-    .before .before .dense-fault .ensures) _ (was-true _ _ (c .before .before .before .before .before .before .before .before .before .before .before .before
-    .before .before .before .before .before .before .before .before .is-done .ensures)
-    (c .before .before .before .before .before .before .before .before .before .before .before .before .before .before .before .before .before .before .before
-    .if1 .left)) (c .before .before .before .before .before .before .before .before .before .before .before .before .from-matrix .ensures)
+returns-2 c = dense-done _ _ _ _ _ (lists (c .before .before .before .before .before .before .before .before .before .before .before .before .before .before .before .before .before .before .before .before .before .before .before .before .before .before .before .before))
+    (c .before .before .before .before .before .before .before .before .before .before .before .before .before .before .before .before .before .before .before .before .count-edges .ensures) (c .before .before .before .before .before .before .before .before .before .before .before .before .before .before .before .before .before .before .before .lists-fit .ensures)
+    (c .before .before .before .before .before .before .before .before .before .before .before .before .before .before .before .before .before .before .dense-fault .ensures) _ (was-true _ _ (c .before .before .before .before .before .before .before .before .before .before .before .before .before .before .before .before .before .is-done .ensures)
+    (c .before .before .before .before .before .before .before .before .before .before .before .before .before .before .before .before
+    .if1 .left)) (c .before .before .before .before .before .before .before .before .before .before .from-matrix .ensures)
 
 pub build-dense-spec : {M : Type 1} → statement M
 build-dense-spec =
@@ -106,5 +98,4 @@ build-dense-spec =
     same-length-3
     same-length-4
     same-length-5
-    same-length-6
     returns-2)

@@ -14,19 +14,19 @@ use Rattle.graph.proofs.build_sparse.Tie as tie
 -- the lists as they are lent
 abbrev lists : tie.Start → Graph
 lists c = let a = c .args in graph (a .size .checks) (a .size .mechanisms)
-    (a .check-var .now) (a .check-message .now) (a .check-offset .now) (a .var-check .now) (a .var-message .now) (a .var-offset .now)
+    (a .check-var .now) (a .check-offset .now) (a .var-check .now) (a .var-message .now) (a .var-offset .now)
 
 -- what the tests told
 told : (c : tie.Else1)
-    → let a = c .before .before .before .before .before .before .before .before .before .before .before .before .before .args in
+    → let a = c .before .before .before .before .before .before .before .before .before .before .before .before .args in
     Told (a .size .checks) (a .size .mechanisms) (a .size .edges) (a .priors .now) (a .detector-offsets .now) (a .detectors .now) (c .before .before .before .lists-fit .result)
 told c = sparse-told _ _ _ _ _ _ _ (sym (c .before .before .sparse-fault .ensures) ∙ done-is _ (was-true _ _ (c .before .is-done .ensures) (c .if1 .left)))
 
 -- and of the graph lists
-long : (c : tie.Else1) → Long (c .before .before .before .before .before .before .before .before .before .before .before .before .before .args .size .edges)
-    (lists (c .before .before .before .before .before .before .before .before .before .before .before .before .before))
+long : (c : tie.Else1) → Long (c .before .before .before .before .before .before .before .before .before .before .before .before .args .size .edges)
+    (lists (c .before .before .before .before .before .before .before .before .before .before .before .before))
 unfolding graphFits
-long c = long-told _ (lists (c .before .before .before .before .before .before .before .before .before .before .before .before .before))
+long c = long-told _ (lists (c .before .before .before .before .before .before .before .before .before .before .before .before))
     (sym (c .before .before .before .lists-fit .ensures) ∙ told c .lengths .fits)
 
 lists-fit-requires : tie.Need-lists-fit-requires
@@ -40,18 +40,18 @@ is-done-requires c κs = search needs
 
 returns : tie.Need-returns
 unfolding graphFits
-returns c = sparse-refused _ _ _ _ _ _ (lists (c .before .before .before .before .before .before .before .before .before .before .before .before .before))
+returns c = sparse-refused _ _ _ _ _ _ (lists (c .before .before .before .before .before .before .before .before .before .before .before .before))
     (c .before .before .before .lists-fit .ensures) (c .before .before .sparse-fault .ensures) (was-false _ _ (c .before .is-done .ensures) (c .if1 .taken))
 
 from-detectors-requires : tie.Need-from-detectors-requires
 from-detectors-requires c κs =
-    let t = told (c .before .before .before .before .before .before) in
-    let f = long (c .before .before .before .before .before .before) in
+    let t = told (c .before .before .before .before .before) in
+    let f = long (c .before .before .before .before .before) in
     let d = t .lengths .dets-many in (
       t .valid,
       (
         (omega (arith, t .few .checks-few), omega (arith, t .few .mechanisms-few), omega (arith, d, t .few .edges-few)),
-        ((f .check-var ∙ sym d, f .check-message ∙ sym d, f .check-offset), (f .var-check ∙ sym d, f .var-message ∙ sym d, f .var-offset)),
+        ((f .check-var ∙ sym d, f .check-offset), (f .var-check ∙ sym d, f .var-message ∙ sym d, f .var-offset)),
       ),
     )
 
@@ -70,20 +70,11 @@ same-length-4 c = search needs
 same-length-5 : tie.Need-same-length-5
 same-length-5 c = search needs
 
-same-length-6 : tie.Need-same-length-6
-same-length-6 c = search needs
-
 returns-2 : tie.Need-returns-2
 unfolding graphFits
-returns-2 c = sparse-done _ _ _ _ _ _ (lists (c .before .before .before .before .before .before .before .before .before .before .before .before .before .before
-    .before .before .before .before .before .before .before .before .before .before .before .before .before .before .before .before .before .before))
-    (c .before .before .before .before .before .before .before .before .before .before .before .before .before .before .before .before .before .before .before
-    .before .before .before .lists-fit .ensures) (c .before .before .before .before .before .before .before .before .before .before .before .before .before
-    .before .before .before .before .before .before .before .before .sparse-fault .ensures) _
-    (was-true _ _ (c .before .before .before .before .before .before .before .before .before .before .before .before .before .before .before .before .before
-    .before .before .before .is-done .ensures) (c .before .before .before .before .before .before .before .before .before .before .before .before .before
-    .before .before .before .before .before .before .if1 .left)) (c .before .before .before .before .before .before .before .before .before .before .before
-    .before .from-detectors .ensures)
+returns-2 c = sparse-done _ _ _ _ _ _ (lists (c .before .before .before .before .before .before .before .before .before .before .before .before .before .before .before .before .before .before .before .before .before .before .before .before .before .before .before .before))
+    (c .before .before .before .before .before .before .before .before .before .before .before .before .before .before .before .before .before .before .before .lists-fit .ensures) (c .before .before .before .before .before .before .before .before .before .before .before .before .before .before .before .before .before .before .sparse-fault .ensures) _
+    (was-true _ _ (c .before .before .before .before .before .before .before .before .before .before .before .before .before .before .before .before .before .is-done .ensures) (c .before .before .before .before .before .before .before .before .before .before .before .before .before .before .before .before .if1 .left)) (c .before .before .before .before .before .before .before .before .before .before .from-detectors .ensures)
 
 pub build-sparse-spec : {M : Type 1} → statement M
 build-sparse-spec =
@@ -99,5 +90,4 @@ build-sparse-spec =
     same-length-3
     same-length-4
     same-length-5
-    same-length-6
     returns-2)

@@ -21,9 +21,6 @@ both-requires-2 c κs = search needs
 same-number-requires-3 : tie.Need-same-number-requires-3
 same-number-requires-3 c κs = search needs
 
-same-number-requires-4 : tie.Need-same-number-requires-4
-same-number-requires-4 c κs = search needs
-
 one-more-requires-2 : tie.Need-one-more-requires-2
 one-more-requires-2 c κs = search needs
 
@@ -32,9 +29,6 @@ both-requires-3 c κs = search needs
 
 both-requires-4 : tie.Need-both-requires-4
 both-requires-4 c κs = search needs
-
-both-requires-5 : tie.Need-both-requires-5
-both-requires-5 c κs = search needs
 
 returns : tie.Need-returns
 returns c = cc
@@ -49,9 +43,7 @@ lists-fit-spec =
     both-requires
     both-requires-2
     same-number-requires-3
-    same-number-requires-4
     one-more-requires-2
     both-requires-3
     both-requires-4
-    both-requires-5
     returns)

@@ -10,13 +10,12 @@ abbrev lent : tie.Start → BeliefsLists
 lent c = let a = c .args in beliefsLists (a .posterior .now) (a .ewa-posterior .now) (a .c-to-v .now) (a .v-to-c .now)
 
 -- what the tests told
-passed : (c : tie.Else1) → let a = c .before .before .before .before .before .before .before .before .before .before .before .before .before .before .before
+passed : (c : tie.Else1) → let a = c .before .before .before .before .before .before .before .before .before .before .before .before .before .before
     .args in Told (a .size .edges) (a .size .checks) (a .size .mechanisms) (a .check-var .now) (a .check-offset .now) (a .var-message .now) (a .var-offset .now)
-    (a .priors .now) (a .syndrome .now) (lent (c .before .before .before .before .before .before .before .before .before .before .before .before .before .before
-    .before))
+    (a .priors .now) (a .syndrome .now) (lent (c .before .before .before .before .before .before .before .before .before .before .before .before .before .before))
 unfolding beliefsFault beliefsListsFit
-passed c = told _ _ _ _ _ _ _ _ _ _ _ (c .before .before .before .before .before .before .before .before .before .before .before .before .before .before .before
-    .args .iterations) (lent (c .before .before .before .before .before .before .before .before .before .before .before .before .before .before .before)) _ _
+passed c = told _ _ _ _ _ _ _ _ _ _ (c .before .before .before .before .before .before .before .before .before .before .before .before .before .before
+    .args .iterations) (lent (c .before .before .before .before .before .before .before .before .before .before .before .before .before .before)) _ _
     (c .before .before .fault .ensures) (c .before .is-done .ensures) (c .if1 .left)
 
 fault-requires : tie.Need-fault-requires
@@ -27,8 +26,7 @@ is-done-requires c κs = search needs
 
 returns : tie.Need-returns
 unfolding beliefsFault beliefsListsFit
-returns c = beliefs-refused _ _ _ _ _ _ _ _ _ _ _ _ (lent (c .before .before .before .before .before .before .before .before .before .before .before .before
-    .before .before .before)) _ _ _ _ (c .before .before .fault .ensures) (c .before .is-done .ensures) (c .if1 .taken)
+returns c = beliefs-refused _ _ _ _ _ _ _ _ _ _ _ (lent (c .before .before .before .before .before .before .before .before .before .before .before .before .before .before)) _ _ _ _ (c .before .before .fault .ensures) (c .before .is-done .ensures) (c .if1 .taken)
 
 ran-requires : tie.Need-ran-requires
 ran-requires c κs =
@@ -50,8 +48,7 @@ same-length-4 c = search needs
 returns-2 : tie.Need-returns-2
 unfolding beliefsFault beliefsListsFit
 returns-2 c =
-    beliefs-ran _ _ _ _ _ _ _ _ _ _ _ _ (lent (c .before .before .before .before .before .before .before .before .before .before .before .before .before .before
-    .before .before .before .before .before .before .before .before .before .before .before .before .before .before)) _ _ _ _ _
+    beliefs-ran _ _ _ _ _ _ _ _ _ _ _ (lent (c .before .before .before .before .before .before .before .before .before .before .before .before .before .before .before .before .before .before .before .before .before .before .before .before .before .before .before)) _ _ _ _ _
     (c .before .before .before .before .before .before .before .before .before .before .before .before .before .before .before .fault .ensures)
     (c .before .before .before .before .before .before .before .before .before .before .before .before .before .before .is-done .ensures)
     (c .before .before .before .before .before .before .before .before .before .before .before .before .before .if1 .left)

@@ -18,12 +18,10 @@ enum-told c = search needs
 
 decode-counted-requires : tie.Need-decode-counted-requires
 decode-counted-requires c κs =
-    let a = c .before .before .before .before .before .before .before .before .before .before .before .before .before .before .before .before .before .before
-    .before .before .before .before .before .before .before .before .before .before .before .before .before .before .before .before .before .before .before
-    .before .before .before .before .before .args in
+    let a = c .before .before .before .before .before .before .before .before .before .before .before .before .before .before .before .before .before .before .before .before .before .before .before .before .before .before .before .before .before .before .before .before .before .before .before .before .before .before .before .before .before .args in
     let w = index-told (a .size .edges) (a .size .checks) (a .size .mechanisms)
     (a .settings) (a .gammas .now) (a .seed) (a .syndrome .now)
-    (a .priors .now) (a .check-var .now) (a .check-message .now) (a .check-offset .now) (a .var-check .now) (a .var-message .now) (a .var-offset .now)
+    (a .priors .now) (a .check-var .now) (a .check-offset .now) (a .var-check .now) (a .var-message .now) (a .var-offset .now)
     (record {
       legState = a .leg-state .now;
       legIterations = a .leg-iterations .now;
@@ -40,7 +38,7 @@ decode-counted-requires c κs =
     (c .before .before .before .before .before .before .before .before .before .before .before .before .shot-fault .ensures ∙ shot-seed
     (a .size .edges) (a .size .checks) (a .size .mechanisms) (a .settings)
     (a .gammas .now) (a .seed) (a .syndrome .now) (a .priors .now)
-    (a .check-var .now) (a .check-message .now) (a .check-offset .now)
+    (a .check-var .now) (a .check-offset .now)
     (a .var-check .now) (a .var-message .now) (a .var-offset .now)
     (record {
       legState = a .leg-state .now;
@@ -90,11 +88,10 @@ same-length-10 c = refl
 
 returns : tie.Need-returns
 returns c =
-    let a = c .before .before .before .before .before .before .before .before .before .before .before .before .before .before .before .before .before .before
-    .before .before .before .before .before .before .before .before .before .before .before .before .before .before .before .args in
+    let a = c .before .before .before .before .before .before .before .before .before .before .before .before .before .before .before .before .before .before .before .before .before .before .before .before .before .before .before .before .before .before .before .before .args in
     index-refused (a .size .edges) (a .size .checks) (a .size .mechanisms)
     (a .settings) (a .gammas .now) (a .seed) (a .syndrome .now)
-    (a .priors .now) (a .check-var .now) (a .check-message .now) (a .check-offset .now) (a .var-check .now) (a .var-message .now) (a .var-offset .now)
+    (a .priors .now) (a .check-var .now) (a .check-offset .now) (a .var-check .now) (a .var-message .now) (a .var-offset .now)
     (record {
       legState = a .leg-state .now;
       legIterations = a .leg-iterations .now;
@@ -111,7 +108,7 @@ returns c =
     (c .before .before .before .shot-fault .ensures ∙ shot-seed (a .size .edges)
     (a .size .checks) (a .size .mechanisms) (a .settings)
     (a .gammas .now) (a .seed) (a .syndrome .now) (a .priors .now)
-    (a .check-var .now) (a .check-message .now) (a .check-offset .now)
+    (a .check-var .now) (a .check-offset .now)
     (a .var-check .now) (a .var-message .now) (a .var-offset .now)
     (record {
       legState = a .leg-state .now;
@@ -170,13 +167,10 @@ same-length-20 c = c .before .before .before .before .before .before .before .be
 
 returns-2 : tie.Need-returns-2
 returns-2 c =
-    let a = c .before .before .before .before .before .before .before .before .before .before .before .before .before .before .before .before .before .before
-    .before .before .before .before .before .before .before .before .before .before .before .before .before .before .before .before .before .before .before
-    .before .before .before .before .before .before .before .before .before .before .before .before .before .before .before .before .before .before .before
-    .before .before .before .before .before .before .before .args in
+    let a = c .before .before .before .before .before .before .before .before .before .before .before .before .before .before .before .before .before .before .before .before .before .before .before .before .before .before .before .before .before .before .before .before .before .before .before .before .before .before .before .before .before .before .before .before .before .before .before .before .before .before .before .before .before .before .before .before .before .before .before .before .before .before .args in
     index-ran (a .size .edges) (a .size .checks) (a .size .mechanisms)
     (a .settings) (a .gammas .now) (a .seed) (a .syndrome .now)
-    (a .priors .now) (a .check-var .now) (a .check-message .now) (a .check-offset .now) (a .var-check .now) (a .var-message .now) (a .var-offset .now)
+    (a .priors .now) (a .check-var .now) (a .check-offset .now) (a .var-check .now) (a .var-message .now) (a .var-offset .now)
     (record {
       legState = a .leg-state .now;
       legIterations = a .leg-iterations .now;
@@ -194,7 +188,7 @@ returns-2 c =
     .before .before .before .before .before .before .before .before .before .before .before .before .before .before .before .shot-fault .ensures ∙ shot-seed
     (a .size .edges) (a .size .checks) (a .size .mechanisms) (a .settings)
     (a .gammas .now) (a .seed) (a .syndrome .now) (a .priors .now)
-    (a .check-var .now) (a .check-message .now) (a .check-offset .now)
+    (a .check-var .now) (a .check-offset .now)
     (a .var-check .now) (a .var-message .now) (a .var-offset .now)
     (record {
       legState = a .leg-state .now;

@@ -17,11 +17,9 @@ enum-told c = search needs
 
 decode-fronts-requires : tie.Need-decode-fronts-requires
 decode-fronts-requires c κs =
-    let a = c .before .before .before .before .before .before .before .before .before .before .before .before .before .before .before .before .before .before
-    .before .before .before .before .before .before .before .before .before .before .before .before .before .before .before .before .before .before .before
-    .before .before .before .before .before .before .args in
+    let a = c .before .before .before .before .before .before .before .before .before .before .before .before .before .before .before .before .before .before .before .before .before .before .before .before .before .before .before .before .before .before .before .before .before .before .before .before .before .before .before .before .before .before .args in
     let w = in-order-told (a .size .edges) (a .size .checks) (a .size .mechanisms) (a .settings) (a .gammas .now) (a .seed) (a .syndrome .now) (a .priors .now)
-    (a .check-var .now) (a .check-message .now) (a .check-offset .now) (a .var-check .now) (a .var-message .now) (a .var-offset .now) (a .order .now)
+    (a .check-var .now) (a .check-offset .now) (a .var-check .now) (a .var-message .now) (a .var-offset .now) (a .order .now)
     (record {
       legState = a .leg-state .now;
       legIterations = a .leg-iterations .now;
@@ -38,7 +36,7 @@ decode-fronts-requires c κs =
     (c .before .before .before .before .before .before .before .before .before .before .before .before .decode-fault .ensures ∙ fault-seed (a .size .edges)
     (a .size .checks) (a .size .mechanisms) (a .settings)
     (a .gammas .now) (a .seed) (a .syndrome .now) (a .priors .now)
-    (a .check-var .now) (a .check-message .now) (a .check-offset .now) (a .var-check .now) (a .var-message .now) (a .var-offset .now) (a .order .now)
+    (a .check-var .now) (a .check-offset .now) (a .var-check .now) (a .var-message .now) (a .var-offset .now) (a .order .now)
     (record {
       legState = a .leg-state .now;
       legIterations = a .leg-iterations .now;
@@ -87,11 +85,10 @@ same-length-10 c = refl
 
 returns : tie.Need-returns
 returns c =
-    let a = c .before .before .before .before .before .before .before .before .before .before .before .before .before .before .before .before .before .before
-    .before .before .before .before .before .before .before .before .before .before .before .before .before .before .before .before .args in
+    let a = c .before .before .before .before .before .before .before .before .before .before .before .before .before .before .before .before .before .before .before .before .before .before .before .before .before .before .before .before .before .before .before .before .before .args in
     in-order-refused (a .size .edges) (a .size .checks) (a .size .mechanisms)
     (a .settings) (a .gammas .now) (a .seed) (a .syndrome .now)
-    (a .priors .now) (a .check-var .now) (a .check-message .now)
+    (a .priors .now) (a .check-var .now)
     (a .check-offset .now) (a .var-check .now) (a .var-message .now)
     (a .var-offset .now) (a .order .now) (record {
       legState = a .leg-state .now;
@@ -107,7 +104,7 @@ returns c =
     }) _ _ (c .before .before .before .decode-fault .ensures ∙ fault-seed
     (a .size .edges) (a .size .checks) (a .size .mechanisms) (a .settings)
     (a .gammas .now) (a .seed) (a .syndrome .now) (a .priors .now)
-    (a .check-var .now) (a .check-message .now) (a .check-offset .now) (a .var-check .now) (a .var-message .now) (a .var-offset .now) (a .order .now)
+    (a .check-var .now) (a .check-offset .now) (a .var-check .now) (a .var-message .now) (a .var-offset .now) (a .order .now)
     (record {
       legState = a .leg-state .now;
       legIterations = a .leg-iterations .now;
@@ -165,13 +162,10 @@ same-length-20 c = c .before .before .before .before .before .before .before .be
 
 returns-2 : tie.Need-returns-2
 returns-2 c =
-    let a = c .before .before .before .before .before .before .before .before .before .before .before .before .before .before .before .before .before .before
-    .before .before .before .before .before .before .before .before .before .before .before .before .before .before .before .before .before .before .before
-    .before .before .before .before .before .before .before .before .before .before .before .before .before .before .before .before .before .before .before
-    .before .before .before .before .before .before .before .before .args in
+    let a = c .before .before .before .before .before .before .before .before .before .before .before .before .before .before .before .before .before .before .before .before .before .before .before .before .before .before .before .before .before .before .before .before .before .before .before .before .before .before .before .before .before .before .before .before .before .before .before .before .before .before .before .before .before .before .before .before .before .before .before .before .before .before .before .args in
     in-order-ran (a .size .edges) (a .size .checks) (a .size .mechanisms)
     (a .settings) (a .gammas .now) (a .seed) (a .syndrome .now)
-    (a .priors .now) (a .check-var .now) (a .check-message .now)
+    (a .priors .now) (a .check-var .now)
     (a .check-offset .now) (a .var-check .now) (a .var-message .now)
     (a .var-offset .now) (a .order .now) (record {
       legState = a .leg-state .now;
@@ -187,7 +181,7 @@ returns-2 c =
     }) _ _ (c .before .before .before .before .before .before .before .before .before .before .before .before .before .before .before
     .before .before .before .before .before .before .before .before .before .before .before .before .before .before .before .before .before .before
     .decode-fault .ensures ∙ fault-seed (a .size .edges) (a .size .checks) (a .size .mechanisms) (a .settings) (a .gammas .now) (a .seed) (a .syndrome .now)
-    (a .priors .now) (a .check-var .now) (a .check-message .now)
+    (a .priors .now) (a .check-var .now)
     (a .check-offset .now) (a .var-check .now) (a .var-message .now)
     (a .var-offset .now) (a .order .now) (record {
       legState = a .leg-state .now;

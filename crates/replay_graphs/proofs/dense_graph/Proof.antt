@@ -20,32 +20,26 @@ array-borrow-prefix-check-var c = search needs
 slice-aggregate-dense-built : tie.Need-slice-aggregate-dense-built
 slice-aggregate-dense-built c = part-length _ _ 128 (omega arith)
 
-array-borrow-prefix-check-message : tie.Need-array-borrow-prefix-check-message
-array-borrow-prefix-check-message c = search needs
-
-slice-aggregate-dense-built-2 : tie.Need-slice-aggregate-dense-built-2
-slice-aggregate-dense-built-2 c = part-length _ _ 128 (omega arith)
-
 add-check-offset : tie.Need-add-check-offset
 add-check-offset c = search needs
 
 array-borrow-prefix-check-offset : tie.Need-array-borrow-prefix-check-offset
 array-borrow-prefix-check-offset c = search needs
 
-slice-aggregate-dense-built-3 : tie.Need-slice-aggregate-dense-built-3
-slice-aggregate-dense-built-3 c = part-length _ _ 64 (omega arith)
+slice-aggregate-dense-built-2 : tie.Need-slice-aggregate-dense-built-2
+slice-aggregate-dense-built-2 c = part-length _ _ 64 (omega arith)
 
 array-borrow-prefix-var-check : tie.Need-array-borrow-prefix-var-check
 array-borrow-prefix-var-check c = search needs
 
-slice-aggregate-dense-built-4 : tie.Need-slice-aggregate-dense-built-4
-slice-aggregate-dense-built-4 c = part-length _ _ 128 (omega arith)
+slice-aggregate-dense-built-3 : tie.Need-slice-aggregate-dense-built-3
+slice-aggregate-dense-built-3 c = part-length _ _ 128 (omega arith)
 
 array-borrow-prefix-var-message : tie.Need-array-borrow-prefix-var-message
 array-borrow-prefix-var-message c = search needs
 
-slice-aggregate-dense-built-5 : tie.Need-slice-aggregate-dense-built-5
-slice-aggregate-dense-built-5 c = part-length _ _ 128 (omega arith)
+slice-aggregate-dense-built-4 : tie.Need-slice-aggregate-dense-built-4
+slice-aggregate-dense-built-4 c = part-length _ _ 128 (omega arith)
 
 add-var-offset : tie.Need-add-var-offset
 add-var-offset c = search needs
@@ -53,8 +47,8 @@ add-var-offset c = search needs
 array-borrow-prefix-var-offset : tie.Need-array-borrow-prefix-var-offset
 array-borrow-prefix-var-offset c = search needs
 
-slice-aggregate-dense-built-6 : tie.Need-slice-aggregate-dense-built-6
-slice-aggregate-dense-built-6 c = part-length _ _ 64 (omega arith)
+slice-aggregate-dense-built-5 : tie.Need-slice-aggregate-dense-built-5
+slice-aggregate-dense-built-5 c = part-length _ _ 64 (omega arith)
 
 dense-built-requires : tie.Need-dense-built-requires
 dense-built-requires c κs = search needs
@@ -71,17 +65,15 @@ dense-graph-spec =
     returns-3
     array-borrow-prefix-check-var
     slice-aggregate-dense-built
-    array-borrow-prefix-check-message
-    slice-aggregate-dense-built-2
     add-check-offset
     array-borrow-prefix-check-offset
-    slice-aggregate-dense-built-3
+    slice-aggregate-dense-built-2
     array-borrow-prefix-var-check
-    slice-aggregate-dense-built-4
+    slice-aggregate-dense-built-3
     array-borrow-prefix-var-message
-    slice-aggregate-dense-built-5
+    slice-aggregate-dense-built-4
     add-var-offset
     array-borrow-prefix-var-offset
-    slice-aggregate-dense-built-6
+    slice-aggregate-dense-built-5
     dense-built-requires
     returns-4)

@@ -36,15 +36,11 @@ same-length-7 c = search needs
 same-length-8 : tie.Need-same-length-8
 same-length-8 c = search needs
 
-same-length-9 : tie.Need-same-length-9
-same-length-9 c = search needs
-
 returns : tie.Need-returns
 returns c =
     ap (λ (o : BuildOutcome). o .answer) (built-read _ _ _ _ _ _ _ _ _
-    (c .before .before .before .before .before .before .before .before .before .before .before .before .before .before .before .before .before .before .before .before
-    .before .before .before .before .before .before .before .before .read-model .ensures)
-    (c .before .before .before .before .before .before .before .before .before .before .before .before .build-sparse .ensures))
+    (c .before .before .before .before .before .before .before .before .before .before .before .before .before .before .before .before .before .before .before .before .before .before .before .before .before .read-model .ensures)
+    (c .before .before .before .before .before .before .before .before .before .before .build-sparse .ensures))
 
 pub built-spec : {M : Type 1} → statement M
 built-spec =
@@ -60,5 +56,4 @@ built-spec =
     same-length-6
     same-length-7
     same-length-8
-    same-length-9
     returns)

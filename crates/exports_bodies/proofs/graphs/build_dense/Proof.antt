@@ -25,11 +25,8 @@ same-length-4 c = search needs
 same-length-5 : tie.Need-same-length-5
 same-length-5 c = search needs
 
-same-length-6 : tie.Need-same-length-6
-same-length-6 c = search needs
-
 returns : tie.Need-returns
-returns c = sent-as _ _ _ _ (c .code .ensures) (c .before .before .before .before .before .before .before .before .before .before .before .before .before .build-dense .ensures)
+returns c = sent-as _ _ _ _ (c .code .ensures) (c .before .before .before .before .before .before .before .before .before .before .before .build-dense .ensures)
 
 pub build-dense-spec : {M : Type 1} → statement M
 build-dense-spec =
@@ -42,5 +39,4 @@ build-dense-spec =
     same-length-3
     same-length-4
     same-length-5
-    same-length-6
     returns)

@@ -25,11 +25,8 @@ same-length-4 c = search needs
 same-length-5 : tie.Need-same-length-5
 same-length-5 c = search needs
 
-same-length-6 : tie.Need-same-length-6
-same-length-6 c = search needs
-
 returns : tie.Need-returns
-returns c = sent-as _ _ _ _ (c .code .ensures) (c .before .before .before .before .before .before .before .before .before .before .before .before .before .build-sparse .ensures)
+returns c = sent-as _ _ _ _ (c .code .ensures) (c .before .before .before .before .before .before .before .before .before .before .before .build-sparse .ensures)
 
 pub build-sparse-spec : {M : Type 1} → statement M
 build-sparse-spec =
@@ -42,5 +39,4 @@ build-sparse-spec =
     same-length-3
     same-length-4
     same-length-5
-    same-length-6
     returns)

@@ -3,21 +3,21 @@ use mathlib.Core.Path.{sym, _∙_}
 use native.Mathlib.Omega.{arith}
 use borrow.Author.Needs.{needs}
 use Rattle.graph_lists.specs.Graph.{marked}
-use Rattle.graph_lists.proofs.Built.{finished, second-valid}
+use Rattle.graph_lists.proofs.Built.{second-pass, second-valid}
 use Rattle.graph_lists.proofs.dense.from_matrix.Statement.{statement}
 use Rattle.graph_lists.proofs.dense.from_matrix.Tie as tie
 
 mark-rows-requires : tie.Need-mark-rows-requires
 mark-rows-requires c κs = search needs
 
-from-checks-requires : tie.Need-from-checks-requires
-from-checks-requires c κs =
-    let b = c .before .before .before .before .before .before .before .before .before .before .before .before .before .before .before .before .before .before .before .before in
+bucket-requires : tie.Need-bucket-requires
+bucket-requires c κs =
+    let b = c .before .before .before .before .before .before .before .before .before .before .before .before .before .before .before .before .before .before in
     let p = b .pre in
-    let m = c .before .before .before .before .before .before .before .before .before .before .mark-rows in
+    let m = c .before .before .before .before .before .before .before .before .before .mark-rows in
     let l = m .kept .1 .1 .1 .0 ∙ p .1 .1 .0 .0 in
     let s = second-valid (b .args .checks) (b .args .mechanisms) (marked (b .args .mechanisms) (b .args .matrix .now)) _ _ (m .ensures .0) (m .ensures .1) in
-    (s .0, (s .1, ((p .1 .0 .0, omega (arith, l, p .1 .0 .2)), (p .1 .1 .0 .1 ∙ sym l, (p .1 .1 .1 .0 ∙ sym l, p .1 .1 .1 .1 ∙ sym l, p .1 .1 .1 .2)))))
+    (s .0, (s .1, ((p .1 .0 .0, omega (arith, l, p .1 .0 .2)), (p .1 .1 .1 .2, p .1 .1 .1 .0 ∙ sym l, p .1 .1 .1 .1 ∙ sym l))))
 
 same-length : tie.Need-same-length
 same-length c = search needs
@@ -34,28 +34,22 @@ same-length-4 c = search needs
 same-length-5 : tie.Need-same-length-5
 same-length-5 c = search needs
 
-same-length-6 : tie.Need-same-length-6
-same-length-6 c = search needs
-
 returns : tie.Need-returns
 returns c =
-    let b = c .before .before .before .before .before .before .before .before .before .before .before .before .before .before .before .before .before .before
-    .before .before .before .before .before .before .before .before .before .before .before in
-    let m = c .before .before .before .before .before .before .before .before .before .before .before .before .before .before .before .before .before .before .before .mark-rows in
-    finished (b .args .checks) (b .args .mechanisms) (marked (b .args .mechanisms)
-    (b .args .matrix .now)) _ _ _ _ _ _ (m .ensures .0) (m .ensures .1)
-    (c .before .before .before .before .before .before .before .before .from-checks .ensures)
+    let b = c .before .before .before .before .before .before .before .before .before .before .before .before .before .before .before .before .before .before .before .before .before .before .before .before .before in
+    let m = c .before .before .before .before .before .before .before .before .before .before .before .before .before .before .before .before .mark-rows in
+    second-pass (b .args .checks) (b .args .mechanisms) (marked (b .args .mechanisms) (b .args .matrix .now)) _ _ _ _ _ (m .ensures .0) (m .ensures .1)
+    (c .before .before .before .before .before .before .bucket .ensures)
 
 pub from-matrix-spec : {M : Type 1} → statement M
 from-matrix-spec =
     tie.close
     (tie.spec
     mark-rows-requires
-    from-checks-requires
+    bucket-requires
     same-length
     same-length-2
     same-length-3
     same-length-4
     same-length-5
-    same-length-6
     returns)

@@ -5,6 +5,7 @@ use Prim.Native.Nat.{_≤_, _-_}
 use native.Mathlib.Omega.{arith}
 use lib.ListN.{length, replicate}
 use borrow.Author.Needs.{needs}
+use Rattle.graph_lists.specs.Messages.{byPlace}
 use Rattle.numbers.specs.Floats.{zero⁺}
 use Rattle.graph_messages.specs.Needs.{walked}
 use Rattle.graph_messages.proofs.Parts.{entries-along}
@@ -17,7 +18,7 @@ abbrev Inv-loop : tie.InvT-loop
 Inv-loop inner outer serial scale syndrome priors check-var check-offset var-message var-offset c-to-v₀ v-to-c₀ ewa-posterior₀ i₀ c-to-v v-to-c ewa-posterior i =
     (i ≤ inner) × (length c-to-v ≡ length check-var) × (length v-to-c ≡ length check-var) × (length ewa-posterior ≡ length priors)
     × (belief (messages c-to-v v-to-c) ewa-posterior
-    ≡ outerRoundTo (walked (length syndrome) (length priors) check-var check-offset var-message var-offset) serial scale syndrome priors outer (belief (messages [] []) ewa-posterior₀) i)
+    ≡ outerRoundTo byPlace (walked (length syndrome) (length priors) check-var check-offset var-message var-offset) serial scale syndrome priors outer (belief (messages [] []) ewa-posterior₀) i)
 
 abbrev μ-loop : tie.MeasureT-loop
 μ-loop inner outer serial scale syndrome priors check-var check-offset var-message var-offset c-to-v₀ v-to-c₀ ewa-posterior₀ i₀ c-to-v v-to-c ewa-posterior i = inner - i

@@ -1,6 +1,7 @@
 -- `min_sum::run::two_outer_rounds` meets its contract. The second round starts from what the first leaves. Assumes nothing.
 use mathlib.Core.Path.{ap, _∙_}
 use borrow.Author.Needs.{needs}
+use Rattle.graph_lists.specs.Messages.{byPlace}
 use Rattle.min_sum_pass.specs.MinSum.{outerRound}
 use Rattle.min_sum.proofs.run.two_outer_rounds.Statement.{statement}
 use Rattle.min_sum.proofs.run.two_outer_rounds.Tie as tie
@@ -34,7 +35,7 @@ same-length-3 c = search needs
 
 returns : tie.Need-returns
 returns c = c .before .before .before .before .before .before .outer-round2 .ensures ∙ ap
-    (outerRound _ _ _ _ _ _ _) (c .before .before .before .before .before .before .before .before .before .before .before .before .before .before .before
+    (outerRound byPlace _ _ _ _ _ _ _) (c .before .before .before .before .before .before .before .before .before .before .before .before .before .before .before
     .before .outer-round .ensures)
 
 pub two-outer-rounds-spec : {M : Type 1} → statement M

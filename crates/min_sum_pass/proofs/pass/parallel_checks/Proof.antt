@@ -3,6 +3,7 @@ use mathlib.Core.Path.{_≡_, refl, ap, _∙_}
 use Prim.Native.Nat.{_≤_, _-_}
 use native.Mathlib.Omega.{arith}
 use lib.ListN.{length}
+use Rattle.graph_lists.specs.Messages.{byPlace}
 use Rattle.graph_messages.specs.Needs.{ofChecks}
 use Rattle.min_sum_pass.specs.MinSum.{messages, checksTo}
 use Rattle.min_sum_pass.proofs.Checks.{checks-turn}
@@ -12,7 +13,7 @@ use Rattle.min_sum_pass.proofs.pass.parallel_checks.Tie as tie
 abbrev Inv-loop : tie.InvT-loop
 Inv-loop scale syndrome check-var check-offset v-to-c c-to-v₀ c₀ c-to-v c =
     (c ≤ length syndrome) × (length c-to-v ≡ length c-to-v₀)
-    × (messages c-to-v v-to-c ≡ checksTo (ofChecks (length syndrome) check-var check-offset) scale syndrome (messages c-to-v₀ v-to-c) c)
+    × (messages c-to-v v-to-c ≡ checksTo byPlace (ofChecks (length syndrome) check-var check-offset) scale syndrome (messages c-to-v₀ v-to-c) c)
 
 abbrev μ-loop : tie.MeasureT-loop
 μ-loop scale syndrome check-var check-offset v-to-c c-to-v₀ c₀ c-to-v c = length syndrome - c
@@ -42,7 +43,7 @@ same-length : tie.Need-same-length Inv-loop μ-loop
 same-length c = omega arith
 
 returns : tie.Need-returns Inv-loop μ-loop
-returns c = c .before .loop .inv .2 ∙ ap (checksTo _ _ _ _) (omega arith)
+returns c = c .before .loop .inv .2 ∙ ap (checksTo byPlace _ _ _ _) (omega arith)
 
 pub parallel-checks-spec : {M : Type 1} → statement M
 parallel-checks-spec =

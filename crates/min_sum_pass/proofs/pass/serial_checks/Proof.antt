@@ -3,6 +3,7 @@ use mathlib.Core.Path.{_≡_, refl, ap, _∙_}
 use Prim.Native.Nat.{_≤_, _-_}
 use native.Mathlib.Omega.{arith}
 use lib.ListN.{length}
+use Rattle.graph_lists.specs.Messages.{byPlace}
 use Rattle.graph_messages.specs.Needs.{walked}
 use Rattle.min_sum_pass.specs.MinSum.{messages, serialTo}
 use Rattle.min_sum_pass.proofs.Checks.{serial-turn}
@@ -13,7 +14,7 @@ abbrev Inv-loop : tie.InvT-loop
 Inv-loop scale syndrome priors check-var check-offset var-message var-offset c-to-v₀ v-to-c₀ c₀ c-to-v v-to-c c =
     (c ≤ length syndrome) × (length c-to-v ≡ length c-to-v₀) × (length v-to-c ≡ length v-to-c₀)
     × (messages c-to-v v-to-c
-    ≡ serialTo (walked (length syndrome) (length priors) check-var check-offset var-message var-offset) scale syndrome priors (messages c-to-v₀ v-to-c₀) c)
+    ≡ serialTo byPlace (walked (length syndrome) (length priors) check-var check-offset var-message var-offset) scale syndrome priors (messages c-to-v₀ v-to-c₀) c)
 
 abbrev μ-loop : tie.MeasureT-loop
 μ-loop scale syndrome priors check-var check-offset var-message var-offset c-to-v₀ v-to-c₀ c₀ c-to-v v-to-c c = length syndrome - c
@@ -49,7 +50,7 @@ same-length-2 : tie.Need-same-length-2 Inv-loop μ-loop
 same-length-2 c = omega arith
 
 returns : tie.Need-returns Inv-loop μ-loop
-returns c = c .before .loop .inv .3 ∙ ap (serialTo _ _ _ _ _) (omega arith)
+returns c = c .before .loop .inv .3 ∙ ap (serialTo byPlace _ _ _ _ _) (omega arith)
 
 pub serial-checks-spec : {M : Type 1} → statement M
 serial-checks-spec =

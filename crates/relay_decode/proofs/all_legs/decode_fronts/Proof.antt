@@ -5,6 +5,7 @@ use native.Mathlib.Numerals.{add-one}
 use native.Mathlib.Omega.{arith}
 use lib.ListN.{length}
 use borrow.Rule.Slice.PartMut.{same-len-mid}
+use Rattle.graph_lists.specs.Messages.{byPlace}
 use Rattle.relay_calls.specs.Decode.{decodeLegs}
 use Rattle.relay_record.specs.Kept.{shotOf}
 use Rattle.relay_decode.proofs.Faults.{cells-small}
@@ -159,7 +160,7 @@ returns c =
     })
     (x .last .1 .1 .1 .1 .1 .1 .1 .1 .1 .1 .0) (x .last .1 .1 .1 .1 .1 .1 .1 .1 .1 .1 .1 .0)
     (x .last .1 .1 .1 .1 .1 .1 .1 .1 .1 .1 .1 .1 .0) (x .last .1 .1 .1 .1 .1 .1 .1 .1 .1 .1 .1 .1 .1 .0) _ _ _ _ _ _ _ _ _ _
-    (decodeLegs (shotOf (a .t) (a .gammas .now) (a .seed) (a .syndrome .now)
+    (decodeLegs byPlace (shotOf (a .t) (a .gammas .now) (a .seed) (a .syndrome .now)
     (a .priors .now) (a .check-var .now) (a .check-offset .now) (a .var-message .now)
     (a .var-offset .now) (a .order .now))) _ (x .ensures .0) (x .ensures .1 .0) (
       front-tail (n + 1) (a .leg-state .now) (x .last .1 .1 .1 .1 .1 .1 .1 .1 .1 .1 .0)

@@ -2,6 +2,7 @@
 -- Assumes nothing.
 use mathlib.Core.Path.{ap, _∙_}
 use lib.ListN.{replicate}
+use Rattle.graph_lists.specs.Messages.{byPlace}
 use Rattle.numbers.specs.Floats.{zero⁺}
 use Rattle.relay_record.specs.Kept.{shotOf}
 use Rattle.relay_calls.specs.Decode.{decodeLegs}
@@ -186,7 +187,7 @@ returns c =
             (x .kept .1 .1 .1 .1 .1 .1 .1 .1 .1 .1 .1 .1 .0 ∙ z .kept .1 .1 .0 ∙ p .1 .0 .of-weights)
             (x .kept .1 .1 .1 .1 .1 .1 .1 .1 .1 .1 .1 .1 .1 .0 ∙ z .kept .1 .1 .1 .0 ∙ p .1 .0 .of-rows)
             (x .kept .1 .1 .1 .1 .1 .1 .1 .1 .1 .1 .1 .1 .1 .1 .0 ∙ z .kept .1 .1 .1 .1 .0 ∙ p .1 .1 .0 .bits)
-            (decodeLegs (shotOf (a .t) (a .gammas .now) (a .seed) (a .syndrome .now)
+            (decodeLegs byPlace (shotOf (a .t) (a .gammas .now) (a .seed) (a .syndrome .now)
             (a .priors .now) (a .check-var .now) (a .check-offset .now)
             (a .var-message .now) (a .var-offset .now) (a .order .now)))
             (x .result) _ (x .kept .1 .1 .1 .1 .1 .1 .1 .1 .1 .1 .1 .1 .1 .1 .1 .0 ∙ y .kept .1 .0 ∙ p .1 .1 .0 .posteriors)

@@ -12,10 +12,9 @@ is-done-requires : tie.Need-is-done-requires
 is-done-requires c κs = search needs
 
 returns : tie.Need-returns
-returns c = let a = c .before .before .before .before .before .before .before .before .before .before .before .before .before .before .before .before .before
-    .before .before .before .before .before .before .args in fault-before
+returns c = let a = c .before .before .before .before .before .before .before .before .before .before .before .before .before .before .before .before .before .before .before .before .before .before .args in fault-before
     (a .size .edges) (a .size .checks) (a .size .mechanisms) (a .t) (a .gammas .now) 0
-    (a .syndrome .now) (a .priors .now) (a .check-var .now) (a .check-message .now)
+    (a .syndrome .now) (a .priors .now) (a .check-var .now)
     (a .check-offset .now) (a .var-check .now) (a .var-message .now) (a .var-offset .now)
     (a .order .now) (record {
       legState = a .leg-state .now;
@@ -32,10 +31,9 @@ returns c = let a = c .before .before .before .before .before .before .before .b
     _ _ (c .before .before .shot-fault .ensures) (c .before .is-done .ensures) (c .if1 .taken)
 
 order-fault-requires : tie.Need-order-fault-requires
-order-fault-requires c κs = let a = c .before .before .before .before .before .before .before .before .before .before .before .before .before .before .before
-    .before .before .before .before .before .before .before .before .args in order-asks
+order-fault-requires c κs = let a = c .before .before .before .before .before .before .before .before .before .before .before .before .before .before .before .before .before .before .before .before .before .before .args in order-asks
     (a .size .edges) (a .size .checks) (a .size .mechanisms) (a .t) (a .gammas .now) 0
-    (a .syndrome .now) (a .priors .now) (a .check-var .now) (a .check-message .now)
+    (a .syndrome .now) (a .priors .now) (a .check-var .now)
     (a .check-offset .now) (a .var-check .now) (a .var-message .now) (a .var-offset .now)
     (a .order .now) (record {
       legState = a .leg-state .now;
@@ -52,10 +50,9 @@ order-fault-requires c κs = let a = c .before .before .before .before .before .
     _ _ (c .before .before .shot-fault .ensures) (c .before .is-done .ensures) (c .if1 .left)
 
 returns-2 : tie.Need-returns-2
-returns-2 c = let a = c .before .before .before .before .before .before .before .before .before .before .before .before .before .before .before .before .before
-    .before .before .before .before .before .before .before .args in fault-after
+returns-2 c = let a = c .before .before .before .before .before .before .before .before .before .before .before .before .before .before .before .before .before .before .before .before .before .before .before .args in fault-after
     (a .size .edges) (a .size .checks) (a .size .mechanisms) (a .t) (a .gammas .now) 0
-    (a .syndrome .now) (a .priors .now) (a .check-var .now) (a .check-message .now)
+    (a .syndrome .now) (a .priors .now) (a .check-var .now)
     (a .check-offset .now) (a .var-check .now) (a .var-message .now) (a .var-offset .now)
     (a .order .now) (record {
       legState = a .leg-state .now;

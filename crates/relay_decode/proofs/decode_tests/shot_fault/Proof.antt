@@ -15,18 +15,14 @@ use Rattle.relay_decode.proofs.decode_tests.shot_fault.Tie as tie
 
 -- the graph's test has passed, so that the settings' is 10 to 19
 settled : (c : tie.After-check-settings) → c .check-settings .result ≡ settingsFault
-    (c .before .before .before .before .before .before .before .before .before .before .before .before .before .before .before .before .before .before .before
-    .before .before .before .before .args .t) (c .before .before .before .before .before .before .before .before .before .before .before .before .before .before
-    .before .before .before .before .before .before .before .before .before .args .size .mechanisms)
-    (c .before .before .before .before .before .before .before .before .before .before .before .before .before .before .before .before .before .before .before
-    .before .before .before .before .args .gammas .now)
+    (c .before .before .before .before .before .before .before .before .before .before .before .before .before .before .before .before .before .before .before .before .before .before .args .t) (c .before .before .before .before .before .before .before .before .before .before .before .before .before .before .before .before .before .before .before .before .before .before .args .size .mechanisms)
+    (c .before .before .before .before .before .before .before .before .before .before .before .before .before .before .before .before .before .before .before .before .before .before .args .gammas .now)
 settled c =
-    let a = c .before .before .before .before .before .before .before .before .before .before .before .before .before .before .before .before .before .before
-    .before .before .before .before .before .args in
+    let a = c .before .before .before .before .before .before .before .before .before .before .before .before .before .before .before .before .before .before .before .before .before .before .args in
     c .check-settings .ensures
     ∙ size-passed _ _ _
     (mechanisms-few (a .size .edges) (a .priors .now) (graph
-    (a .size .checks) (a .size .mechanisms) (a .check-var .now) (a .check-message .now)
+    (a .size .checks) (a .size .mechanisms) (a .check-var .now)
     (a .check-offset .now) (a .var-check .now) (a .var-message .now) (a .var-offset .now)) _ _
     (c .before .before .before .check-graph .ensures) (c .before .before .is-done .ensures) (c .before .if1 .left))
 
@@ -54,13 +50,12 @@ returns-2 c = or-passed _ _ _ _ _ (c .before .before .before .before .before .ch
 
 legs-fit-requires : tie.Need-legs-fit-requires
 legs-fit-requires c κs =
-    let a = c .before .before .before .before .before .before .before .before .before .before .before .before .before .before .before .before .before .before
-    .before .before .before .before .before .before .before .args in (
+    let a = c .before .before .before .before .before .before .before .before .before .before .before .before .before .before .before .before .before .before .before .before .before .before .before .before .args in (
       legs-few (a .t) (a .size .mechanisms) (a .gammas .now) _ _ (settled
           (c .before .before)) (c .before .is-done2 .ensures) (c .if2 .left),
       mechanisms-few
           (a .size .edges) (a .priors .now) (graph (a .size .checks) (a .size .mechanisms)
-          (a .check-var .now) (a .check-message .now) (a .check-offset .now)
+          (a .check-var .now) (a .check-offset .now)
           (a .var-check .now) (a .var-message .now) (a .var-offset .now)) _ _
           (c .before .before .before .before .before .check-graph .ensures)
           (c .before .before .before .before .is-done .ensures) (c .before .before .before .if1 .left),
@@ -84,15 +79,14 @@ or-else-requires c κs = search needs
 returns-3 : tie.Need-returns-3
 unfolding shotFault
 returns-3 c =
-    let a = c .before .before .before .before .before .before .before .before .before .before .before .before .before .before .before .before .before .before
-    .before .before .before .before .before .before .before .before .before .before .before .before .before .args in
+    let a = c .before .before .before .before .before .before .before .before .before .before .before .before .before .before .before .before .before .before .before .before .before .before .before .before .before .before .before .before .before .before .args in
     or-passed _ _ _ _ _ (c .before .before .before .before .before .before .before .before .before .before .before .check-graph .ensures)
     (c .before .before .before .before .before .before .before .before .before .before .is-done .ensures)
     (c .before .before .before .before .before .before .before .before .before .if1 .left)
     (or-passed _ _ _ _ _ (settled (c .before .before .before .before .before .before .before .before))
     (c .before .before .before .before .before .before .before .is-done2 .ensures) (c .before .before .before .before .before .before .if2 .left)
     (lists-fault (a .size .edges) (whole (a .t) (a .gammas .now) 0
-    (a .syndrome .now) (a .priors .now) (a .check-var .now) (a .check-message .now)
+    (a .syndrome .now) (a .priors .now) (a .check-var .now)
     (a .check-offset .now) (a .var-check .now) (a .var-message .now)
     (a .var-offset .now) [] (a .size .checks) (a .size .mechanisms))
     (record {

@@ -7,6 +7,7 @@ use lib.Ieee.{Float}
 use Prim.Native.Nat.{_+_, _≤_, _<_, _-_}
 use native.Mathlib.Omega.{arith}
 use lib.ListN.{length}
+use Rattle.graph_lists.specs.Messages.{byPlace}
 use Rattle.graph_messages.specs.Needs.{walked, ofChecks}
 use Rattle.graph_messages.proofs.Parts.{walks-along}
 use Rattle.relay_step.specs.Step.{State, state, iteration}
@@ -18,9 +19,9 @@ use Rattle.relay_step.proofs.leg.run_leg.Tie as tie
 abbrev Inv-loop : tie.InvT-loop
 Inv-loop limit schedule alpha syndrome priors gamma check-var check-offset var-message var-offset order bias₀ c-to-v₀ v-to-c₀ posterior₀ bits₀ k₀ bias c-to-v v-to-c posterior bits k =
     (k ≤ limit) × (length bias ≡ length bias₀) × (length c-to-v ≡ length c-to-v₀) × (length v-to-c ≡ length v-to-c₀) × (length posterior ≡ length posterior₀) × (length bits ≡ length bits₀)
-    × (runLeg (iteration schedule (walked (length syndrome) (length priors) check-var check-offset var-message var-offset) alpha syndrome priors gamma order)
+    × (runLeg (iteration schedule byPlace (walked (length syndrome) (length priors) check-var check-offset var-message var-offset) alpha syndrome priors gamma order)
     (satisfied (ofChecks (length syndrome) check-var check-offset) syndrome) (limit - k) false k (state c-to-v v-to-c posterior)
-    ≡ runLeg (iteration schedule (walked (length syndrome) (length priors) check-var check-offset var-message var-offset) alpha syndrome priors gamma order)
+    ≡ runLeg (iteration schedule byPlace (walked (length syndrome) (length priors) check-var check-offset var-message var-offset) alpha syndrome priors gamma order)
     (satisfied (ofChecks (length syndrome) check-var check-offset) syndrome) limit false 0 (state c-to-v₀ v-to-c₀ posterior₀))
     × (0 < k → bits ≡ hardDecision posterior)
 
@@ -30,7 +31,7 @@ abbrev μ-loop : tie.MeasureT-loop
 -- one iteration, and the test, as they stand at the start
 abbrev Step : tie.Start Inv-loop μ-loop → State → State
 Step s =
-    iteration (s .args .schedule) (walked (length (s .args .syndrome .now))
+    iteration (s .args .schedule) byPlace (walked (length (s .args .syndrome .now))
     (length (s .args .priors .now)) (s .args .check-var .now) (s .args .check-offset .now) (s .args .var-message .now) (s .args .var-offset .now))
     (s .args .alpha)
     (s .args .syndrome .now)

@@ -4,6 +4,7 @@ use mathlib.Core.Path.{_≡_, refl, _∙_}
 use Prim.Native.Nat.{_≤_, _-_}
 use native.Mathlib.Omega.{arith}
 use lib.ListN.{length, take}
+use Rattle.graph_lists.specs.Messages.{byPlace}
 use Rattle.graph_messages.specs.Needs.{walked}
 use Rattle.relay_step.specs.Step.{state, serialPass}
 use Rattle.relay_step.proofs.Passes.{serial-turn, serial-done}
@@ -14,7 +15,7 @@ abbrev Inv-loop : tie.InvT-loop
 Inv-loop alpha syndrome bias check-var check-offset var-message var-offset order c-to-v₀ v-to-c₀ posterior₀ i₀ c-to-v v-to-c posterior i =
     (i ≤ length order) × (length c-to-v ≡ length c-to-v₀) × (length v-to-c ≡ length v-to-c₀) × (length posterior ≡ length posterior₀)
     × (state c-to-v v-to-c posterior
-    ≡ serialPass (walked (length syndrome) (length bias) check-var check-offset var-message var-offset) alpha syndrome bias (take i order) (state c-to-v₀ v-to-c₀ posterior₀))
+    ≡ serialPass byPlace (walked (length syndrome) (length bias) check-var check-offset var-message var-offset) alpha syndrome bias (take i order) (state c-to-v₀ v-to-c₀ posterior₀))
 
 abbrev μ-loop : tie.MeasureT-loop
 μ-loop alpha syndrome bias check-var check-offset var-message var-offset order c-to-v₀ v-to-c₀ posterior₀ i₀ c-to-v v-to-c posterior i =
