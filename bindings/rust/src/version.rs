@@ -29,8 +29,8 @@ mod tests {
     }
 
     #[test]
-    #[should_panic(expected = "the archive is of version 2, this crate of version 1")]
+    #[should_panic(expected = "the archive is of version 1, this crate of version 2")]
     fn another_archive() {
-        super::compare(2);
+        super::compare(1);
     }
 }
