@@ -1,4 +1,5 @@
--- Numbers that are their own places: what is read and written by them is the part that is read and written by place. Assumes nothing.
+-- Numbers that are their own places: what is read and written by them is the part that is read and written by place, and so a check's update is the same by
+-- either. Assumes nothing.
 use Prim.Native.Nat.{ℕ, zero, suc, _+_, _-_, _<_, _≤_}
 use mathlib.Core.Path.{_≡_, sym, _∙_, ap}
 use mathlib.Core.List.{List, map, _++_, append-assoc}
@@ -7,7 +8,7 @@ use lib.Ieee.{Float, nan}
 use lib.ListN.{length, getD, set, take, drop, length-map, List·getD-map, List·getD-eq-default}
 use lib.Seq.{ext-getD, paste, paste-zero, paste-suc, take-length}
 use Rattle.numbers.specs.Loops.{turns, part, spliced, upto}
-use Rattle.numbers.proofs.Loops.{length-table, getD-table, length-part, getD-part}
+use Rattle.numbers.proofs.Loops.{length-table, getD-table, length-part, getD-part, length-spliced}
 use Rattle.graph_lists.specs.Graph.{Graph}
 use Rattle.graph_lists.specs.Messages.{Access, byPlace}
 use Rattle.graph_lists.specs.Sound.{Offsets}
@@ -65,21 +66,39 @@ module _ (a e : ℕ) (all : List Float) (n : ℕ) (h : a ≤ e) (k : e ≤ lengt
       last : a + length new ≡ e
       last = omega arith
 
-module _ (g : Graph) (cut : Offsets (g .checks) (length (g .checkVar)) (g .checkOffset)) (c : ℕ) (h : c < g .checks) (all : List Float)
-    (many : length all ≡ length (g .checkVar)) where
-  -- by number, where each is its own place
-  abbrev own : Access
-  own = byNumber (upto (length (g .checkVar)))
+-- by number, where each is its own place
+abbrev pub own : Graph → Access
+own g = byNumber (upto (length (g .checkVar)))
 
-  -- a check's part lies within the messages
-  pub room : getD (g .checkOffset) (suc c) 0 ≤ length all
-  room = omega (arith, many, row-end (g .checks) (length (g .checkVar)) (g .checkOffset) cut c h)
+module _ (g : Graph) (cut : Offsets (g .checks) (length (g .checkVar)) (g .checkOffset)) (c : ℕ) (h : c < g .checks) where
+  -- where the part of the check begins, and where it ends
+  abbrev start : ℕ
+  start = getD (g .checkOffset) c 0
 
-  -- its messages are read alike
-  pub read-agrees : byPlace .messagesOf g c all ≡ own .messagesOf g c all
-  read-agrees = part-read _ _ all (length (g .checkVar)) (cut .rises c h) room many
+  abbrev end : ℕ
+  end = getD (g .checkOffset) (suc c) 0
 
-  -- and written alike
-  pub write-agrees : (new : List Float) → length new ≡ getD (g .checkOffset) (suc c) 0 - getD (g .checkOffset) c 0
-      → byPlace .withMessages g c all new ≡ own .withMessages g c all new
-  write-agrees new m = part-written-at _ _ all (length (g .checkVar)) (cut .rises c h) room many new m
+  -- it lies within a list of a message for each edge
+  room : (all : List Float) → length all ≡ length (g .checkVar) → end ≤ length all
+  room all many = omega (arith, many, row-end (g .checks) (length (g .checkVar)) (g .checkOffset) cut c h)
+
+  -- the check's messages are read alike
+  read-agrees : (all : List Float) → length all ≡ length (g .checkVar) → byPlace .messagesOf g c all ≡ own g .messagesOf g c all
+  read-agrees all many = part-read start end all (length (g .checkVar)) (cut .rises c h) (room all many) many
+
+  -- what a check makes of its messages of one list, and writes into another
+  module _ (make : List Float → List Float) (as-many : (xs : List Float) → length (make xs) ≡ length xs) (from to : List Float)
+      (many : length from ≡ length (g .checkVar)) (many′ : length to ≡ length (g .checkVar)) where
+    -- as many as its places
+    made-many : length (make (byPlace .messagesOf g c from)) ≡ end - start
+    made-many = as-many (byPlace .messagesOf g c from) ∙ length-part start end from (room from many)
+
+    -- is written alike
+    pub update-agrees : byPlace .withMessages g c to (make (byPlace .messagesOf g c from)) ≡ own g .withMessages g c to (make (own g .messagesOf g c from))
+    update-agrees =
+        part-written-at start end to (length (g .checkVar)) (cut .rises c h) (room to many′) many′ (make (byPlace .messagesOf g c from)) made-many
+        ∙ ap (λ (xs : List Float). own g .withMessages g c to (make xs)) (read-agrees from many)
+
+    -- and keeps the length
+    pub update-many : length (byPlace .withMessages g c to (make (byPlace .messagesOf g c from))) ≡ length (g .checkVar)
+    update-many = length-spliced to start end (make (byPlace .messagesOf g c from)) (cut .rises c h) (room to many′) made-many ∙ many′

@@ -1,15 +1,13 @@
 -- Relay with a check's messages had by numbers that are their own places gives what it gives by place: one iteration, a leg, and all legs. Assumes nothing.
-use Prim.Native.Nat.{ℕ, suc, _-_, _<_}
-use mathlib.Core.Path.{_≡_, _∙_, ap}
+use Prim.Native.Nat.{ℕ, suc, _<_}
+use mathlib.Core.Path.{_≡_, ap}
 use mathlib.Core.Bool.{false, not}
 use mathlib.Core.List.{List, [], foldl}
 use lib.Dec.{eqb}
 use lib.Ieee.{Float}
-use lib.ListN.{length, getD}
-use Rattle.numbers.specs.Loops.{row, upto}
-use Rattle.numbers.proofs.Loops.{length-part}
+use lib.ListN.{getD}
 use Rattle.graph_lists.specs.Graph.{Graph, checkEntries}
-use Rattle.graph_lists.specs.Messages.{Access, byPlace}
+use Rattle.graph_lists.specs.Messages.{byPlace}
 use Rattle.graph_lists.proofs.Sound.{Sound}
 use Rattle.relay_settings.specs.declared.Schedule.{Schedule}
 use Rattle.relay_settings.specs.declared.Schedule.the-variants.{Flooding, CheckSerial}
@@ -23,13 +21,8 @@ use Rattle.relay_calls.specs.Decode.{Shot, Run, running, iterationLimit, stepOf
 use Rattle.relay_calls.proofs.Calls.{legs-agree}
 use Rattle.relay.proofs.Exchange.{Sized, length-sent, keep-check, keep-serial}
 use Rattle.relay.proofs.SameOutcome.{keep-iteration, leg-same, start-sized}
-use Rattle.graph_layouts.specs.Numbered.{byNumber}
-use Rattle.graph_layouts.proofs.Lists.{room, read-agrees, write-agrees}
+use Rattle.graph_layouts.proofs.Lists.{own, update-agrees}
 use Rattle.graph_layouts.proofs.Loops.{folds-agree}
-
--- by number, where each is its own place
-abbrev pub own : Graph → Access
-own g = byNumber (upto (length (g .checkVar)))
 
 -- ---- one iteration
 
@@ -39,13 +32,8 @@ module _ (g : Graph) (sound : Sound g) (alpha : Float) (syndrome : List ℕ) whe
   unfolding updateCheck
   check-agrees c h s z =
       let odd = not (eqb (getD syndrome c 0) 0) in
-      let cut = sound .check-parts in
-      let m : length (checkMessages alpha odd (checkEntries g c) (row (g .checkOffset) c (s .vToC))) ≡ getD (g .checkOffset) (suc c) 0 - getD (g .checkOffset) c 0 =
-      length-sent alpha odd (checkEntries g c) _
-      ∙ length-part (getD (g .checkOffset) c 0) (getD (g .checkOffset) (suc c) 0) (s .vToC) (room g cut c h (s .vToC) (z .back)) in
       ap (λ (x : List Float). state x (s .vToC) (s .posterior))
-      (write-agrees g cut c h (s .cToV) (z .out) _ m
-      ∙ ap (λ (x : List Float). own g .withMessages g c (s .cToV) (checkMessages alpha odd (checkEntries g c) x)) (read-agrees g cut c h (s .vToC) (z .back)))
+      (update-agrees g (sound .check-parts) c h (checkMessages alpha odd (checkEntries g c)) (length-sent alpha odd (checkEntries g c)) (s .vToC) (s .cToV) (z .back) (z .out))
 
   module _ (prior gamma : List Float) (order : List ℕ) (below : All (λ k. k < g .checks) order) (s : State) (z : Sized g s) where
     -- the checks of a flooding iteration

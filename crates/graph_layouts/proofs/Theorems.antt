@@ -33,9 +33,10 @@ use Rattle.relay_orders.specs.Order.{NamesOnce}
 use Rattle.relay_orders.proofs.Counts.{names-below}
 use Rattle.relay.proofs.Exchange.{Sized}
 use Rattle.graph_layouts.specs.Numbered.{Numbered, withNumbers, withoutNumbers, numberedGraphOf, numberedIncidence, numberedFits, isNumbered, numberedFault, numberedBeliefs, numberedIteration, withGraph, numberedDecodeInOrder, numberedDecode, OwnPlaces}
+use Rattle.graph_layouts.proofs.Lists.{own}
 use Rattle.graph_layouts.proofs.Tests.{is-agrees, tests-agree, back-again, seven-is, length-fault, number-fault}
 use Rattle.graph_layouts.proofs.Beliefs.{beliefs-agree}
-use Rattle.graph_layouts.proofs.Relay.{own, iteration-agrees, decode-agrees}
+use Rattle.graph_layouts.proofs.Relay.{iteration-agrees, decode-agrees}
 
 -- ---- "graphs in the old and new layout stand for the same incidences"
 
