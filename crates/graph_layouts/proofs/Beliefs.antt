@@ -10,7 +10,8 @@ use Rattle.numbers.proofs.Loops.{length-table}
 use Rattle.graph_lists.specs.Graph.{Graph, checkEntries, varEntries}
 use Rattle.graph_lists.specs.Messages.{byPlace, fromVariables, cleared}
 use Rattle.graph_lists.proofs.Sound.{Sound}
-use Rattle.min_sum_pass.specs.MinSum.{Messages, messages, sentTo, checkMessages, skipped, updateCheck, damped, dampedMessages, updateVariable, parallelCheck, checksTo, variablesTo, parallelIteration, serialCheck, serialTo, serialIteration, iteration, averaged, weightOf, Belief, belief, chosenTo, startRound, iterated, iteratedIn, outerRoundTo, outerRound, allRounds, minSumBp}
+use Rattle.min_sum_pass.specs.MinSum.{Messages, messages, sentTo, checkMessages, skipped, updateCheck, damped, dampedMessages, updateVariable}
+use Rattle.min_sum_pass.specs.MinSum.{parallelCheck, checksTo, variablesTo, parallelIteration, serialCheck, serialTo, serialIteration, iteration, averaged, weightOf, Belief, belief, chosenTo, startRound, iterated, iteratedIn, outerRoundTo, outerRound, allRounds, minSumBp}
 use Rattle.graph_layouts.proofs.Lists.{own, update-agrees, update-many}
 use Rattle.graph_layouts.proofs.Loops.{turns-agree}
 
