@@ -145,12 +145,12 @@ module _ (checks mechanisms : ℕ) (inc : ℕ → ℕ → Bool) where
   graph-var-offsets = offsets-same mechanisms _ _ (λ m l. sym (length-map (places (entries checks mechanisms inc) m) _) ∙ ap length (vars-of m l))
 
   -- from the check lists the second pass makes the rest, whatever wrote them
-  pub second-pass : (checkOffset checkVar next rowAt placeAt : List ℕ) → checkVar ≡ entries checks mechanisms inc → checkOffset ≡ offsets checks (mechanismsOf mechanisms inc)
+  pub second-pass : (checkOffset checkVar next rowAt placeAt : List ℕ) → length placeAt ≡ length checkVar → checkVar ≡ entries checks mechanisms inc → checkOffset ≡ offsets checks (mechanismsOf mechanisms inc)
       → Bucketed checkOffset checks mechanisms checkVar next rowAt placeAt → graph checks mechanisms checkVar checkOffset rowAt placeAt next ≡ graphOf checks mechanisms inc
   unfolding graphOf
-  second-pass checkOffset checkVar next rowAt placeAt em eo b =
+  second-pass checkOffset checkVar next rowAt placeAt many em eo b =
       let vc : rowAt ≡ joined mechanisms (checksOf checks inc) = b .owners ∙ rw (em, eo) graph-vars in
-      let vm : placeAt ≡ joined mechanisms (places (entries checks mechanisms inc)) = b .lists ∙ rw em in
+      let vm : placeAt ≡ joined mechanisms (places (entries checks mechanisms inc)) = b .lists many ∙ rw em in
       let vo : next ≡ offsets mechanisms (checksOf checks inc) = b .starts ∙ rw em graph-var-offsets in
       rw (em, eo, vc, vm, vo)
 

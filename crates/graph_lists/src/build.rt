@@ -7,7 +7,7 @@ ghost use Rattle.graph_lists.specs.Graph.{graph, graphOf, among};
 ghost use Rattle.graph_lists.specs.Steps.{Valid};
 use crate::buckets::bucket;
 
-// All five, from the detectors. The first pass leaves its places in `var_message`, which the second overwrites.
+// All five, from the detectors. Nothing wants the places of the first pass.
 pub fn from_detectors(
     checks: usize,
     mechanisms: usize,
@@ -38,7 +38,7 @@ pub fn from_detectors(
         dets,
         check_offset,
         check_var,
-        var_message,
+        &mut var_message[..0],
     );
     bucket(
         mechanisms,

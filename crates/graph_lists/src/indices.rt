@@ -20,6 +20,16 @@ pub fn put(xs: &mut [u32], i: usize, v: usize)
     xs[i] = v as u32;
 }
 
+// Sets one, unless it lies past the end.
+pub fn put_within(xs: &mut [u32], i: usize, v: usize)
+    requires { ⌜ v < 4294967296 ⌝ }
+    ensures { λ _. ⌜ now (xs .exit) ≡ set (now (xs .entry)) i v ⌝ }
+{
+    if i < xs.len() {
+        xs[i] = v as u32;
+    }
+}
+
 // `xs.fill(0)`.
 pub fn clear(xs: &mut [u32])
     ensures { λ _. ⌜ now (xs .exit) ≡ replicate (length (now (xs .entry))) 0 ⌝ }

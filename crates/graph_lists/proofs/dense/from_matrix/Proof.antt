@@ -17,7 +17,7 @@ bucket-requires c κs =
     let m = c .before .before .before .before .before .before .before .before .before .mark-rows in
     let l = m .kept .1 .1 .1 .0 ∙ p .1 .1 .0 .0 in
     let s = second-valid (b .args .checks) (b .args .mechanisms) (marked (b .args .mechanisms) (b .args .matrix .now)) _ _ (m .ensures .0) (m .ensures .1) in
-    (s .0, (s .1, ((p .1 .0 .0, omega (arith, l, p .1 .0 .2)), (p .1 .1 .1 .2, p .1 .1 .1 .0 ∙ sym l, p .1 .1 .1 .1 ∙ sym l))))
+    (s .0, (s .1, ((p .1 .0 .0, omega (arith, l, p .1 .0 .2)), (p .1 .1 .1 .2, p .1 .1 .1 .0 ∙ sym l))))
 
 same-length : tie.Need-same-length
 same-length c = search needs
@@ -37,9 +37,11 @@ same-length-5 c = search needs
 returns : tie.Need-returns
 returns c =
     let b = c .before .before .before .before .before .before .before .before .before .before .before .before .before .before .before .before .before .before .before .before .before .before .before .before .before in
+    let p = b .pre in
     let m = c .before .before .before .before .before .before .before .before .before .before .before .before .before .before .before .before .mark-rows in
-    second-pass (b .args .checks) (b .args .mechanisms) (marked (b .args .mechanisms) (b .args .matrix .now)) _ _ _ _ _ (m .ensures .0) (m .ensures .1)
-    (c .before .before .before .before .before .before .bucket .ensures)
+    let pass = c .before .before .before .before .before .before .bucket in
+    let many = pass .kept .1 .1 .1 .1 .1 .1 .0 ∙ p .1 .1 .1 .1 ∙ sym (m .kept .1 .1 .1 .0 ∙ p .1 .1 .0 .0) in
+    second-pass (b .args .checks) (b .args .mechanisms) (marked (b .args .mechanisms) (b .args .matrix .now)) _ _ _ _ _ many (m .ensures .0) (m .ensures .1) (pass .ensures)
 
 pub from-matrix-spec : {M : Type 1} → statement M
 from-matrix-spec =
