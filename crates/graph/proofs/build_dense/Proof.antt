@@ -78,8 +78,12 @@ same-length-5 c = search needs
 returns-2 : tie.Need-returns-2
 unfolding graphFits
 returns-2 c = dense-done _ _ _ _ _ (lists (c .before .before .before .before .before .before .before .before .before .before .before .before .before .before .before .before .before .before .before .before .before .before .before .before .before .before .before .before))
-    (c .before .before .before .before .before .before .before .before .before .before .before .before .before .before .before .before .before .before .before .before .count-edges .ensures) (c .before .before .before .before .before .before .before .before .before .before .before .before .before .before .before .before .before .before .before .lists-fit .ensures)
-    (c .before .before .before .before .before .before .before .before .before .before .before .before .before .before .before .before .before .before .dense-fault .ensures) _ (was-true _ _ (c .before .before .before .before .before .before .before .before .before .before .before .before .before .before .before .before .before .is-done .ensures)
+    (c .before .before .before .before .before .before .before .before .before .before .before .before .before .before .before .before .before .before
+    .before .before .count-edges .ensures) (c .before .before .before .before .before .before .before .before .before .before .before .before .before
+    .before .before .before .before .before .before .lists-fit .ensures)
+    (c .before .before .before .before .before .before .before .before .before .before .before .before .before .before .before .before .before
+    .before .dense-fault .ensures) _ (was-true _ _ (c .before .before .before .before .before .before .before .before .before .before .before .before
+    .before .before .before .before .before .is-done .ensures)
     (c .before .before .before .before .before .before .before .before .before .before .before .before .before .before .before .before
     .if1 .left)) (c .before .before .before .before .before .before .before .before .before .before .from-matrix .ensures)
 
