@@ -82,7 +82,8 @@ fn iterate_serial(
         (now («check_offset» .entry)) (now («var_message» .entry)) (now («var_offset» .entry)) in
         let before = belief (messages (now («c_to_v» .entry)) (now («v_to_c» .entry))) (now («ewa_posterior» .entry)) in
         let after = messages (now («c_to_v» .exit)) (now («v_to_c» .exit)) in
-        ⌜ belief after (now («ewa_posterior» .exit)) ≡ iterated byPlace g true scale (now (syndrome .entry)) (now (priors .entry)) weight before ⌝ }
+        ⌜ belief after (now («ewa_posterior» .exit))
+        ≡ iterated byPlace g true scale (now (syndrome .entry)) (now (priors .entry)) weight before ⌝ }
 {
     min_sum_pass::pass::serial_checks(
         scale,
@@ -292,7 +293,8 @@ fn all_rounds(
         let g = walked (length (now (syndrome .entry))) (length (now (priors .entry))) (now («check_var» .entry))
         (now («check_offset» .entry)) (now («var_message» .entry)) (now («var_offset» .entry)) in
         let after = messages (now («c_to_v» .exit)) (now («v_to_c» .exit)) in
-        ⌜ belief after (now («ewa_posterior» .exit)) ≡ allRoundsOf byPlace g serial scale (now (syndrome .entry)) (now (priors .entry)) n ⌝ }
+        ⌜ belief after (now («ewa_posterior» .exit))
+        ≡ allRoundsOf byPlace g serial scale (now (syndrome .entry)) (now (priors .entry)) n ⌝ }
 {
     graph_messages::copy(priors, ewa_posterior);
     if n < 6 {

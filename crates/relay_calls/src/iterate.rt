@@ -149,7 +149,8 @@ pub fn stepped(
         let after = stepLists (state (now («c_to_v» .exit)) (now («v_to_c» .exit)) (now (posterior .exit))) (now (bias .exit)) in
         ⌜ stepOutcome r after
         ≡ steppedOf (length (now («check_var» .entry))) g
-        (iteration schedule byPlace g alpha (now (syndrome .entry)) (now (priors .entry)) (now (gamma .entry)) (now (order .entry)) before) ⌝ }
+        (iteration schedule byPlace g alpha (now (syndrome .entry)) (now (priors .entry)) (now (gamma .entry))
+        (now (order .entry)) before) ⌝ }
 {
     step(
         schedule,

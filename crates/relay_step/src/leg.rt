@@ -159,7 +159,8 @@ pub fn run_leg(
         let before = state (now («c_to_v» .entry)) (now («v_to_c» .entry)) (now (posterior .entry)) in
         let after = state (now («c_to_v» .exit)) (now («v_to_c» .exit)) (now (posterior .exit)) in
         ⌜ legOf (r .converged) (r .iterations) after
-        ≡ runLeg (iteration schedule byPlace g alpha (now (syndrome .entry)) (now (priors .entry)) (now (gamma .entry)) (now (order .entry)))
+        ≡ runLeg (iteration schedule byPlace g alpha (now (syndrome .entry)) (now (priors .entry)) (now (gamma .entry))
+        (now (order .entry)))
         (satisfiedBy gChecks (now (syndrome .entry))) limit false 0 before ⌝ }
     ensures bits { λ _. ⌜ (0 < limit → now (bits .exit) ≡ hardDecision (now (posterior .exit))) ⌝ }
 {

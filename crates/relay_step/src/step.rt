@@ -148,7 +148,8 @@ fn flooding_iteration(
         (now («check_offset» .entry)) (now («var_message» .entry)) (now («var_offset» .entry)) in
         let before = state (now («c_to_v» .entry)) (now («v_to_c» .entry)) (now (posterior .entry)) in
         ⌜ state (now («c_to_v» .exit)) (now («v_to_c» .exit)) (now (posterior .exit))
-        ≡ floodingIteration byPlace g alpha (now (syndrome .entry)) (now (priors .entry)) (now (gamma .entry)) (now (order .entry)) before ⌝ }
+        ≡ floodingIteration byPlace g alpha (now (syndrome .entry)) (now (priors .entry)) (now (gamma .entry))
+        (now (order .entry)) before ⌝ }
 {
     check_pass(
         alpha,
@@ -283,7 +284,8 @@ fn check_serial_iteration(
         (now («check_offset» .entry)) (now («var_message» .entry)) (now («var_offset» .entry)) in
         let before = state (now («c_to_v» .entry)) (now («v_to_c» .entry)) (now (posterior .entry)) in
         ⌜ state (now («c_to_v» .exit)) (now («v_to_c» .exit)) (now (posterior .exit))
-        ≡ checkSerialIteration byPlace g alpha (now (syndrome .entry)) (now (priors .entry)) (now (gamma .entry)) (now (order .entry)) before ⌝ }
+        ≡ checkSerialIteration byPlace g alpha (now (syndrome .entry)) (now (priors .entry)) (now (gamma .entry))
+        (now (order .entry)) before ⌝ }
 {
     compute_bias(priors, gamma, posterior, bias);
     serial_pass(
@@ -328,7 +330,8 @@ pub fn step(
         (now («check_offset» .entry)) (now («var_message» .entry)) (now («var_offset» .entry)) in
         let before = state (now («c_to_v» .entry)) (now («v_to_c» .entry)) (now (posterior .entry)) in
         ⌜ state (now («c_to_v» .exit)) (now («v_to_c» .exit)) (now (posterior .exit))
-        ≡ iteration schedule byPlace g alpha (now (syndrome .entry)) (now (priors .entry)) (now (gamma .entry)) (now (order .entry)) before ⌝ }
+        ≡ iteration schedule byPlace g alpha (now (syndrome .entry)) (now (priors .entry)) (now (gamma .entry))
+        (now (order .entry)) before ⌝ }
 {
     match schedule {
         Schedule::Flooding => flooding_iteration(
