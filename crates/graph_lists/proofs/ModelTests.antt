@@ -1,8 +1,9 @@
 -- Tests 3 to 6 of docs/REFERENCE.md one by one: what each tells where it is passed, and each as the code has it. Assumes nothing.
 use mathlib.Core.Bool.{Bool, true, false, _||_, not, or-assoc, true≢false, false≢true}
 use mathlib.Core.List.{List, [], _∷_, _++_}
+use mathlib.Core.Logic.{⊎-elim}
 use mathlib.Core.Path.{_≡_, refl, sym, ap, _∙_}
-use Prim.Native.Nat.{ℕ, suc, _+_, _-_, _<_, _≤_}
+use Prim.Native.Nat.{ℕ, zero, suc, _+_, _-_, _<_, _≤_}
 use native.Mathlib.Numerals.{add-one}
 use native.Mathlib.Omega.{arith}
 use lib.Dec.{eqb}
@@ -11,19 +12,20 @@ use lib.IntN.{pos}
 use lib.ListN.{length, getD, take, drop}
 use lib.Seq.{getD-take, length-take-le, take-suc}
 use borrow.Author.Tests.{le-leb, lt-leb, le-ltb, ltb-true, leb-true, eqb-true, lt-ltb, ne-eqb}
-use Rattle.numbers.proofs.Cases.{and-both}
+use Rattle.numbers.proofs.Cases.{last-or-before, less-or-not, and-both}
 use Rattle.numbers.proofs.Loops.{every-at, length-part, getD-part}
 use Rattle.numbers.specs.Loops.{part}
-use Rattle.refusals.proofs.Tests.{or-done, unless-done, first-all}
-use Rattle.refusals.specs.Tests.{unless, orElse, firstOf}
+use Rattle.refusals.proofs.Tests.{or-done, unless-done, first-all, first-none, first-stop, first-rest}
+use Rattle.refusals.specs.Tests.{isDone, unless, orElse, firstOf}
 use Rattle.refusals.specs.declared.Answer.{Answer}
 use Rattle.refusals.specs.declared.Answer.the-variants.{Done, Refused}
 use Rattle.refusals.specs.declared.Refusal.the-variants.{BadPrior, DetectorOutOfRange, DetectorRepeated}
 use Rattle.graph_lists.specs.Lists.{has}
 use Rattle.graph_lists.specs.Model.{rising, offsetsGood, priorGood, detectorFault, mechanismFault, mechanismTest}
-use Rattle.graph_lists.specs.Sound.{Offsets}
+use Rattle.graph_lists.specs.Sound.{Offsets, RisesTo}
 use Rattle.graph_lists.specs.Steps.{Valid}
 use Rattle.graph_lists.proofs.Cuts.{Row, row-is, row-end}
+use Rattle.graph_lists.proofs.Rising.{steps-rise, above-new}
 use Rattle.graph_lists.proofs.Rows.{has-at}
 
 -- ---- repeats
@@ -126,6 +128,18 @@ pub rising-no : (off : List ℕ) (r a b : ℕ) → a ≡ getD off r 0 → b ≡ 
 unfolding rising
 rising-no off r a b p q h = let e : b ≡ getD off (suc r) 0 = rw add-one at q in lt-leb (getD off r 0) (getD off (suc r) 0) (omega arith)
 
+-- a detector that is above the last one: the front goes on
+pub front-turn : (ds : List ℕ) (r last d : ℕ) → last ≡ getD ds r 0 → d ≡ getD ds (r + 1) 0 → last < d → ((i : ℕ) → i < r → getD ds i 0 < getD ds (suc i) 0)
+    → (i : ℕ) → i < r + 1 → getD ds i 0 < getD ds (suc i) 0
+front-turn ds r last d p q h up i l =
+    let w : d ≡ getD ds (suc r) 0 = rw add-one at q in
+    ⊎-elim (λ (e : i ≡ r). rw e (omega arith)) (up i) (last-or-before i r (omega arith))
+
+-- one that is not: it ends
+pub front-ends : (ds : List ℕ) (r last d : ℕ) → last ≡ getD ds r 0 → d ≡ getD ds (r + 1) 0 → d ≤ last → r < length ds → ((i : ℕ) → i < r → getD ds i 0 < getD ds (suc i) 0)
+    → RisesTo ds r
+front-ends ds r last d p q h l up = let w : d ≡ getD ds (suc r) 0 = rw add-one at q in record { within = l; rises = up; stops = λ k. omega arith }
+
 -- a detector out of range
 pub detector-range : (checks m : ℕ) (ds : List ℕ) (i d : ℕ) → d ≡ getD ds i 0 → checks ≤ d → Refused (DetectorOutOfRange m) ≡ detectorFault checks m ds i
 unfolding detectorFault orElse unless
@@ -140,6 +154,44 @@ detector-repeat checks m ds i d p h t = rw (lt-ltb (getD ds i 0) checks (omega a
 pub detector-fine : (checks m : ℕ) (ds : List ℕ) (i d : ℕ) → d ≡ getD ds i 0 → d < checks → has (take i ds) d ≡ false → Done ≡ detectorFault checks m ds i
 unfolding detectorFault orElse unless
 detector-fine checks m ds i d p h t = rw (lt-ltb (getD ds i 0) checks (omega arith), rw p at t)
+
+-- ---- the rising front of a mechanism's detectors
+
+module _ (checks m : ℕ) (ds : List ℕ) (r : ℕ) (f : RisesTo ds r) where
+  -- the tests of the detectors, one by one
+  abbrev Test : ℕ → Answer
+  Test = detectorFault checks m ds
+
+  -- each of the front is above all before it
+  front-above : (i j : ℕ) → i < j → j ≤ r → getD ds i 0 < getD ds j 0
+  front-above i j l k = steps-rise ds (suc r) (λ x h. f .rises x (omega arith)) i j l (omega arith)
+
+  -- so none of it is a repeat
+  pub front-new : (i : ℕ) → i ≤ r → has (take i ds) (getD ds i 0) ≡ false
+  front-new i h = above-new ds i (omega (arith, f .within)) (λ j l. front-above j i l h)
+
+  -- and where one is in range, it and all before it are passed
+  front-passed : (i : ℕ) → i ≤ r → getD ds i 0 < checks → firstOf (suc i) Test ≡ Done
+  front-passed i h l = first-none Test (suc i) (λ j k. sym (detector-fine checks m ds j _ refl (below j k) (front-new j (omega arith))))
+    where
+      below : (j : ℕ) → j < suc i → getD ds j 0 < checks
+      below j k = ⊎-elim (λ (e : j ≡ i). rw e l) (λ n. omega (arith, front-above j i n h)) (last-or-before j i k)
+
+  -- what is left to the long way, where the last of the front is in range: the first detector that does not rise and all after it, each against all before it
+  pub front-rest : (d from : ℕ) → d ≡ getD ds r 0 → d < checks → from ≡ r + 1 → firstOf (length ds) Test ≡ firstOf (length ds - from) (λ j. Test (from + j))
+  front-rest d from p h q =
+      let e : from ≡ suc r = q ∙ add-one r in
+      let n : length ds ≡ from + (length ds - from) = omega (arith, f .within) in
+      ap (λ (x : ℕ). firstOf x Test) n ∙ first-rest Test from (length ds - from) (rw e (front-passed r (omega arith) (omega arith)))
+
+  -- the first of the front that is out of range is refused with 5
+  front-stop : (i : ℕ) → i ≤ r → checks ≤ getD ds i 0 → firstOf i Test ≡ Done → Refused (DetectorOutOfRange m) ≡ firstOf (length ds) Test
+  front-stop i h l e = let x = detector-range checks m ds i _ refl l in x ∙ sym (first-stop Test i (length ds) (omega (arith, f .within)) e (ap isDone (sym x)))
+
+  -- so that the first refusal is 5 where any of it is out of range
+  pub front-out : (i : ℕ) → i ≤ r → checks ≤ getD ds i 0 → Refused (DetectorOutOfRange m) ≡ firstOf (length ds) Test
+  front-out zero h l = front-stop 0 h l (first-none Test 0 (λ j k. absurd (omega arith)))
+  front-out (suc i) h l = ⊎-elim (λ k. front-stop (suc i) h l (front-passed i (omega arith) k)) (λ k. front-out i (omega arith) k) (less-or-not (getD ds i 0) checks)
 
 -- a mechanism whose prior is refused
 pub mech-prior : (checks m : ℕ) (x : Float) (ds : List ℕ) → false ≡ priorGood x → Refused (BadPrior m) ≡ mechanismTest checks m x ds

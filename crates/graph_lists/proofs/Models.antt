@@ -26,19 +26,9 @@ use Rattle.graph_lists.proofs.GraphTests.{fault-none}
 use Rattle.graph_lists.proofs.ModelTests.{detector-fine}
 use Rattle.graph_lists.proofs.Passes.{graph-length, graph-var-cut, var-parts-rise}
 use Rattle.graph_lists.proofs.QuickTests.{offsets-test, all-long}
-use Rattle.graph_lists.proofs.Rows.{has-place}
+use Rattle.graph_lists.proofs.Rising.{above-new}
 use Rattle.graph_lists.proofs.Sameness.{graph-agrees, is-graph-some}
 use Rattle.graph_lists.proofs.SparseTests.{sparse-4, long-fits, sparse-done}
-
--- a rising list names nothing twice
-rising-new : (n : ℕ) (ds : List ℕ) → Rising n ds → (i : ℕ) → i < length ds → has (take i ds) (getD ds i 0) ≡ false
-rising-new n ds r i h = ⊎-elim old (λ e. e) (either (has (take i ds) (getD ds i 0)))
-  where
-    old : has (take i ds) (getD ds i 0) ≡ true → has (take i ds) (getD ds i 0) ≡ false
-    old e =
-        let w = has-place (take i ds) (getD ds i 0) e in
-        let l : w .0 < i = rw (length-take-le i ds (omega arith)) at (w .1) in
-        absurd (omega (arith, r .rises (w .0) i l h, sym (getD-take i ds (w .0) 0 l) ∙ w .2))
 
 -- rising detectors and a good prior pass 4, 5 and 6
 mechanism-none : (checks : ℕ) (priors : List Float) (off dets : List ℕ) (m : ℕ) → priorGood (getD priors m nan) ≡ true → Rising checks (row off m dets)
@@ -46,7 +36,7 @@ mechanism-none : (checks : ℕ) (priors : List Float) (off dets : List ℕ) (m :
 unfolding mechanismFault mechanismTest orElse unless
 mechanism-none checks priors off dets m p r =
     let ds = row off m dets in
-    rw p (first-none (detectorFault checks m ds) (length ds) (λ i l. sym (detector-fine checks m ds i (getD ds i 0) refl (r .below i l) (rising-new checks ds r i l))))
+    rw p (first-none (detectorFault checks m ds) (length ds) (λ i l. sym (detector-fine checks m ds i (getD ds i 0) refl (r .below i l) (above-new ds i l (λ j k. r .rises j i k l)))))
 
 -- sizes within the limits
 sizes-few : (checks mechanisms edges : ℕ) → checks ≤ 65536 → mechanisms ≤ 65536 → edges ≤ 1048576 → sizesGood checks mechanisms edges ≡ true

@@ -7,7 +7,7 @@ use Prim.Native.Nat.{ℕ, zero, suc, _<_, _≤_}
 use native.Mathlib.Omega.{arith}
 use lib.ListN.{length, getD}
 use borrow.Author.Tests.{eq-eqb, le-leb, ltb-true, leb-true, eqb-true, lt-ltb}
-use Rattle.numbers.proofs.Cases.{either, last-or-before, and-both}
+use Rattle.numbers.proofs.Cases.{either, and-both}
 use Rattle.numbers.proofs.Loops.{every-at, every-true}
 use Rattle.numbers.specs.Loops.{row}
 use Rattle.graph_lists.specs.Graph.{Graph, entries, graphOf, ownIncidence}
@@ -17,6 +17,7 @@ use Rattle.graph_lists.specs.Sound.{Offsets, Long, Rising}
 use Rattle.graph_lists.proofs.Cuts.{Met}
 use Rattle.graph_lists.proofs.ModelTests.{offsets-told}
 use Rattle.graph_lists.proofs.Passes.{Passes, passes-graph, graph-long, graph-passes}
+use Rattle.graph_lists.proofs.Rising.{steps-rise}
 use Rattle.graph_lists.proofs.Sameness.{is-graph-told, is-graph-some}
 
 -- ---- the quick test
@@ -30,14 +31,10 @@ step-told n xs i h = let w = and-both _ _ h in (leb-true _ _ (w .0), ltb-true _ 
 pub rises-told : (n : ℕ) (xs : List ℕ) → risesBelow n xs ≡ true → Rising n xs
 unfolding risesBelow low
 rises-told n xs h =
-    record { below = λ i l. step-told n xs i (every-at (length xs) (stepGood n xs) h i l) .1; rises = go }
-  where
-    next : (i : ℕ) → suc i < length xs → getD xs i 0 < getD xs (suc i) 0
-    next i l = step-told n xs (suc i) (every-at (length xs) (stepGood n xs) h (suc i) l) .0
-
-    go : (i j : ℕ) → i < j → j < length xs → getD xs i 0 < getD xs j 0
-    go i zero l m = absurd (omega arith)
-    go i (suc j) l m = ⊎-elim (λ (e : i ≡ j). rw e (next j m)) (λ k. omega (arith, go i j k (omega arith), next j m)) (last-or-before i j l)
+    record {
+      below = λ i l. step-told n xs i (every-at (length xs) (stepGood n xs) h i l) .1;
+      rises = steps-rise xs (length xs) (λ i l. step-told n xs (suc i) (every-at (length xs) (stepGood n xs) h (suc i) l) .0);
+    }
 
 -- a list that rises passes
 pub rises-test : (n : ℕ) (xs : List ℕ) → Rising n xs → risesBelow n xs ≡ true

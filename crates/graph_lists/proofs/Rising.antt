@@ -1,19 +1,35 @@
--- Rising lists: when one is all of `passing`, and when parts make a whole. Assumes nothing.
-use mathlib.Core.Bool.{Bool, true, true≢false}
+-- Rising lists: that each is above all before it, and so none of them; when one is all of `passing`, and when parts make a whole. Assumes nothing.
+use mathlib.Core.Bool.{Bool, true, false, true≢false}
 use mathlib.Core.List.{List}
 use mathlib.Core.Logic.{⊎-elim}
 use mathlib.Core.Path.{_≡_, sym, ap, _∙_}
 use Prim.Native.Nat.{ℕ, zero, suc, _+_, _-_, _<_, _≤_}
 use native.Mathlib.Omega.{arith}
 use lib.ListN.{length, getD, take}
-use lib.Seq.{length-take-le, ext-getD, take-add, take-all}
+use lib.Seq.{length-take-le, getD-take, ext-getD, take-add, take-all}
 use Rattle.numbers.proofs.Cases.{either, less-or-not, equal-or-not, last-or-before}
 use Rattle.numbers.proofs.Loops.{is-table}
 use Rattle.numbers.specs.Loops.{row}
-use Rattle.graph_lists.specs.Lists.{passing, joined, start, offsets}
+use Rattle.graph_lists.specs.Lists.{has, passing, joined, start, offsets}
 use Rattle.graph_lists.specs.Sound.{Offsets, Rising}
 use Rattle.graph_lists.proofs.Cuts.{offsets-rise}
 use Rattle.graph_lists.proofs.Passing.{passing-none, length-yes, length-no, passing-at, passing-counts}
+use Rattle.graph_lists.proofs.Rows.{has-place}
+
+-- where each of the first n is above the one before it, each is above all before it
+pub steps-rise : (xs : List ℕ) (n : ℕ) → ((i : ℕ) → suc i < n → getD xs i 0 < getD xs (suc i) 0) → (i j : ℕ) → i < j → j < n → getD xs i 0 < getD xs j 0
+steps-rise xs n h i zero l m = absurd (omega arith)
+steps-rise xs n h i (suc j) l m = ⊎-elim (λ (e : i ≡ j). rw e (h j m)) (λ k. omega (arith, steps-rise xs n h i j k (omega arith), h j m)) (last-or-before i j l)
+
+-- what is above all before it is none of them
+pub above-new : (xs : List ℕ) (i : ℕ) → i < length xs → ((j : ℕ) → j < i → getD xs j 0 < getD xs i 0) → has (take i xs) (getD xs i 0) ≡ false
+above-new xs i h above = ⊎-elim old (λ e. e) (either (has (take i xs) (getD xs i 0)))
+  where
+    old : has (take i xs) (getD xs i 0) ≡ true → has (take i xs) (getD xs i 0) ≡ false
+    old e =
+        let w = has-place (take i xs) (getD xs i 0) e in
+        let l : w .0 < i = rw (length-take-le i xs (omega arith)) at (w .1) in
+        absurd (omega (arith, above (w .0) l, sym (getD-take i xs (w .0) 0 l) ∙ w .2))
 
 module _ (p : ℕ → Bool) (n : ℕ) (us : List ℕ) (r : Rising n us) (passes : (q : ℕ) → q < length us → p (getD us q 0) ≡ true) where
   -- each that passes counts more before it than the last

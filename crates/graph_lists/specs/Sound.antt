@@ -30,3 +30,9 @@ pub record Keys (n : ℕ) (ks : List ℕ) : Type 0 where
 pub record Rising (n : ℕ) (xs : List ℕ) : Type 0 where
   pub below : (i : ℕ) → i < length xs → getD xs i 0 < n
   pub rises : (i j : ℕ) → i < j → j < length xs → getD xs i 0 < getD xs j 0
+
+-- xs rises up to the place r, and no further: the rising front ends there
+pub record RisesTo (xs : List ℕ) (r : ℕ) : Type 0 where
+  pub within : r < length xs
+  pub rises : (i : ℕ) → i < r → getD xs i 0 < getD xs (suc i) 0
+  pub stops : suc r < length xs → getD xs (suc r) 0 ≤ getD xs r 0

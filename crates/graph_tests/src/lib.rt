@@ -4,14 +4,14 @@ pub mod seven;
 
 ghost use mathlib.Core.Path.{_≡_};
 ghost use mathlib.Core.Bool.{_&&_};
-ghost use Prim.Native.Nat.{suc, _<_, _≤_};
+ghost use Prim.Native.Nat.{suc, _+_, _-_, _<_, _≤_};
 ghost use lib.ListN.{length, take};
 ghost use Rattle.numbers.specs.Loops.{every};
 ghost use Rattle.refusals.specs.Tests.{firstOf};
 ghost use Rattle.graph_lists.specs.Lists.{has};
 ghost use Rattle.graph_lists.specs.Model.{edgesGood, rising, offsetsGood, priorGood, priorFault, detectorFault, mechanismFault, countsGood};
 ghost use Rattle.graph_lists.specs.Model.{sizesGood, sparseFits, sparseFault, denseFault, graphLengths, mechanismTest};
-ghost use Rattle.graph_lists.specs.Sound.{Offsets};
+ghost use Rattle.graph_lists.specs.Sound.{Offsets, RisesTo};
 use graph_lists::Size;
 use graph_lists::indices::at;
 use numbers::limits::MAX_CHECKS;
@@ -157,11 +157,12 @@ fn detector_fault(checks: usize, m: usize, ds: &[u32], i: usize) -> Answer
     Answer::Done
 }
 
-// All of m's detectors, in list order.
-fn detectors_fault(checks: usize, m: usize, ds: &[u32]) -> Answer
-    ensures { λ r. ⌜ r ≡ firstOf (length (now (ds .entry))) (detectorFault checks m (now (ds .entry))) ⌝ }
+// Those of m's detectors from a place on, each against all before it: the long way.
+fn detectors_fault_from(checks: usize, m: usize, ds: &[u32], from: usize) -> Answer
+    ensures { λ r. ⌜
+        r ≡ firstOf (length (now (ds .entry)) - from) (λ j. detectorFault checks m (now (ds .entry)) (from + j)) ⌝ }
 {
-    let mut i = 0;
+    let mut i = from;
     while i < ds.len() {
         let a = detector_fault(checks, m, ds, i);
         if !is_done(a) {
@@ -170,6 +171,39 @@ fn detectors_fault(checks: usize, m: usize, ds: &[u32]) -> Answer
         i += 1;
     }
     Answer::Done
+}
+
+// The place where the rising front of ds ends: each up to it is above the last one.
+fn rises_to(ds: &[u32]) -> usize
+    requires { ⌜ 0 < length (now ds) ⌝ }
+    ensures { λ r. ⌜ RisesTo (now (ds .entry)) r ⌝ }
+{
+    let mut r = 0;
+    while r + 1 < ds.len() {
+        let last = at(ds, r);
+        let d = at(ds, r + 1);
+        if d <= last {
+            return r;
+        }
+        r += 1;
+    }
+    r
+}
+
+// All of m's detectors, in list order. Of those that rise none is a repeat, and the last is the highest.
+fn detectors_fault(checks: usize, m: usize, ds: &[u32]) -> Answer
+    ensures { λ r. ⌜ r ≡ firstOf (length (now (ds .entry))) (detectorFault checks m (now (ds .entry))) ⌝ }
+{
+    if ds.len() == 0 {
+        return Answer::Done;
+    }
+    let r = rises_to(ds);
+    let last = at(ds, r);
+    if checks <= last {
+        return Answer::Refused(Refusal::DetectorOutOfRange(m));
+    }
+    let from = r + 1;
+    detectors_fault_from(checks, m, ds, from)
 }
 
 // The mechanism m: the prior, then the detectors.
