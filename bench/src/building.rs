@@ -1,7 +1,7 @@
 //! Building graphs. The Rust allocates its lists and takes the logarithm of each probability; the port writes into lists
 //! that the caller keeps and is handed the log ratios. Both test the model.
 
-use crate::models::{EDGES, sized};
+use crate::models::{EDGES, HUBS, Sized, hub, sized, spread};
 use crate::timing::{Row, Work, timed};
 use oracle::exact::bp::BpGraph;
 use pecos_decoder_core::dem::{DemCheckMatrix, Matrix};
@@ -15,9 +15,27 @@ const DENSE: [(usize, &str); 3] = [
     (24_000, "32 MB matrix"),
 ];
 
+/// A mechanism's detectors, in an order that repeats are looked for in.
+type Order = fn(&mut [u32]);
+
+/// One mechanism of many detectors, which rise to begin with.
+const ORDERS: [(&str, Order); 3] = [
+    ("hub, rising", |_| {}),
+    ("hub, last two exchanged", |detectors| {
+        let last = detectors.len() - 1;
+        detectors.swap(last - 1, last);
+    }),
+    ("hub, falling", <[u32]>::reverse),
+];
+
 pub fn run() -> Vec<Row> {
-    let sparse = EDGES.into_iter().map(sparse);
-    sparse.chain(DENSE.into_iter().map(dense)).collect()
+    let mut rows: Vec<Row> = EDGES.map(|edges| sparse("", &sized(edges))).into();
+    rows.push(sparse("16 of 65,536 checks", &spread()));
+    for (way, order) in ORDERS {
+        rows.extend(HUBS.map(|detectors| sparse(way, &hub(detectors, order))));
+    }
+    rows.extend(DENSE.map(dense));
+    rows
 }
 
 fn work(call: &'static str, way: &'static str, edges: usize) -> Work {
@@ -30,11 +48,10 @@ fn work(call: &'static str, way: &'static str, edges: usize) -> Work {
     }
 }
 
-fn sparse(edges: usize) -> Row {
-    let sized = sized(edges);
+fn sparse(way: &'static str, sized: &Sized) -> Row {
     let dem = sized.model.dem();
     let mut lists = sized.lists();
-    work("build_sparse", "", edges).beside(
+    work("build_sparse", way, sized.size.edges).beside(
         &mut || {
             timed(|| {
                 black_box(BpGraph::from_sparse_dem(black_box(&dem)).expect("the model builds"));

@@ -42,6 +42,38 @@ pub fn sized(edges: usize) -> Sized {
     })
 }
 
+/// Mechanisms and checks at their limits, with 16 detectors each that are drawn among all checks and rise.
+pub fn spread() -> Sized {
+    const MOST: usize = 65_536;
+    let mut random = SplitMix64::new(16);
+    let mut all: Vec<u32> = (0..MOST as u32).collect();
+    let detectors = (0..MOST).map(|_| {
+        random.draw_front(&mut all, 16);
+        let mut front = all[..16].to_vec();
+        front.sort_unstable();
+        front
+    });
+    flat(Model {
+        checks: MOST,
+        detectors: detectors.collect(),
+        probabilities: vec![1e-3; MOST],
+    })
+}
+
+/// Detectors of the one mechanism of a hub, up to the limit of checks.
+pub const HUBS: [usize; 3] = [1_000, 8_000, 65_536];
+
+/// One mechanism on as many checks; its detectors rise before they are put into another order.
+pub fn hub(detectors: usize, order: fn(&mut [u32])) -> Sized {
+    let mut list: Vec<u32> = (0..detectors as u32).collect();
+    order(&mut list);
+    flat(Model {
+        checks: detectors,
+        detectors: vec![list],
+        probabilities: vec![1e-3],
+    })
+}
+
 /// Of each row's model its size, and the bytes of its graph's lists.
 pub fn bytes() -> Vec<(Size, usize)> {
     let of = |edges: usize| {

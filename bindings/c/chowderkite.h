@@ -166,7 +166,8 @@ static inline int chowderkite_has_place(uint64_t code) {
 /* Builds the graph of a sparse model: mechanism m has the detectors (checks) from detector_offsets[m] to
  * detector_offsets[m + 1], in any order. Lengths: priors mechanisms, detector_offsets mechanisms + 1, detectors edges, the
  * five graph lists as above. Refuses with 1, 2, 3, then mechanism by mechanism 4, 5, 6, where a mechanism's prior comes
- * first and then each detector in list order, range before repeat. */
+ * first and then each detector in list order, range before repeat. Hand over a mechanism of thousands of detectors in
+ * rising order: from the first that does not rise, each is compared with all before it. */
 uint64_t chowderkite_build_sparse(
     size_t checks,
     size_t mechanisms,

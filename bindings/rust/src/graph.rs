@@ -51,7 +51,8 @@ pub struct BpGraph {
 }
 
 impl BpGraph {
-    /// The graph of a sparse model: a prior and detectors for each mechanism, detectors in any order.
+    /// The graph of a sparse model: a prior and detectors for each mechanism, detectors in any order. Those of a mechanism with
+    /// thousands should rise: from the first that does not, each is compared with all before it.
     ///
     /// # Errors
     ///

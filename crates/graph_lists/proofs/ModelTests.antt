@@ -167,7 +167,7 @@ module _ (checks m : ℕ) (ds : List ℕ) (r : ℕ) (f : RisesTo ds r) where
   front-above i j l k = steps-rise ds (suc r) (λ x h. f .rises x (omega arith)) i j l (omega arith)
 
   -- so none of it is a repeat
-  pub front-new : (i : ℕ) → i ≤ r → has (take i ds) (getD ds i 0) ≡ false
+  front-new : (i : ℕ) → i ≤ r → has (take i ds) (getD ds i 0) ≡ false
   front-new i h = above-new ds i (omega (arith, f .within)) (λ j l. front-above j i l h)
 
   -- and where one is in range, it and all before it are passed
@@ -188,7 +188,7 @@ module _ (checks m : ℕ) (ds : List ℕ) (r : ℕ) (f : RisesTo ds r) where
   front-stop : (i : ℕ) → i ≤ r → checks ≤ getD ds i 0 → firstOf i Test ≡ Done → Refused (DetectorOutOfRange m) ≡ firstOf (length ds) Test
   front-stop i h l e = let x = detector-range checks m ds i _ refl l in x ∙ sym (first-stop Test i (length ds) (omega (arith, f .within)) e (ap isDone (sym x)))
 
-  -- so that the first refusal is 5 where any of it is out of range
+  -- so where any of it is out of range, 5 is the first refusal
   pub front-out : (i : ℕ) → i ≤ r → checks ≤ getD ds i 0 → Refused (DetectorOutOfRange m) ≡ firstOf (length ds) Test
   front-out zero h l = front-stop 0 h l (first-none Test 0 (λ j k. absurd (omega arith)))
   front-out (suc i) h l = ⊎-elim (λ k. front-stop (suc i) h l (front-passed i (omega arith) k)) (λ k. front-out i (omega arith) k) (less-or-not (getD ds i 0) checks)

@@ -1,24 +1,20 @@
 -- Every graph within the limits is built from some model: its own variable lists, read as detectors. So 7 refuses just the lists that no model within the
 -- limits builds. Assumes nothing.
-use mathlib.Core.Bool.{Bool, true, false, _&&_}
+use mathlib.Core.Bool.{Bool, true, _&&_}
 use mathlib.Core.List.{List}
-use mathlib.Core.Logic.{⊎-elim}
 use mathlib.Core.Path.{_≡_, refl, sym, ap, _∙_}
 use Prim.Native.Nat.{ℕ, suc, _<_, _≤_}
-use native.Mathlib.Omega.{arith}
 use lib.Dec.{eqb}
 use lib.Ieee.{Float, nan}
-use lib.ListN.{length, getD, take}
-use lib.Seq.{getD-take, length-take-le}
+use lib.ListN.{length, getD}
 use borrow.Author.Tests.{eq-eqb, le-leb}
-use Rattle.numbers.proofs.Cases.{either}
 use Rattle.numbers.specs.Loops.{row}
 use Rattle.refusals.proofs.Tests.{or-done, unless-done, first-all, first-none}
 use Rattle.refusals.specs.Tests.{unless, orElse, firstOf}
 use Rattle.refusals.specs.declared.Answer.the-variants.{Done}
 use Rattle.refusals.specs.declared.Refusal.the-variants.{BadPrior}
 use Rattle.graph_lists.specs.Graph.{Graph, mechanismsOf, flipped, checksOf, entries, graphOf, among}
-use Rattle.graph_lists.specs.Lists.{has, joined, offsets}
+use Rattle.graph_lists.specs.Lists.{joined, offsets}
 use Rattle.graph_lists.specs.Model.{graphFits, offsetsGood, priorGood, priorFault, detectorFault, mechanismFault, buildOutcome, buildSparse, graphFault, sizesGood, sparseFits, sparseFault, mechanismTest}
 use Rattle.graph_lists.specs.Sound.{Rising}
 use Rattle.graph_lists.proofs.Built.{length-offsets, graph-among}

@@ -43,7 +43,7 @@ pub fn damage_common(random: &mut SplitMix64, given: &mut Given) {
             given.probabilities.resize(given.priors.len(), 0.5);
         }
         3 => {
-            let mut all = given.lists.each();
+            let all = given.lists.each();
             let which = random.below(all.len());
             nudge_length(random, all[which], 0);
         }

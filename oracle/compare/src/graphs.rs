@@ -3,6 +3,7 @@
 
 use crate::counts::Counts;
 use crate::damage::{damage_common, damage_lists, damage_sparse, nudge_length};
+use crate::fronts;
 use crate::given::{Given, model_of, rust};
 use crate::rounds::{Part, Rate};
 use crate::table::{MOST_COUNT, MOST_EDGES, wanted_dense, wanted_lists, wanted_sparse};
@@ -39,6 +40,14 @@ pub const PARTS: &[Part] = &[
     Part {
         rate: Rate::Each(1),
         case: damaged_lists,
+    },
+    Part {
+        rate: Rate::Each(1),
+        case: fronts::small,
+    },
+    Part {
+        rate: Rate::Every(200),
+        case: fronts::hub,
     },
 ];
 
@@ -138,8 +147,13 @@ fn damaged_sparse(_: u64, random: &mut SplitMix64, counts: &mut Counts) {
     for _ in 0..random.between(1, 3) {
         damage_sparse(random, &mut given);
     }
+    ask_both("graphs, damaged sparse", &mut given, counts);
+}
+
+/// A sparse model, damaged or not: what the table says of it, and the Rust where it can be asked.
+pub fn ask_both(name: &'static str, given: &mut Given, counts: &mut Counts) {
     let before = given.lists.clone();
-    let wanted = wanted_sparse(&given);
+    let wanted = wanted_sparse(given);
     let answer = given.build_sparse();
     let good = match wanted {
         // Here the Rust can be asked too; it gives 4 for what is no probability.
@@ -149,12 +163,9 @@ fn damaged_sparse(_: u64, random: &mut SplitMix64, counts: &mut Counts) {
         },
         Err(_) => given.lists == before,
     };
-    counts.check(
-        "graphs, damaged sparse",
-        wanted,
-        good && answer == wanted,
-        || format!("{answer:?} for {wanted:?}: {given:?}"),
-    );
+    counts.check(name, wanted, good && answer == wanted, || {
+        format!("{answer:?} for {wanted:?}: {given:?}")
+    });
 }
 
 fn damaged_dense(_: u64, random: &mut SplitMix64, counts: &mut Counts) {

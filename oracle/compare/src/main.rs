@@ -5,6 +5,7 @@ mod beliefs;
 mod counts;
 mod damage;
 mod decodes;
+mod fronts;
 mod given;
 mod graphs;
 mod numbers;
