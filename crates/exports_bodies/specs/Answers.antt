@@ -1,7 +1,12 @@
 -- What an exported call leaves: the code of its answer, and the lent lists as the call below left them. How an answer is a code: `exports_values` `Codes`. Definitions only. Assumes nothing.
 use Prim.Native.Nat.{ℕ}
-use mathlib.Core.List.{List}
+use mathlib.Core.List.{List, [], _∷_}
+use lib.IntN.{ℤ}
 use lib.Ieee.{Float}
+use Rattle.refusals.specs.declared.Answer.the-variants as Answer
+use Rattle.probabilities.specs.declared.PriorAnswer.{PriorAnswer}
+use Rattle.probabilities.specs.declared.PriorAnswer.the-variants.{Prior, Refused}
+use Rattle.probabilities.specs.Calls.{PriorsOutcome}
 use Rattle.graph_lists.specs.Graph.{Graph}
 use Rattle.graph_lists.specs.Model.{BuildOutcome}
 use Rattle.relay_calls.specs.Calls.{StepLists, StepOutcome, DecodeLists, DecodeOutcome}
@@ -21,6 +26,26 @@ graphLeft code g = record { code = code; lists = g }
 -- an outcome, its answer as a code
 abbrev pub graphLeftBy : BuildOutcome → GraphLeft
 graphLeftBy o = graphLeft (codeOf (o .answer)) (o .lists)
+
+-- ---- priors of probabilities
+
+-- the code, and the lists of priors and of whole numbers as the call leaves them
+pub record PriorsLeft : Type 0 where
+  pub code : ℕ
+  pub priors : List Float
+  pub scaled : List ℤ
+
+abbrev pub priorsLeft : ℕ → List Float → List ℤ → PriorsLeft
+priorsLeft code priors scaled = record { code = code; priors = priors; scaled = scaled }
+
+-- an outcome of `priors_of`, its answer as a code
+abbrev pub priorsLeftBy : PriorsOutcome → PriorsLeft
+priorsLeftBy o = priorsLeft (codeOf (o .answer)) (o .priors) (o .scaled)
+
+-- an answer of `prior_of`, over two lists of one as they were
+abbrev pub priorLeftBy : PriorAnswer → List Float → List ℤ → PriorsLeft
+priorLeftBy (Prior scaled prior) priors whole = priorsLeft 0 (prior ∷ []) (scaled ∷ [])
+priorLeftBy (Refused r) priors whole = priorsLeft (codeOf (Answer.Refused r)) priors whole
 
 -- ---- beliefs
 

@@ -5,5 +5,6 @@ pub mod decodes;
 pub mod graphs;
 pub mod legs;
 pub mod point;
+pub mod priors;
 pub mod sessions;
 pub mod steps;
