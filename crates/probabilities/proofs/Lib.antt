@@ -7,5 +7,6 @@ pub mod Splits
 pub mod Scales
 pub mod Logs
 pub mod Priors
+pub mod Orders
 pub mod Exactness
 pub mod Theorems
