@@ -70,7 +70,7 @@ unfolding sizeOf
 size-from p h = rw (le-ltb (2 * num p) (den p) h)
 
 -- no prior is beyond the cut
-scaled-most : (a b : ℕ) → natAbs (scaledAt a b) ≤ most * 2 ^ 32
+pub scaled-most : (a b : ℕ) → natAbs (scaledAt a b) ≤ most * 2 ^ 32
 unfolding scaledAt
 scaled-most a b = go (eqb a 0) (eqb a b) (ltb (2 * a) b)
   where
