@@ -133,7 +133,7 @@ float-range z h = in-range (floatOf z) (isBelow z) (natAbs z) h (float-exact z (
 minus-plain : (a b c d : ℕ) → 0 < a → 0 < c → T (ltb 0 (a * c + b * d) || level true (a * c) false (b * d))
 minus-plain a b c d p q = or-first (ltb 0 (a * c + b * d)) (level true (a * c) false (b * d)) (lt→ltb 0 (a * c + b * d) (omega (arith, mul-pos p q)))
 
--- a / 1 is above 0 where it is n / 2 ^ 32, over the like c
+-- a fraction over c of the value (n + 1) / 2 ^ 32 is above 0
 some-size : (a n c : ℕ) → 0 < c → a * 2 ^ 32 ≡ suc n * c → 0 < a
 some-size a n c p v = omega (arith, v, mul-pos {m = suc n} (omega arith) p)
 
