@@ -1,8 +1,8 @@
 -- Of two ratios the greater never gets the lesser logarithm, with all that is cut off; and the logarithm of 1 is 0. Assumes nothing.
 use mathlib.Core.Path.{_≡_, sym, ap, _∙_, subst}
 use mathlib.Core.Logic.{⊎-elim}
-use Prim.Native.Nat.{ℕ, zero, suc, _+_, _-_, _*_, _/_, _^_, _≤_, _<_, min}
-use native.Mathlib.Nat.{mul-one, mul-assoc, mul-pos, mul-le-mul, mul-le-mul-left, mul-le-mul-right, lt-of-mul-lt-mul-right, lt-of-le-of-lt, le-trans, pow-suc, zero-mul, zero-div}
+use Prim.Native.Nat.{ℕ, zero, suc, _+_, _-_, _*_, _/_, _^_, _≤_, _<_}
+use native.Mathlib.Nat.{mul-one, mul-pos, mul-le-mul, mul-le-mul-left, mul-le-mul-right, lt-of-mul-lt-mul-right, lt-of-le-of-lt, pow-suc, zero-mul, zero-div}
 use native.Mathlib.Omega.{arith}
 use lib.Pow.{pow-pos}
 use lib.Ieee.{size}
@@ -10,9 +10,8 @@ use lib.Ieee.Digits.{size-lt, size-le}
 use lib.Ieee.Nearest.{div-mono}
 use Rattle.numbers.proofs.Cases.{less-or-not}
 use Rattle.probabilities.specs.Logarithm.{twos, terms}
-use Rattle.probabilities.specs.Scaled.{leading, slope, nested, series, ln2Cut, most, scaledAfter, scaledSize}
-use Rattle.probabilities.specs.Ratios.{Split}
-use Rattle.probabilities.proofs.Slopes.{split-order, slope-small}
+use Rattle.probabilities.specs.Scaled.{leading, slope, nested, series, ln2Cut, scaledAfter, scaledSize}
+use Rattle.probabilities.proofs.Slopes.{slope-small}
 use Rattle.probabilities.proofs.Scales.{twos-is, twos-least, twos-under, twos-double, leading-low, leading-high, leading-bits, leading-fits}
 use Rattle.probabilities.proofs.Logs.{taken-apart}
 
