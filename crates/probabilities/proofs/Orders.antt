@@ -33,9 +33,11 @@ third-most : 2 * series 1431655765 ≤ ln2Cut
 unfolding series nested
 third-most = omega arith
 
+-- so twice that of any t is
 series-most : (t : ℕ) → 3 * t ≤ 2 ^ 32 → 2 * series t ≤ ln2Cut
 series-most t h = omega (arith, third-most, series-mono t 1431655765 (omega arith))
 
+-- that of 0 is 0
 series-zero : series 0 ≡ 0
 unfolding series
 series-zero = omega (arith, zero-mul (nested terms 0 (0 * 0 / 2 ^ 32)))
@@ -75,6 +77,7 @@ slope-same h = let e : (h - h - 1) * 2 ^ 32 ≡ 0 = omega arith in ap (λ (n : �
 
 -- c stands for n * 2 ^ k. The units of the greater are as great, or twice as great.
 module _ (m c m' c' : ℕ) (some : 0 < c) (c≤c' : c ≤ c') (c'≤m' : c' ≤ m') (m'≤m : m' ≤ m) (double : m < 2 * c) where
+  -- the greater has as many digits, or one more
   size-least : size c ≤ size c'
   size-least = size-le c (size c') (lt-of-le-of-lt c≤c' (size-lt c'))
 
@@ -105,6 +108,7 @@ module _ (m c m' c' : ℕ) (some : 0 < c) (c≤c' : c ≤ c') (c'≤m' : c' ≤ 
       let order : l ≤ h = omega (arith, lt-of-mul-lt-mul-right (2 ^ size c) upper) in
       slope-mono h l h' l' (omega (arith, order, halved, mul-le-mul-left l halved, mul-le-mul-right h less))
 
+  -- in either
   slope-order : slope (leading c' m') (leading c' c') ≤ slope (leading c m) (leading c c)
   slope-order =
       ⊎-elim
@@ -115,6 +119,7 @@ module _ (m c m' c' : ℕ) (some : 0 < c) (c≤c' : c ≤ c') (c'≤m' : c' ≤ 
 -- ---- ratios
 
 module _ (m n m' n' : ℕ) (some : 0 < n) (order' : n' ≤ m') (m'≤m : m' ≤ m) (n≤n' : n ≤ n') where
+  -- both are from 1 on
   order : n ≤ m
   order = omega arith
 

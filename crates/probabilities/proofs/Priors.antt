@@ -231,7 +231,7 @@ fraction-most p h = go (eq p zero⁺) refl
     go true e = omega (arith, zero-is p e)
     go false e = at-most-one p h (above-zero p h e)
 
--- a finite number that is not below 0 and at most another has no greater fraction
+-- a finite number without a minus that is at most another has no greater fraction
 plain-cross : (m n : ℕ) (e d : ℤ) (t : Bool) → le (fin false m e) (fin t n d) ≡ true → m * up e * down d ≤ n * up d * down e
 unfolding le lt eq
 plain-cross m n e d false h =
@@ -241,6 +241,7 @@ plain-cross m n e d false h =
     (or-cases (ltb (m * up e * down d) (n * up d * down e)) (level false (m * up e * down d) false (n * up d * down e)) h)
 plain-cross m n e d true h = omega (arith, eqb-true (m * up e * down d) (n * up d * down e) (and-both _ _ h .0))
 
+-- one above 0, and a probability
 positive-cross : (p q : Float) → T (positive p) → isProbability q ≡ true → le p q ≡ true → num p * den q ≤ num q * den p
 unfolding isProbability le lt eq
 positive-cross nan q n g o = absurd n

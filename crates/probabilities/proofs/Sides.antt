@@ -16,6 +16,7 @@ use Rattle.probabilities.proofs.Priors.{at-zero, at-one, at-below, at-f
 
 -- ---- the value
 
+-- a power of two is above 0
 power-pos : (n : ℕ) → Power n → 0 < n
 power-pos n x = subst (λ (m : ℕ). 0 < m) (sym (x .is)) (pow-pos (x .exponent))
 
@@ -26,12 +27,14 @@ power-times m n x y =
 
 -- two fractions of one value, a / b and q / n, have one prior
 module _ (a b q n : ℕ) (x : Power b) (y : Power n) (fits : a ≤ b) (same : a * n ≡ q * b) where
+  -- both numbers below are above 0
   some-b : 0 < b
   some-b = power-pos b x
 
   some-n : 0 < n
   some-n = power-pos n y
 
+  -- both are at most 1
   same-fits : q ≤ n
   same-fits = le-of-mul-le-mul-right {k = b} (omega (arith, same, mul-le-mul-right n fits)) some-b
 
@@ -39,6 +42,7 @@ module _ (a b q n : ℕ) (x : Power b) (y : Power n) (fits : a ≤ b) (same : a 
   same-zero : a ≡ 0 → q ≡ 0
   same-zero e = eq-of-mul-eq-mul-right b some-b q 0 (sym same ∙ ap (λ (m : ℕ). m * n) e ∙ zero-mul n ∙ sym (zero-mul b))
 
+  -- above 0
   same-some : 0 < a → 0 < q
   same-some p = lt-of-mul-lt-mul-right b (omega (arith, same, mul-pos p some-n))
 
@@ -46,6 +50,7 @@ module _ (a b q n : ℕ) (x : Power b) (y : Power n) (fits : a ≤ b) (same : a 
   same-one : a ≡ b → q ≡ n
   same-one e = eq-of-mul-eq-mul-right b some-b q n (sym same ∙ ap (λ (m : ℕ). m * n) e ∙ mul-comm b n)
 
+  -- below 1
   same-less : a < b → q < n
   same-less l = lt-of-mul-lt-mul-right b (omega (arith, same, mul-lt-mul-of-pos-right l some-n))
 
@@ -53,9 +58,11 @@ module _ (a b q n : ℕ) (x : Power b) (y : Power n) (fits : a ≤ b) (same : a 
   same-below : 2 * a < b → 2 * q < n
   same-below l = lt-of-mul-lt-mul-right b (omega (arith, same, mul-lt-mul-of-pos-right l some-n))
 
+  -- from a half on
   same-from : b ≤ 2 * a → n ≤ 2 * q
   same-from l = le-of-mul-le-mul-right {k = b} (omega (arith, same, mul-le-mul-right n l)) some-b
 
+  -- between 0 and 1
   between : 0 < a → a < b → scaledAt a b ≡ scaledAt q n
   between p l =
       ⊎-elim
@@ -65,6 +72,7 @@ module _ (a b q n : ℕ) (x : Power b) (y : Power n) (fits : a ≤ b) (same : a 
       at-from a b p l g ∙ ap (λ (m : ℕ). negℤ (pos m)) (from-same a b q n x y p same-fits same l g) ∙ sym (at-from q n (same-some p) (same-less l) (same-from g)))
       (less-or-not (2 * a) b)
 
+  -- anywhere from 0 to 1
   pub at-same : scaledAt a b ≡ scaledAt q n
   at-same =
       ⊎-elim
@@ -89,12 +97,14 @@ module _ (a b : ℕ) (some : 0 < b) (fits : a ≤ b) where
   twice : b - (b - a) ≡ a
   twice = omega arith
 
+  -- below a half
   flip-below : 0 < a → 2 * a < b → scaledAt (b - a) b ≡ negℤ (scaledAt a b)
   flip-below p l =
       at-from (b - a) b (omega arith) (omega arith) (omega arith)
       ∙ ap (λ (n : ℕ). negℤ (pos (scaledSize (b - a) n))) twice
       ∙ ap negℤ (sym (at-below a b p l))
 
+  -- above a half
   flip-above : a < b → b < 2 * a → scaledAt (b - a) b ≡ negℤ (scaledAt a b)
   flip-above l g =
       at-below (b - a) b (omega arith) (omega arith)
@@ -102,16 +112,20 @@ module _ (a b : ℕ) (some : 0 < b) (fits : a ≤ b) where
       ∙ sym (negℤ-negℤ (pos (scaledSize a (b - a))))
       ∙ ap negℤ (sym (at-from a b (omega arith) l (omega arith)))
 
+  -- at a half
   flip-half : 2 * a ≡ b → scaledAt (b - a) b ≡ negℤ (scaledAt a b)
   flip-half e =
       at-half (b - a) b (omega arith) (omega arith) ∙ ap negℤ (sym (at-half a b (omega arith) e))
 
+  -- at 0
   flip-zero : a ≡ 0 → scaledAt (b - a) b ≡ negℤ (scaledAt a b)
   flip-zero e = at-one (b - a) b (omega arith) (omega arith) ∙ ap negℤ (sym (at-zero a b e))
 
+  -- at 1
   flip-one : a ≡ b → scaledAt (b - a) b ≡ negℤ (scaledAt a b)
   flip-one e = at-zero (b - a) b (omega arith) ∙ sym (negℤ-negℤ (pos (most * 2 ^ 32))) ∙ ap negℤ (sym (at-one a b (omega arith) e))
 
+  -- the prior of 1 - a / b is that of a / b with the other sign
   pub at-flip : scaledAt (b - a) b ≡ negℤ (scaledAt a b)
   at-flip =
       ⊎-elim
@@ -125,30 +139,33 @@ module _ (a b : ℕ) (some : 0 < b) (fits : a ≤ b) where
 
 -- ---- the order
 
--- of two whole numbers by their sizes
+-- two whole numbers that are not below 0
 plain-order : (m n : ℕ) → m ≤ n → pos m ≤ℤ pos n
 plain-order m n h = record { le = le→leb m n h }
 
+-- two that are not above 0
 minus-order : (m n : ℕ) → m ≤ n → negℤ (pos n) ≤ℤ negℤ (pos m)
 minus-order zero zero h = record { le = tt }
 minus-order zero (suc n) h = record { le = tt }
 minus-order (suc m) zero h = absurd (let z : ⊥ = omega arith in z)
 minus-order (suc m) (suc n) h = record { le = le→leb m n (omega arith) }
 
+-- one of each
 mixed-order : (m n : ℕ) → negℤ (pos m) ≤ℤ pos n
 mixed-order zero n = plain-order 0 n (omega arith)
 mixed-order (suc m) n = record { le = tt }
 
--- and of one by its bound
+-- one by the bound of its size, from above
 bound-above : (z : ℤ) (n : ℕ) → natAbs z ≤ n → z ≤ℤ pos n
 bound-above (pos m) n h = plain-order m n h
 bound-above (negsuc m) n h = record { le = tt }
 
+-- and from below
 bound-below : (z : ℤ) (n : ℕ) → natAbs z ≤ n → negℤ (pos n) ≤ℤ z
 bound-below (pos m) n h = mixed-order n m
 bound-below (negsuc m) n h = minus-order (suc m) n h
 
--- two that are given
+-- two that are given by what they are equal to
 ordered : (y z y' z' : ℤ) → y ≡ y' → z ≡ z' → y' ≤ℤ z' → y ≤ℤ z
 ordered y z y' z' e f h = rw (e, f) h
 
@@ -170,6 +187,7 @@ module _ (a c b : ℕ) (some : 0 < b) (a≤c : a ≤ c) (fits : c ≤ b) where
       (less-or-not (2 * a) b))
       (less-or-not (2 * c) b)
 
+  -- anywhere from 0 to 1
   pub at-mono : scaledAt c b ≤ℤ scaledAt a b
   at-mono =
       ⊎-elim
