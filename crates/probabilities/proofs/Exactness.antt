@@ -1,18 +1,19 @@
--- That the float of a scaled prior holds it exactly, and passes 4. Assumes nothing.
+-- That the float of a scaled prior holds it exactly, passes 4, and is in the order of the scaled ones. Assumes nothing.
 use mathlib.Core.Path.{_≡_, refl, sym, ap, _∙_, subst}
 use mathlib.Core.Logic.{⊎-elim}
-use mathlib.Core.Bool.{Bool, true, false, _&&_, _||_}
-use Prim.Native.Nat.{ℕ, zero, suc, _+_, _*_, _^_, _≤_, _<_}
+use mathlib.Core.Bool.{Bool, true, false, _&&_, _||_, true≢false, false≢true}
+use Prim.Native.Nat.{ℕ, suc, _+_, _*_, _^_, _≤_, _<_}
 use native.Mathlib.Nat.{mul-assoc, mul-comm, mul-one, mul-right-comm, mul-pos, mul-le-mul-right, eq-of-mul-eq-mul-right, lt-of-lt-of-le}
 use native.Mathlib.Omega.{arith}
-use lib.Dec.{T, ltb, lit≤, lt→ltb}
+use lib.Dec.{T, ltb, lit≤, lt→ltb, leb→le}
 use borrow.Author.Tests.{eq-eqb}
 use lib.Pow.{pow-pos, pow-mono, shl-lt}
 use lib.IntN.{ℤ, pos, negsuc, natAbs}
 use lib.Ieee.{Float, nan, inf, fin, binary64, up, down, round, div, ofInt, unlike, neg, level, lt, eq, le}
 use lib.Ieee.Fits.{down-pos}
 use lib.Ieee.Exact.{HasValue, round-exact}
-use lib.Ieee.Order.{le-of-values}
+use lib.Ieee.Order.{transfer, le-of-values}
+use lib.Signed.{_≤ℤ_}
 use Rattle.numbers.specs.Floats.{saturation}
 use Rattle.numbers.proofs.Cases.{less-or-not}
 use Rattle.probabilities.specs.Scaled.{most, floatOf}
@@ -125,3 +126,35 @@ in-range (fin true m e) s n h v = both-hold (le (neg saturation) (fin true m e))
 -- a scaled prior's float passes 4
 pub float-range : (z : ℤ) → natAbs z ≤ most * 2 ^ 32 → (le (neg saturation) (floatOf z) && le (floatOf z) saturation) ≡ true
 float-range z h = in-range (floatOf z) (isBelow z) (natAbs z) h (float-exact z (omega arith))
+
+-- ---- in order
+
+-- a number below 0 is below one that is not
+minus-plain : (a b c d : ℕ) → 0 < a → 0 < c → T (ltb 0 (a * c + b * d) || level true (a * c) false (b * d))
+minus-plain a b c d p q = or-first (ltb 0 (a * c + b * d)) (level true (a * c) false (b * d)) (lt→ltb 0 (a * c + b * d) (omega (arith, mul-pos p q)))
+
+-- a fraction over c of the value (n + 1) / 2 ^ 32 is above 0
+some-size : (a n c : ℕ) → 0 < c → a * 2 ^ 32 ≡ suc n * c → 0 < a
+some-size a n c p v = omega (arith, v, mul-pos {m = suc n} (omega arith) p)
+
+-- two floats that are y / 2 ^ 32 and z / 2 ^ 32
+values-order : (v w : Float) (y z : ℤ) → HasValue v (isBelow y) (natAbs y) (2 ^ 32) → HasValue w (isBelow z) (natAbs z) (2 ^ 32) → y ≤ℤ z → T (le v w)
+unfolding le lt eq
+values-order v w (pos m) (pos n) p q h = le-of-values v w m (2 ^ 32) n (2 ^ 32) (pow-pos 32) (pow-pos 32) p q (mul-le-mul-right (2 ^ 32) (leb→le m n (h .le)))
+values-order v w (pos m) (negsuc n) p q h = absurd (h .le)
+values-order (fin true a e) (fin false b d) (negsuc m) (pos n) p q h = minus-plain (a * up e) (b * up d) (down d) (down e) (some-size (a * up e) m (down e) (down-pos e) (p .1)) (down-pos d)
+values-order (fin true a e) (fin true b d) (negsuc m) (negsuc n) p q h =
+    minus-order (a * up e * down d) (b * up d * down e)
+    (transfer (b * up d) (a * up e) (down d) (down e) (suc n) (suc m) (2 ^ 32) (2 ^ 32) (pow-pos 32) (pow-pos 32) (q .1) (p .1)
+    (mul-le-mul-right {m = suc n} {n = suc m} (2 ^ 32) (omega (arith, leb→le n m (h .le)))))
+values-order nan w (negsuc m) z p q h = absurd p
+values-order (inf s) w (negsuc m) z p q h = absurd p
+values-order (fin false a e) w (negsuc m) z p q h = absurd (false≢true (p .0))
+values-order (fin true a e) nan (negsuc m) z p q h = absurd q
+values-order (fin true a e) (inf s) (negsuc m) z p q h = absurd q
+values-order (fin true a e) (fin true b d) (negsuc m) (pos n) p q h = absurd (true≢false (q .0))
+values-order (fin true a e) (fin false b d) (negsuc m) (negsuc n) p q h = absurd (false≢true (q .0))
+
+-- of two scaled priors the lesser has the lesser float
+pub float-order : (y z : ℤ) → natAbs y ≤ most * 2 ^ 32 → natAbs z ≤ most * 2 ^ 32 → y ≤ℤ z → T (le (floatOf y) (floatOf z))
+float-order y z h g o = values-order (floatOf y) (floatOf z) y z (float-exact y (omega arith)) (float-exact z (omega arith)) o

@@ -6,6 +6,8 @@ pub mod Values
 pub mod Splits
 pub mod Scales
 pub mod Logs
+pub mod Orders
 pub mod Priors
+pub mod Sides
 pub mod Exactness
 pub mod Theorems

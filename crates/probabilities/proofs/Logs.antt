@@ -54,7 +54,7 @@ module _ (a b c d k : ℕ) (same : a * d ≡ c * b) where
 -- ---- a ratio in whole units
 
 -- the leading digits of a and b * 2 ^ k are the ratio taken apart, in units of 2 ^ -32 of the digits of b * 2 ^ k
-taken-apart : (a b k : ℕ) → 0 < b → b * 2 ^ k ≤ a → a < 2 * (b * 2 ^ k) → Split (a * 2 ^ 32) (b * 2 ^ 32) k (leading (b * 2 ^ k) a) (leading (b * 2 ^ k) (b * 2 ^ k))
+pub taken-apart : (a b k : ℕ) → 0 < b → b * 2 ^ k ≤ a → a < 2 * (b * 2 ^ k) → Split (a * 2 ^ 32) (b * 2 ^ 32) k (leading (b * 2 ^ k) a) (leading (b * 2 ^ k) (b * 2 ^ k))
 taken-apart a b k some under over =
     let c = b * 2 ^ k in
     let p : 0 < c = mul-pos some (pow-pos k) in

@@ -70,7 +70,7 @@ unfolding sizeOf
 size-from p h = rw (le-ltb (2 * num p) (den p) h)
 
 -- no prior is beyond the cut
-scaled-most : (a b : ℕ) → natAbs (scaledAt a b) ≤ most * 2 ^ 32
+pub scaled-most : (a b : ℕ) → natAbs (scaledAt a b) ≤ most * 2 ^ 32
 unfolding scaledAt
 scaled-most a b = go (eqb a 0) (eqb a b) (ltb (2 * a) b)
   where
@@ -215,3 +215,47 @@ half-test nan n = absurd n
 half-test (inf s) n = absurd n
 half-test (fin true m e) n = absurd n
 half-test (fin false m e) n = rw (one-mul (down e), mul-comm (m * up e) 2)
+
+-- `p == 0.5`
+pub half-is : (p : Float) → eq p (fin false 1 (negsuc 0)) ≡ true → 2 * num p ≡ den p
+unfolding eq
+half-is nan h = absurd (false≢true h)
+half-is (inf s) h = absurd (false≢true h)
+half-is (fin s m e) h = omega (arith, eqb-true (m * up e * 2) (1 * down e) (and-both _ _ h .0), one-mul (down e))
+
+-- a probability's fraction is at most 1
+pub fraction-most : (p : Float) → isProbability p ≡ true → num p ≤ den p
+fraction-most p h = go (eq p zero⁺) refl
+  where
+    go : (b : Bool) → eq p zero⁺ ≡ b → num p ≤ den p
+    go true e = omega (arith, zero-is p e)
+    go false e = at-most-one p h (above-zero p h e)
+
+-- a finite number without a minus that is at most another has no greater fraction
+plain-cross : (m n : ℕ) (e d : ℤ) (t : Bool) → le (fin false m e) (fin t n d) ≡ true → m * up e * down d ≤ n * up d * down e
+unfolding le lt eq
+plain-cross m n e d false h =
+    ⊎-elim
+    (λ (l : ltb (m * up e * down d) (n * up d * down e) ≡ true). omega (arith, ltb-true (m * up e * down d) (n * up d * down e) l))
+    (λ (l : level false (m * up e * down d) false (n * up d * down e) ≡ true). omega (arith, eqb-true (m * up e * down d) (n * up d * down e) (and-both _ _ l .0)))
+    (or-cases (ltb (m * up e * down d) (n * up d * down e)) (level false (m * up e * down d) false (n * up d * down e)) h)
+plain-cross m n e d true h = omega (arith, eqb-true (m * up e * down d) (n * up d * down e) (and-both _ _ h .0))
+
+-- one above 0, and a probability
+positive-cross : (p q : Float) → T (positive p) → isProbability q ≡ true → le p q ≡ true → num p * den q ≤ num q * den p
+unfolding isProbability le lt eq
+positive-cross nan q n g o = absurd n
+positive-cross (inf s) q n g o = absurd n
+positive-cross (fin true m e) q n g o = absurd n
+positive-cross (fin false m e) nan n g o = absurd (false≢true g)
+positive-cross (fin false m e) (inf true) n g o = absurd (false≢true g)
+positive-cross (fin false m e) (inf false) n g o = absurd (false≢true g)
+positive-cross (fin false m e) (fin t k d) n g o = plain-cross m k e d t o
+
+-- `p <= q` for two probabilities, by their fractions
+pub order-cross : (p q : Float) → isProbability p ≡ true → isProbability q ≡ true → le p q ≡ true → num p * den q ≤ num q * den p
+order-cross p q h g o = go (eq p zero⁺) refl
+  where
+    go : (b : Bool) → eq p zero⁺ ≡ b → num p * den q ≤ num q * den p
+    go true e = omega (arith, ap (λ (n : ℕ). n * den q) (zero-is p e), zero-mul (den q))
+    go false e = positive-cross p q (above-zero p h e) g o

@@ -1,4 +1,5 @@
--- What a reader may rely on: the whole number that is given is within 256 of the exact prior times 2 ^ 32, and the float holds it exactly. Assumes nothing.
+-- What a reader may rely on: the whole number that is given is within 256 of the exact prior times 2 ^ 32, the float holds it exactly, 1 less a probability has
+-- the prior with the other sign, and a greater probability has no greater prior. Assumes nothing.
 use mathlib.Core.Path.{_≡_, refl, sym, ap, _∙_, subst}
 use mathlib.Core.Bool.{Bool, true, false, cond, _&&_}
 use Prim.Native.Nat.{ℕ, zero, suc, _+_, _-_, _*_, _^_, _≤_, _<_}
@@ -6,19 +7,22 @@ use native.Mathlib.Nat.{add-mul, zero-mul}
 use native.Mathlib.Omega.{arith}
 use lib.Dec.{eqb, ltb}
 use lib.IntN.{ℤ, pos, negsuc, negℤ, natAbs, _-ℤ_, _*ℤ_, negℤ-+ℤ, pos-*ℤ-pos, negsuc-*ℤ-pos}
-use lib.Ieee.{Float, neg, eq, le}
+use lib.Ieee.{Float, fin, neg, eq, le}
+use lib.Ieee.Bits.{is-true}
+use lib.Signed.{_≤ℤ_}
 use lib.Ieee.Exact.{HasValue}
 use lib.Ieee.Positive.{num, den, den-pos}
 use borrow.Author.Tests.{eqb-false, ltb-true, ltb-false}
-use Rattle.numbers.specs.Floats.{zero⁺, saturation}
+use Rattle.numbers.specs.Floats.{zero⁺, one⁺, saturation}
 use Rattle.probabilities.specs.Fractions.{Fraction, over, cutTo, Near}
 use Rattle.probabilities.specs.Logarithm.{logarithm}
-use Rattle.probabilities.specs.Scaled.{most, scaledSize, scaledAt, scaledOf, priorOf}
+use Rattle.probabilities.specs.Scaled.{most, scaledSize, scaledAt, scaledOf, floatOf, priorOf}
 use Rattle.probabilities.specs.Exact.{Signed, plain, minus, exactAt, exactPrior, signed, Close}
 use Rattle.probabilities.specs.Calls.{isProbability}
 use Rattle.probabilities.proofs.Logs.{near-most, near-size}
-use Rattle.probabilities.proofs.Priors.{scaled-held, zero-is, above-zero, at-most-one}
-use Rattle.probabilities.proofs.Exactness.{isBelow, float-exact, float-range}
+use Rattle.probabilities.proofs.Priors.{at-zero, at-one, scaled-held, den-power, zero-is, one-is, half-is, fraction-most, order-cross}
+use Rattle.probabilities.proofs.Sides.{at-same, at-half, at-flip, at-order}
+use Rattle.probabilities.proofs.Exactness.{isBelow, float-exact, float-range, float-order}
 
 -- ---- near the exact prior
 
@@ -46,14 +50,6 @@ close-at a b h = go (eqb a 0) (eqb a b) (ltb (2 * a) b) (eqb-false a 0) (eqb-fal
         let q = o refl in
         let r = g refl in
         close-minus (scaledSize a (b - a)) (cutTo most (logarithm a (b - a))) (near-size a (b - a) (omega arith) (omega arith))
-
--- a probability's fraction is at most 1
-fraction-most : (p : Float) → isProbability p ≡ true → num p ≤ den p
-fraction-most p h = go (eq p zero⁺) refl
-  where
-    go : (b : Bool) → eq p zero⁺ ≡ b → num p ≤ den p
-    go true e = omega (arith, zero-is p e)
-    go false e = at-most-one p h (above-zero p h e)
 
 -- the number that `prior_of` gives is the exact prior times 2 ^ 32, rounded towards zero by at most 256
 pub close : (p : Float) → isProbability p ≡ true → Close (scaledOf p) (exactPrior p)
@@ -111,3 +107,49 @@ prior-exact p = float-exact (scaledOf p) (omega (arith, scaled-held p (scaledOf 
 pub prior-range : (p : Float) → (le (neg saturation) (priorOf p) && le (priorOf p) saturation) ≡ true
 unfolding priorOf
 prior-range p = float-range (scaledOf p) (scaled-held p (scaledOf p) refl)
+
+-- ---- the ends, the middle and the other side
+
+-- 0, with either sign, has 30
+pub prior-zero : (p : Float) → eq p zero⁺ ≡ true → scaledOf p ≡ pos (most * 2 ^ 32)
+unfolding scaledOf
+prior-zero p h = at-zero (num p) (den p) (zero-is p h)
+
+-- 1 has -30
+pub prior-one : (p : Float) → eq p one⁺ ≡ true → scaledOf p ≡ negℤ (pos (most * 2 ^ 32))
+unfolding scaledOf
+prior-one p h = at-one (num p) (den p) (omega (arith, one-is p h, den-pos p)) (one-is p h)
+
+-- and 1 / 2 has 0, as a fraction ..
+pub fraction-half : (p : Float) → 2 * num p ≡ den p → scaledOf p ≡ pos 0
+unfolding scaledOf
+fraction-half p e = at-half (num p) (den p) (omega (arith, e, den-pos p)) e
+
+-- .. and as the float 0.5
+pub prior-half : (p : Float) → eq p (fin false 1 (negsuc 0)) ≡ true → scaledOf p ≡ pos 0
+prior-half p h = fraction-half p (half-is p h)
+
+-- where q is 1 - p, exactly, it has the prior of p with the other sign
+pub prior-flip : (p q : Float) → num p ≤ den p → num q * den p ≡ (den p - num p) * den q → scaledOf q ≡ negℤ (scaledOf p)
+unfolding scaledOf
+prior-flip p q h e =
+    sym (at-same (den p - num p) (den p) (num q) (den q) (den-power p) (den-power q) (omega arith) (sym e))
+    ∙ at-flip (num p) (den p) (den-pos p) h
+
+-- ---- the order
+
+-- of two fractions from 0 to 1 the greater has no greater prior
+pub fraction-order : (p q : Float) → num p ≤ den p → num q ≤ den q → num p * den q ≤ num q * den p → scaledOf q ≤ℤ scaledOf p
+unfolding scaledOf
+fraction-order p q h g o = at-order (num p) (den p) (num q) (den q) (den-power p) (den-power q) h g o
+
+-- so of two probabilities: where p <= q, the whole number of q is at most that of p
+pub scaled-order : (p q : Float) → isProbability p ≡ true → isProbability q ≡ true → le p q ≡ true → scaledOf q ≤ℤ scaledOf p
+scaled-order p q h g o = fraction-order p q (fraction-most p h) (fraction-most q g) (order-cross p q h g o)
+
+-- and so is the float
+pub prior-order : (p q : Float) → isProbability p ≡ true → isProbability q ≡ true → le p q ≡ true → le (priorOf q) (priorOf p) ≡ true
+unfolding priorOf
+prior-order p q h g o =
+    is-true (le (floatOf (scaledOf q)) (floatOf (scaledOf p)))
+    (float-order (scaledOf q) (scaledOf p) (scaled-held q (scaledOf q) refl) (scaled-held p (scaledOf p) refl) (scaled-order p q h g o))
