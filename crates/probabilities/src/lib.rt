@@ -11,7 +11,7 @@ ghost use Prim.Native.Nat.{ℕ, _+_, _-_, _*_, _^_, _≤_, _<_};
 ghost use Rattle.refusals.specs.declared.Answer.the-variants.{Done};
 ghost use Rattle.refusals.specs.Tests.{firstOf};
 ghost use Rattle.probabilities.specs.Logarithm.{terms};
-ghost use Rattle.probabilities.specs.Scaled.{slope, nested as nestedOf, series as seriesOf, ln2Cut, most, floatOf, scaledOf, priorOf};
+ghost use Rattle.probabilities.specs.Scaled.{slope, nested as nestedOf, series as seriesOf, most, floatOf, scaledOf, priorOf};
 ghost use Rattle.probabilities.specs.Ratios.{Split, cutSum, sizeOf};
 ghost use Rattle.probabilities.specs.Calls.{isProbability, probabilityFault, priorAnswer, priorsOutcome, priorsOf};
 use refusals::Answer;
