@@ -21,13 +21,6 @@ nested-small zero j u h = omega arith
 nested-small (suc n) j u h =
     omega (arith, nested-small n (suc j) u h, div-le-self (2 ^ 32) (2 * j + 1), mul-le-mul-right (nested n (suc j) u) h, mul-assoc 9 u (nested n (suc j) u))
 
--- so the partial sum of t up to 1 / 3 is 3 / 8 at most
-pub series-small : (t : ℕ) → 3 * t ≤ 2 ^ 32 → 8 * series t ≤ 3 * 2 ^ 32
-unfolding series
-series-small t h =
-    let s = nested terms 0 (t * t / 2 ^ 32) in
-    omega (arith, nested-small terms 0 (t * t / 2 ^ 32) (squared-small t h), mul-le-mul-right s h, mul-assoc 3 t s)
-
 -- ---- the brackets of a fraction
 
 -- 1 / (2 j + 1) + f / e (1 / (2 j + 3) + f / e (..)), n terms
@@ -106,3 +99,10 @@ near-series t a d p small near =
     let square : Near 4 u (over (a * a) (d * d)) = near-product 4 4 4 t t a a d d (omega arith) near near in
     near-same 9 (t * s / 2 ^ 32) (a * x .top) (d * x .bottom) (y .top) (y .bottom) (mul-pos p (brackets-bottom terms 0 (a * a) (d * d) (mul-pos p p))) (sum-brackets a d)
     (near-product 4 8 9 t s a (x .top) d (x .bottom) (omega (arith, nested-small terms 0 u little)) near (near-brackets terms 0 u (a * a) (d * d) little square))
+
+-- and the partial sum of t up to 1 / 3 is 3 / 8 at most
+pub series-small : (t : ℕ) → 3 * t ≤ 2 ^ 32 → 8 * series t ≤ 3 * 2 ^ 32
+unfolding series
+series-small t h =
+    let s = nested terms 0 (t * t / 2 ^ 32) in
+    omega (arith, nested-small terms 0 (t * t / 2 ^ 32) (squared-small t h), mul-le-mul-right s h, mul-assoc 3 t s)

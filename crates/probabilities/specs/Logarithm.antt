@@ -3,7 +3,7 @@
 --
 -- With a / b = 2 ^ k * r, r from 1 to below 2, and t = (r - 1) / (r + 1), which is from 0 to below 1 / 3,
 --     ln (a / b) = k * ln 2 + 2 * (t + t ^ 3 / 3 + t ^ 5 / 5 + ..).
--- The terms from the 11th on sum to less than 1.02 * 10 ^ -11, twice taken, which is 0.044 of 2 ^ -32; `ln2` is less than 2.4 * 10 ^ -20 from ln 2.
+-- The terms from the 11th on sum to less than 1.02 * 10 ^ -11, twice taken, which is 0.044 of 2 ^ -32; `ln2` is less than 1.2 * 10 ^ -20 from ln 2.
 use Prim.Native.Nat.{ℕ, zero, suc, _+_, _-_, _*_, _/_, _^_}
 use lib.Ieee.{size}
 use Rattle.probabilities.specs.Fractions.{Fraction, over, plus, times}
