@@ -1,7 +1,7 @@
 -- The prior of a probability in whole numbers of 2 ^ -32: what is worked out, and what is cut off where. This is the number that `prior_of` gives.
 -- Whatever is cut off makes the prior's size less, never more. Definitions only. Assumes nothing.
 use Prim.Native.Nat.{ℕ, zero, suc, _+_, _-_, _*_, _/_, _^_, min}
-use mathlib.Core.Bool.{cond}
+use mathlib.Core.Bool.{false, cond}
 use lib.Dec.{eqb, ltb}
 use lib.IntN.{ℤ, pos, negℤ}
 use lib.Ieee.{Float, fin, binary64, size, div, ofInt}
