@@ -63,6 +63,7 @@ module _ (checks mechanisms edges numbers : ℕ) (given : ℕ → Answer) (bytes
     pub bytes-many : bytes ≡ checks * mechanisms
     pub numbers-many : numbers ≡ mechanisms
     pub fits : fit ≡ true
+    pub given-none : firstOf mechanisms given ≡ Done
 
   -- and that they do
   pub dense-told : denseFault checks mechanisms edges numbers given bytes fit ≡ Done → DenseTold
@@ -78,6 +79,7 @@ module _ (checks mechanisms edges numbers : ℕ) (given : ℕ → Answer) (bytes
         bytes-many = eqb-true _ _ (l .0);
         numbers-many = eqb-true _ _ (l .1);
         fits = unless-done _ ModelListLength (d .0);
+        given-none = d .1;
       }
 
 -- the two ways out of `build_dense`

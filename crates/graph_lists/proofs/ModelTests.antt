@@ -7,7 +7,7 @@ use Prim.Native.Nat.{ℕ, zero, suc, _+_, _-_, _<_, _≤_}
 use native.Mathlib.Numerals.{add-one}
 use native.Mathlib.Omega.{arith}
 use lib.Dec.{eqb}
-use lib.Ieee.{Float, nan, fin, le, neg}
+use lib.Ieee.{Float, fin, le, neg}
 use lib.IntN.{pos}
 use lib.ListN.{length, getD, take, drop}
 use lib.Seq.{getD-take, length-take-le, take-suc}
@@ -19,7 +19,7 @@ use Rattle.refusals.proofs.Tests.{or-done, unless-done, first-all, first-none, 
 use Rattle.refusals.specs.Tests.{isDone, unless, orElse, firstOf}
 use Rattle.refusals.specs.declared.Answer.{Answer}
 use Rattle.refusals.specs.declared.Answer.the-variants.{Done, Refused}
-use Rattle.refusals.specs.declared.Refusal.the-variants.{BadPrior, DetectorOutOfRange, DetectorRepeated}
+use Rattle.refusals.specs.declared.Refusal.the-variants.{DetectorOutOfRange, DetectorRepeated}
 use Rattle.graph_lists.specs.Lists.{has}
 use Rattle.graph_lists.specs.Model.{rising, offsetsGood, priorGood, detectorFault, mechanismFault, mechanismTest}
 use Rattle.graph_lists.specs.Sound.{Offsets, RisesTo}
@@ -105,6 +105,12 @@ module _ (checks mechanisms : ℕ) (given : ℕ → Answer) (off dets : List ℕ
         keys = record { small = λ j l. at-told _ j (row-is mechanisms (length dets) off o j l) .0 };
         distinct = record { apart = λ r i j k a b e. at-told r j (record { below = k; from = omega arith; to = e }) .1 i a b };
       }
+
+-- nor is the number of any mechanism refused
+pub given-told : (checks mechanisms : ℕ) (given : ℕ → Answer) (off dets : List ℕ) → firstOf mechanisms (mechanismFault checks given off dets) ≡ Done → firstOf mechanisms given ≡ Done
+unfolding mechanismFault mechanismTest
+given-told checks mechanisms given off dets h =
+    first-none given mechanisms (λ m l. or-done _ _ (first-all (mechanismFault checks given off dets) mechanisms h m l) .0)
 
 -- ---- single tests, as the code has them
 

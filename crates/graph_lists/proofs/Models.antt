@@ -9,7 +9,7 @@ use lib.Ieee.{Float, nan}
 use lib.ListN.{length, getD}
 use borrow.Author.Tests.{eq-eqb, le-leb}
 use Rattle.numbers.specs.Loops.{row}
-use Rattle.refusals.proofs.Tests.{or-done, unless-done, first-all, first-none}
+use Rattle.refusals.proofs.Tests.{unless-done, first-all, first-none}
 use Rattle.refusals.specs.Tests.{unless, orElse, firstOf}
 use Rattle.refusals.specs.declared.Answer.the-variants.{Done}
 use Rattle.refusals.specs.declared.Refusal.the-variants.{BadPrior}
@@ -56,13 +56,6 @@ good-none mechanisms priors p = first-none (priorFault priors) mechanisms (λ m 
 pub none-good : (mechanisms : ℕ) (priors : List Float) → length priors ≡ mechanisms → firstOf mechanisms (priorFault priors) ≡ Done → GoodPriors mechanisms priors
 unfolding priorFault
 none-good mechanisms priors l h = record { many = l; good = λ m k. unless-done _ (BadPrior m) (first-all (priorFault priors) mechanisms h m k) }
-
--- so are those of a model that passes 4, 5 and 6
-pub mechanisms-good : (checks mechanisms : ℕ) (priors : List Float) (off dets : List ℕ) → length priors ≡ mechanisms → firstOf mechanisms (mechanismFault checks (priorFault priors) off dets) ≡ Done
-    → GoodPriors mechanisms priors
-unfolding mechanismFault mechanismTest priorFault
-mechanisms-good checks mechanisms priors off dets l h =
-    record { many = l; good = λ m k. unless-done _ (BadPrior m) (or-done _ _ (first-all (mechanismFault checks (priorFault priors) off dets) mechanisms h m k) .0) }
 
 -- the incidences that a graph's variable lists tell are the graph's own
 back : (checks mechanisms : ℕ) (inc : ℕ → ℕ → Bool) (c m : ℕ) → c < checks → m < mechanisms

@@ -16,7 +16,7 @@ use Rattle.graph_lists.specs.Graph.{Graph, graphOf, among}
 use Rattle.graph_lists.specs.Model.{graphFits, offsetsGood, priorFault, mechanismFault, buildOutcome, built, buildSparse, countsGood, edgesGood, sizesGood, sparseFits, sparseFault}
 use Rattle.graph_lists.specs.Sound.{Long}
 use Rattle.graph_lists.specs.Steps.{Valid}
-use Rattle.graph_lists.proofs.ModelTests.{offsets-told, valid-told}
+use Rattle.graph_lists.proofs.ModelTests.{offsets-told, valid-told, given-told}
 
 -- what sizes are that pass 1
 pub record Few (checks mechanisms edges : ℕ) : Type 0 where
@@ -74,6 +74,7 @@ module _ (checks mechanisms edges numbers : ℕ) (given : ℕ → Answer) (off d
     pub few : Few checks mechanisms edges
     pub lengths : Lengths
     pub valid : Valid checks mechanisms off dets
+    pub given-none : firstOf mechanisms given ≡ Done
 
   -- and that they do
   pub sparse-told : sparseFault checks mechanisms edges numbers given off dets fit ≡ Done → Told
@@ -88,6 +89,7 @@ module _ (checks mechanisms edges numbers : ℕ) (given : ℕ → Answer) (off d
         few = few-told _ _ _ (s .0) (s .1);
         lengths = l;
         valid = valid-told checks mechanisms given off dets (offsets-told mechanisms (length dets) off (l .off-many) (unless-done _ BadDetectorOffsets (c .0))) (c .1);
+        given-none = given-told checks mechanisms given off dets (c .1);
       }
 
 -- the five lengths, where they fit

@@ -1,6 +1,4 @@
 -- `graph_tests::given_fault` meets its contract. Each arm is the definition's at the kind that is given. Assumes nothing.
-use mathlib.Core.Path.{_∙_}
-use native.Mathlib.Omega.{arith}
 use borrow.Author.Needs.{needs}
 use Rattle.probabilities.specs.Calls.{probabilityFault}
 use Rattle.graph_lists.specs.Model.{priorFault}

@@ -1,10 +1,8 @@
 -- `graph_tests::mechanism_fault` meets its contract. The number's answer before the detectors'. Assumes nothing.
 use mathlib.Core.Path.{_≡_}
-use lib.ListN.{length}
 use borrow.Author.Needs.{needs}
-use Rattle.refusals.specs.Tests.{firstOf, orElse}
-use Rattle.graph_lists.specs.Model.{detectorFault, mechanismTest}
-use Rattle.graph_tests.specs.Numbers.{givenFault}
+use Rattle.refusals.specs.Tests.{orElse}
+use Rattle.graph_lists.specs.Model.{mechanismTest}
 use Rattle.graph_tests.proofs.mechanism_fault.Statement.{statement}
 use Rattle.graph_tests.proofs.mechanism_fault.Tie as tie
 
