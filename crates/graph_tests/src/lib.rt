@@ -284,7 +284,14 @@ pub fn numbers_fault(given: Given, numbers: &[f64]) -> Answer
 // ---- the tests of a sparse model
 
 // 1 to 6, with 8 for 4 where probabilities are given. `fit`: the lists to be written have their lengths.
-pub fn sparse_fault(s: Size, given: Given, numbers: &[f64], off: &[u32], dets: &[u32], fit: bool) -> Answer
+pub fn sparse_fault(
+    s: Size,
+    given: Given,
+    numbers: &[f64],
+    off: &[u32],
+    dets: &[u32],
+    fit: bool,
+) -> Answer
     ensures { λ r.
         let xs = now (numbers .entry) in
         ⌜ r
@@ -293,10 +300,7 @@ pub fn sparse_fault(s: Size, given: Given, numbers: &[f64], off: &[u32], dets: &
     if !sizes_good(s) {
         return Answer::Refused(Refusal::SizeAboveLimit);
     }
-    if !both(
-        model_fits(s, numbers.len(), off.len(), dets.len()),
-        fit,
-    ) {
+    if !both(model_fits(s, numbers.len(), off.len(), dets.len()), fit) {
         return Answer::Refused(Refusal::ModelListLength);
     }
     if !offsets_good(s.mechanisms, dets.len(), off) {

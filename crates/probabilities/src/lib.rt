@@ -2,17 +2,14 @@
 // call takes every input; a refusal writes nothing.
 ghost use mathlib.Core.Path.{_≡_};
 ghost use mathlib.Core.Bool.{true};
-ghost use mathlib.Core.List.{map};
 ghost use lib.Dec.{T};
 ghost use lib.IntN.{natAbs};
-ghost use lib.ListN.{length};
 ghost use lib.Ieee.Positive.{num, den, positive};
 ghost use Prim.Native.Nat.{ℕ, _+_, _-_, _*_, _^_, _≤_, _<_};
-ghost use Rattle.refusals.specs.Tests.{firstOf};
 ghost use Rattle.probabilities.specs.Logarithm.{terms};
-ghost use Rattle.probabilities.specs.Scaled.{slope, nested as nestedOf, series as seriesOf, ln2Cut, most, floatOf, scaledOf};
+ghost use Rattle.probabilities.specs.Scaled.{slope, nested as nestedOf, series as seriesOf, most, floatOf, scaledOf};
 ghost use Rattle.probabilities.specs.Ratios.{Split, cutSum, sizeOf};
-ghost use Rattle.probabilities.specs.Calls.{isProbability, probabilityFault, priorAnswer, priorsOutcome, priorsOf};
+ghost use Rattle.probabilities.specs.Calls.{isProbability, priorAnswer};
 use refusals::Answer;
 use refusals::Refusal;
 use refusals_tests::both;

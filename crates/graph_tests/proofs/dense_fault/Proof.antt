@@ -29,8 +29,11 @@ returns : tie.Need-returns
 returns c = dense-1 _ _ _ _ _ _ _ (was-false _ _ (c .before .counts-good .ensures) (c .if1 .taken))
 
 mul-same-number : tie.Need-mul-same-number
-mul-same-number c = omega (arith, product-small (c .before .before .before .before .args .s .checks) (c .before .before .before
-    .before .args .s .mechanisms) (counts (c .before)))
+mul-same-number c = omega (
+  arith,
+  product-small (c .before .before .before .before .args .s .checks) (c .before .before .before
+      .before .args .s .mechanisms) (counts (c .before)),
+)
 
 same-number-requires : tie.Need-same-number-requires
 same-number-requires c κs = search needs

@@ -46,8 +46,11 @@ returns-3 c = sparse-3 _ _ _ _ _ _ _ _ (was-true _ _ (c .before .before .before 
     (fit (c .before .before .before)) (c .before .before .if2 .left)) (was-false _ _ (c .before .offsets-good .ensures) (c .if3 .taken))
 
 mechanisms-fault-requires : tie.Need-mechanisms-fault-requires
-mechanisms-fault-requires c κs = (offsets-told _ _ _ (lengths (c .before .before) .off-many) (was-true _ _ (c
-    .before .offsets-good .ensures) (c .if3 .left)), lengths (c .before .before) .numbers-many)
+mechanisms-fault-requires c κs = (
+  offsets-told _ _ _ (lengths (c .before .before) .off-many) (was-true _ _ (c
+      .before .offsets-good .ensures) (c .if3 .left)),
+  lengths (c .before .before) .numbers-many,
+)
 
 returns-4 : tie.Need-returns-4
 returns-4 c =
