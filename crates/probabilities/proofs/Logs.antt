@@ -2,8 +2,8 @@
 use mathlib.Core.Path.{_≡_, sym, ap, _∙_, subst}
 use mathlib.Core.Logic.{⊎-elim}
 use mathlib.Core.Bool.{Bool, cond}
-use Prim.Native.Nat.{ℕ, _+_, _-_, _*_, _^_, _≤_, _<_}
-use native.Mathlib.Nat.{add-mul, mul-add, mul-assoc, mul-comm, mul-right-comm, mul-le-mul-right, mul-pos}
+use Prim.Native.Nat.{ℕ, _+_, _-_, _*_, _^_, _≤_, _<_, min}
+use native.Mathlib.Nat.{add-mul, mul-add, mul-assoc, mul-comm, mul-right-comm, mul-le-mul-right, mul-lt-mul-of-pos-right, mul-pos}
 use native.Mathlib.Omega.{arith}
 use lib.Pow.{pow-pos}
 use lib.Ieee.{size}
@@ -16,7 +16,7 @@ use Rattle.probabilities.specs.Ratios.{Split}
 use Rattle.probabilities.proofs.Nears.{near-plus, near-more, near-twice, near-same, near-cut}
 use Rattle.probabilities.proofs.Sums.{near-series, sum-bottom}
 use Rattle.probabilities.proofs.Slopes.{slope-small, near-slope}
-use Rattle.probabilities.proofs.Scales.{twos-under, twos-double, leading-low, leading-high, leading-bits, leading-fits}
+use Rattle.probabilities.proofs.Scales.{twos-least, twos-under, twos-double, leading-low, leading-high, leading-bits, leading-fits}
 
 -- ---- two ratios that are equal
 

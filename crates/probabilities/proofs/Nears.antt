@@ -2,8 +2,8 @@
 use mathlib.Core.Path.{_≡_, refl, ap}
 use mathlib.Core.Logic.{⊎-elim}
 use mathlib.Core.Bool.{Bool, true, false, cond}
-use Prim.Native.Nat.{ℕ, _+_, _*_, _/_, _^_, _≤_, _<_, min}
-use native.Mathlib.Nat.{add-mul, mul-assoc, mul-comm, mul-right-comm, mul-mul-mul-comm, mul-le-mul-right, mul-le-mul, div-add-mod', mod-lt, le-trans, le-of-mul-le-mul-right}
+use Prim.Native.Nat.{ℕ, zero, suc, _+_, _*_, _/_, _^_, _≤_, _<_, min}
+use native.Mathlib.Nat.{add-mul, mul-add, mul-assoc, mul-comm, mul-right-comm, mul-mul-mul-comm, mul-le-mul-right, mul-le-mul, div-add-mod', mod-lt, le-trans, le-of-mul-le-mul-right, suc-mul, mul-suc}
 use native.Mathlib.Omega.{arith}
 use lib.Dec.{leb}
 use borrow.Author.Tests.{leb-true, leb-false}

@@ -3,10 +3,11 @@ use mathlib.Core.Path.{_≡_, refl, sym, ap, _∙_}
 use mathlib.Core.Logic.{_⊎_, inl, inr, ⊎-elim}
 use mathlib.Core.Bool.{Bool, true, false, cond, _||_, true≢false, false≢true}
 use Prim.Native.Nat.{ℕ, zero, suc, _+_, _-_, _*_, _^_, _≤_, _<_}
-use native.Mathlib.Nat.{mul-comm, mul-one, one-mul, zero-mul, mul-pos, add-mul}
+use native.Mathlib.Nat.{mul-comm, mul-one, one-mul, zero-mul, mul-pos, mul-le-mul-right, add-mul, le-of-mul-le-mul-right}
 use native.Mathlib.Omega.{arith}
 use lib.Dec.{T, eqb, ltb, lt→ltb, ltb→lt}
 use lib.IntN.{ℤ, pos, negsuc, negℤ, natAbs}
+use lib.Pow.{pow-pos}
 use lib.Signed.{mag}
 use lib.Ieee.{Float, nan, inf, fin, up, down, level, lt, eq, le}
 use lib.Ieee.Fits.{up-pos}
@@ -17,7 +18,7 @@ use mir.ValLaws.{toZ-ofZ}
 use borrow.Author.Tests.{ltb-true, eqb-true, lt-ltb, le-ltb, eq-eqb, ne-eqb}
 use Rattle.numbers.specs.Floats.{zero⁺, one⁺}
 use Rattle.numbers.proofs.Cases.{and-both, less-or-not}
-use Rattle.probabilities.specs.Scaled.{most, scaledSize, scaledAt}
+use Rattle.probabilities.specs.Scaled.{most, scaledSize, scaledAt, scaledOf}
 use Rattle.probabilities.specs.Ratios.{sizeOf}
 use Rattle.probabilities.specs.Calls.{isProbability}
 use Rattle.probabilities.proofs.Scales.{scaled-same}
@@ -38,7 +39,7 @@ held : (z : ℤ) → natAbs z ≤ most * 2 ^ 32 → SFits w64 z
 held (pos n) h = record { sfits = omega arith }
 held (negsuc n) h = record { sfits = omega arith }
 
-pub read-back : (z : ℤ) → natAbs z ≤ most * 2 ^ 32 → toZ w64 (ofZ w64 z) ≡ z
+read-back : (z : ℤ) → natAbs z ≤ most * 2 ^ 32 → toZ w64 (ofZ w64 z) ≡ z
 read-back z h = toZ-ofZ w64 z (held z h)
 
 -- ---- the definition by cases
@@ -69,7 +70,7 @@ unfolding sizeOf
 size-from p h = rw (le-ltb (2 * num p) (den p) h)
 
 -- no prior is beyond the cut
-pub scaled-most : (a b : ℕ) → natAbs (scaledAt a b) ≤ most * 2 ^ 32
+scaled-most : (a b : ℕ) → natAbs (scaledAt a b) ≤ most * 2 ^ 32
 unfolding scaledAt
 scaled-most a b = go (eqb a 0) (eqb a b) (ltb (2 * a) b)
   where
@@ -79,7 +80,15 @@ scaled-most a b = go (eqb a 0) (eqb a b) (ltb (2 * a) b)
     go false false true = size-most (b - a) a
     go false false false = omega (arith, abs-minus (scaledSize a (b - a)), size-most a (b - a))
 
--- and no size
+pub scaled-held : (p : Float) (z : ℤ) → z ≡ scaledOf p → natAbs z ≤ most * 2 ^ 32
+unfolding scaledOf
+scaled-held p z e = rw e (scaled-most (num p) (den p))
+
+-- so each is read back from its bits
+pub scaled-back : (p : Float) (z : ℤ) → z ≡ scaledOf p → toZ w64 (ofZ w64 z) ≡ scaledOf p
+scaled-back p z e = read-back z (scaled-held p z e) ∙ e
+
+-- and no size is
 pub size-of-most : (p : Float) → sizeOf p ≤ most * 2 ^ 32
 unfolding sizeOf
 size-of-most p = go (ltb (2 * num p) (den p))

@@ -1,7 +1,7 @@
 -- What `leading` and `twos` make of a ratio, and that a power of two in both its numbers changes nothing. Assumes nothing.
-use mathlib.Core.Path.{_≡_, sym, ap, _∙_, subst}
+use mathlib.Core.Path.{_≡_, refl, sym, ap, _∙_, subst}
 use mathlib.Core.Logic.{⊎-elim}
-use Prim.Native.Nat.{ℕ, zero, suc, _+_, _-_, _*_, _/_, _^_, _≤_, _<_}
+use Prim.Native.Nat.{ℕ, zero, suc, _+_, _-_, _*_, _/_, _^_, _≤_, _<_, min}
 use native.Mathlib.Nat.{mul-assoc, mul-comm, mul-right-comm, mul-le-mul-right, mul-lt-mul-of-pos-right, eq-of-mul-eq-mul-right, le-div-iff-mul-le, div-lt-iff-lt-mul, div-add-mod', mod-lt, mul-pos, pow-suc, le-trans, lt-of-lt-of-le}
 use native.Mathlib.Omega.{arith}
 use lib.Pow.{pow-pos, pow-mono, pow-add}
@@ -9,7 +9,7 @@ use lib.Ieee.{size}
 use lib.Ieee.Digits.{size-lt, size-le, size-reaches}
 use Rattle.numbers.proofs.Cases.{less-or-not}
 use Rattle.probabilities.specs.Logarithm.{twos}
-use Rattle.probabilities.specs.Scaled.{leading, scaledAfter, scaledSize}
+use Rattle.probabilities.specs.Scaled.{leading, slope, series, scaledAfter, scaledSize}
 use Rattle.probabilities.specs.Ratios.{Split, cutSum}
 
 -- ---- the powers of two

@@ -1,7 +1,7 @@
 -- How a ratio is taken apart: the two halves of `split`, the 53 bits of 1 - p below a half, and the shift of 1 - p from a half on. Assumes nothing.
 use mathlib.Core.Path.{_≡_, sym, ap, subst}
 use Prim.Native.Nat.{ℕ, suc, _+_, _-_, _*_, _/_, _^_, _≤_, _<_}
-use native.Mathlib.Nat.{add-mul, mul-comm, mul-le-mul-right, mul-le-mul-left, div-add-mod', mod-lt, pow-suc}
+use native.Mathlib.Nat.{add-mul, mul-assoc, mul-comm, mul-le-mul-right, mul-le-mul-left, div-add-mod', mod-lt, pow-suc}
 use native.Mathlib.Omega.{arith}
 use lib.Pow.{pow-pos, pow-mono, pow-add, pow-lt, shl-lt}
 use lib.Count.{leadingZeros, leading-top}

@@ -1,5 +1,5 @@
 -- The sum that is worked out from the inside out stays near the partial sum: within the brackets by 8, the whole by 9. Assumes nothing.
-use mathlib.Core.Path.{_≡_, sym, ap, _∙_}
+use mathlib.Core.Path.{_≡_, refl, sym, ap, _∙_, subst}
 use Prim.Native.Nat.{ℕ, zero, suc, _+_, _*_, _/_, _^_, _≤_, _<_}
 use native.Mathlib.Nat.{div-le-self, pow-suc, pow-zero, mul-assoc, mul-le-mul-left, mul-le-mul-right, mul-le-mul, mul-pos, one-mul, one-le-pow}
 use native.Mathlib.Omega.{arith}

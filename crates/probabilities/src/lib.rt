@@ -2,14 +2,18 @@
 // call takes every input; a refusal writes nothing.
 ghost use mathlib.Core.Path.{_≡_};
 ghost use mathlib.Core.Bool.{true};
+ghost use mathlib.Core.List.{map};
 ghost use lib.Dec.{T};
 ghost use lib.IntN.{natAbs};
+ghost use lib.ListN.{length};
 ghost use lib.Ieee.Positive.{num, den, positive};
 ghost use Prim.Native.Nat.{ℕ, _+_, _-_, _*_, _^_, _≤_, _<_};
+ghost use Rattle.refusals.specs.declared.Answer.the-variants.{Done};
+ghost use Rattle.refusals.specs.Tests.{firstOf};
 ghost use Rattle.probabilities.specs.Logarithm.{terms};
-ghost use Rattle.probabilities.specs.Scaled.{slope, nested as nestedOf, series as seriesOf, most, floatOf, scaledOf};
+ghost use Rattle.probabilities.specs.Scaled.{slope, nested as nestedOf, series as seriesOf, ln2Cut, most, floatOf, scaledOf, priorOf};
 ghost use Rattle.probabilities.specs.Ratios.{Split, cutSum, sizeOf};
-ghost use Rattle.probabilities.specs.Calls.{isProbability, priorAnswer};
+ghost use Rattle.probabilities.specs.Calls.{isProbability, probabilityFault, priorAnswer, priorsOutcome, priorsOf};
 use refusals::Answer;
 use refusals::Refusal;
 use refusals_tests::both;
@@ -184,4 +188,56 @@ pub fn prior_of(p: f64, mechanism: usize) -> PriorAnswer
         return PriorAnswer::Prior(scaled, value);
     }
     PriorAnswer::Refused(Refusal::BadProbability(mechanism))
+}
+
+// ---- lists of them
+
+// 8: the first that is no probability.
+pub fn probabilities_fault(probabilities: &[f64]) -> Answer
+    ensures { λ r. ⌜ r ≡ firstOf (length (now (probabilities .entry))) (probabilityFault (now (probabilities .entry))) ⌝ }
+{
+    let mut m = 0;
+    while m < probabilities.len() {
+        if !is_probability(probabilities[m]) {
+            return Answer::Refused(Refusal::BadProbability(m));
+        }
+        m += 1;
+    }
+    Answer::Done
+}
+
+// The priors of probabilities, as whole numbers and as floats.
+fn write_priors(probabilities: &[f64], priors: &mut [f64], scaled: &mut [i64])
+    requires { ⌜ firstOf (length (now probabilities)) (probabilityFault (now probabilities)) ≡ Done ⌝ }
+    requires { ⌜ length (now priors) ≡ length (now probabilities) ⌝ }
+    requires { ⌜ length (now scaled) ≡ length (now probabilities) ⌝ }
+    ensures { λ _. ⌜
+        (now (priors .exit) ≡ map priorOf (now (probabilities .entry)))
+        × (now (scaled .exit) ≡ map scaledOf (now (probabilities .entry))) ⌝ }
+{
+    let mut m = 0;
+    while m < probabilities.len() {
+        let s = scaled_of(probabilities[m]);
+        priors[m] = float_of(s);
+        scaled[m] = s;
+        m += 1;
+    }
+}
+
+// The priors of a list of probabilities, into lists of the same length: as floats, and times 2^32 as whole numbers.
+pub fn priors_of(probabilities: &[f64], priors: &mut [f64], scaled: &mut [i64]) -> Answer
+    ensures { λ r. ⌜
+        priorsOutcome r (now (priors .exit)) (now (scaled .exit))
+        ≡ priorsOf (now (probabilities .entry)) (now (priors .entry)) (now (scaled .entry)) ⌝ }
+{
+    let n = probabilities.len();
+    if !both(same_number(priors.len(), n), same_number(scaled.len(), n)) {
+        return Answer::Refused(Refusal::ModelListLength);
+    }
+    let a = probabilities_fault(probabilities);
+    if !is_done(a) {
+        return a;
+    }
+    write_priors(probabilities, priors, scaled);
+    a
 }

@@ -1,28 +1,19 @@
 -- `probabilities::prior_of` meets its contract. What the test, the whole number and the float ensure is the definition. Assumes nothing.
 use mathlib.Core.Path.{_≡_, sym, _∙_}
 use mathlib.Core.Bool.{true, false}
-use Prim.Native.Nat.{ℕ, _*_, _^_, _≤_}
-use lib.IntN.{ℤ, natAbs}
+use Prim.Native.Nat.{ℕ}
+use lib.IntN.{ℤ}
 use lib.Ieee.{Float}
-use lib.Ieee.Positive.{num, den}
 use mir.Syntax.{w64}
 use mir.Val.{toZ, ofZ}
 use borrow.Author.Needs.{needs}
 use Rattle.refusals.specs.declared.Refusal.the-variants.{BadProbability}
 use Rattle.probabilities.specs.declared.PriorAnswer.the-variants.{Prior, Refused}
-use Rattle.probabilities.specs.Scaled.{most, scaledOf, floatOf, priorOf}
+use Rattle.probabilities.specs.Scaled.{scaledOf, floatOf, priorOf}
 use Rattle.probabilities.specs.Calls.{isProbability, priorAnswer}
-use Rattle.probabilities.proofs.Priors.{scaled-most, read-back}
+use Rattle.probabilities.proofs.Priors.{scaled-held, scaled-back}
 use Rattle.probabilities.proofs.prior_of.Statement.{statement}
 use Rattle.probabilities.proofs.prior_of.Tie as tie
-
--- a scaled prior is no further from 0 than 30, and so is read back from its bits
-held : (p : Float) (z : ℤ) → z ≡ scaledOf p → natAbs z ≤ most * 2 ^ 32
-unfolding scaledOf
-held p z e = rw e (scaled-most (num p) (den p))
-
-same : (p : Float) (z : ℤ) → z ≡ scaledOf p → toZ w64 (ofZ w64 z) ≡ scaledOf p
-same p z e = read-back z (held p z e) ∙ e
 
 -- the answer for a probability
 given : (p : Float) (m : ℕ) (z : ℤ) (v : Float) → isProbability p ≡ true → z ≡ scaledOf p → v ≡ floatOf z → Prior z v ≡ priorAnswer p m
@@ -42,14 +33,14 @@ scaled-of-requires c κs = sym (c .before .is-probability .ensures) ∙ c .if1 .
 
 float-of-requires : tie.Need-float-of-requires
 float-of-requires c κs =
-    held (c .before .before .before .args .p) (toZ w64 (ofZ w64 (c .scaled-of .result))) (same (c .before .before .before .args .p) (c .scaled-of .result) (c .scaled-of .ensures))
+    scaled-held (c .before .before .before .args .p) (toZ w64 (ofZ w64 (c .scaled-of .result))) (scaled-back (c .before .before .before .args .p) (c .scaled-of .result) (c .scaled-of .ensures))
 
 returns : tie.Need-returns
 returns c =
     let a = c .before .before .before in
     let r = c .before .scaled-of in
     let p = a .before .args .p in
-    given p (a .before .args .mechanism) (toZ w64 (ofZ w64 (r .result))) (c .float-of .result) (sym (a .is-probability .ensures) ∙ c .before .before .if1 .taken) (same p (r .result) (r .ensures)) (c .float-of .ensures)
+    given p (a .before .args .mechanism) (toZ w64 (ofZ w64 (r .result))) (c .float-of .result) (sym (a .is-probability .ensures) ∙ c .before .before .if1 .taken) (scaled-back p (r .result) (r .ensures)) (c .float-of .ensures)
 
 returns-2 : tie.Need-returns-2
 returns-2 c = refused (c .before .before .args .p) (c .before .before .args .mechanism) (sym (c .before .is-probability .ensures) ∙ c .if1 .left)

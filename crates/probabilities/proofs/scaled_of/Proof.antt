@@ -11,6 +11,7 @@ use mir.Syntax.{w64}
 use mir.Val.{toZ, ofZ, SFits}
 use mir.ValLaws.{toZ-ofZ}
 use mir.Facts.{toZ-pos}
+use borrow.Author.Needs.{needs}
 use borrow.Author.Tests.{ltb-true, ltb-false}
 use Rattle.numbers.specs.Floats.{zero⁺, one⁺}
 use Rattle.probabilities.specs.Scaled.{most, scaledOf}

@@ -2,6 +2,7 @@
 -- Assumes nothing.
 use mathlib.Core.Path.{_≡_, refl, sym, _∙_}
 use Prim.Native.Nat.{ℕ, _+_, _-_, _*_, _/_, _%_, _^_, _≤_, _<_}
+use native.Mathlib.Nat.{mul-le-mul-left}
 use native.Mathlib.Omega.{arith}
 use mathlib.Core.Bool.{true}
 use lib.Dec.{T}
@@ -9,7 +10,7 @@ use lib.Pow.{pow-mono}
 use lib.Ieee.{Float, binary64, fits, toBits}
 use lib.Ieee.Positive.{num, den, den-pos, positive}
 use borrow.Author.Needs.{needs}
-use Rattle.probabilities.specs.Scaled.{most}
+use Rattle.probabilities.specs.Scaled.{most, scaledSize}
 use Rattle.probabilities.specs.Ratios.{Split, cutSum, sizeOf}
 use Rattle.probabilities.proofs.Slopes.{split-order, split-double}
 use Rattle.probabilities.proofs.Scales.{twos-least, split-size-of}
