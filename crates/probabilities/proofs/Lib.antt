@@ -7,3 +7,5 @@ pub mod Splits
 pub mod Scales
 pub mod Logs
 pub mod Priors
+pub mod Exactness
+pub mod Theorems
