@@ -1,5 +1,5 @@
 -- Tests that answer the same answer the same together: probabilities that pass 8 as their priors, which pass 4. Assumes nothing.
-use mathlib.Core.Bool.{Bool, true, false, _&&_}
+use mathlib.Core.Bool.{Bool, true, false}
 use mathlib.Core.List.{List, [], _∷_, map}
 use mathlib.Core.Logic.{⊎-elim}
 use mathlib.Core.Path.{_≡_, refl, sym, ap, _∙_}
@@ -8,17 +8,17 @@ use native.Mathlib.Omega.{arith}
 use lib.Dec.{eqb}
 use lib.Ieee.{Float, nan}
 use lib.ListN.{length, getD}
-use borrow.Author.Tests.{eq-eqb, eqb-true}
+use borrow.Author.Tests.{eqb-true}
 use Rattle.numbers.proofs.Cases.{either}
 use Rattle.numbers.specs.Loops.{row}
-use Rattle.refusals.proofs.Tests.{unless-done, first-all}
+use Rattle.refusals.proofs.Tests.{first-all}
 use Rattle.refusals.specs.Tests.{unless, orElse, firstOf}
 use Rattle.refusals.specs.declared.Answer.{Answer}
 use Rattle.refusals.specs.declared.Answer.the-variants.{Done}
-use Rattle.refusals.specs.declared.Refusal.the-variants.{SizeAboveLimit, ModelListLength, BadDetectorOffsets, BadProbability}
-use Rattle.probabilities.specs.Calls.{isProbability, probabilityFault}
+use Rattle.probabilities.specs.Calls.{probabilityFault}
 use Rattle.probabilities.specs.Scaled.{priorOf}
-use Rattle.graph_lists.specs.Model.{offsetsGood, priorGood, priorFault, mechanismTest, mechanismFault, sparseFits, sparseFault, denseFits, denseFault, sizesGood, countsGood, edgesGood}
+use Rattle.probabilities.proofs.Theorems.{prior-range}
+use Rattle.graph_lists.specs.Model.{priorGood, priorFault, mechanismTest, mechanismFault, sparseFault, denseFault}
 
 -- two loops of tests that answer the same one by one
 first-same : (f h : ℕ → Answer) (n : ℕ) → ((i : ℕ) → i < n → f i ≡ h i) → firstOf n f ≡ firstOf n h
@@ -71,14 +71,12 @@ getD-made f [] i l = absurd (omega arith)
 getD-made f (x ∷ xs) zero l = refl
 getD-made f (x ∷ xs) (suc i) l = getD-made f xs i (omega arith)
 
--- a probability that passes 8 is one
-passes-eight : (ps : List Float) → firstOf (length ps) (probabilityFault ps) ≡ Done → (m : ℕ) → m < length ps → isProbability (getD ps m nan) ≡ true
-unfolding probabilityFault
-passes-eight ps h m l = unless-done _ (BadProbability m) (first-all (probabilityFault ps) (length ps) h m l)
+-- the prior of whatever passes 4
+prior-good : (p : Float) → priorGood (priorOf p) ≡ true
+unfolding priorGood
+prior-good p = prior-range p
 
--- of probabilities that pass 8 each prior passes 4, if those of probabilities are good
-pub made-passes : ((p : Float) → isProbability p ≡ true → priorGood (priorOf p) ≡ true) → (ps : List Float) → firstOf (length ps) (probabilityFault ps) ≡ Done
-    → (m : ℕ) → m < length ps → probabilityFault ps m ≡ priorFault (map priorOf ps) m
+-- of probabilities that pass 8 each prior passes 4
+pub made-passes : (ps : List Float) → firstOf (length ps) (probabilityFault ps) ≡ Done → (m : ℕ) → m < length ps → probabilityFault ps m ≡ priorFault (map priorOf ps) m
 unfolding priorFault unless
-made-passes range ps h m l =
-    first-all (probabilityFault ps) (length ps) h m l ∙ sym (rw (getD-made priorOf ps m l, range (getD ps m nan) (passes-eight ps h m l)))
+made-passes ps h m l = first-all (probabilityFault ps) (length ps) h m l ∙ sym (rw (getD-made priorOf ps m l, prior-good (getD ps m nan)))
