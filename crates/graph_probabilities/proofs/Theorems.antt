@@ -120,8 +120,8 @@ pub sparse-eight : (edges : ℕ) (ps : List Float) (off dets : List ℕ) (priors
 unfolding buildSparseProbabilities made
 sparse-eight edges ps off dets priors scaled g m h =
     not-done _ (λ d.
-        let t = sparse-told (g .checks) (g .mechanisms) edges (length ps) (probabilityFault ps) off dets (madeFits edges priors g) d in
-        no-eight ps priors scaled m (ap (λ (k : ℕ). firstOf k (probabilityFault ps)) (t .lengths .numbers-many) ∙ t .given-none) h)
+    let t = sparse-told (g .checks) (g .mechanisms) edges (length ps) (probabilityFault ps) off dets (madeFits edges priors g) d in
+    no-eight ps priors scaled m (ap (λ (k : ℕ). firstOf k (probabilityFault ps)) (t .lengths .numbers-many) ∙ t .given-none) h)
 
 -- So is building from a dense model.
 pub dense-eight : (ps : List Float) (matrix : List ℕ) (priors : List Float) (scaled : List ℤ) (g : Graph) (m : ℕ)
@@ -129,8 +129,8 @@ pub dense-eight : (ps : List Float) (matrix : List ℕ) (priors : List Float) (s
 unfolding buildDenseProbabilities made
 dense-eight ps matrix priors scaled g m h =
     not-done _ (λ d.
-        let t = dense-told (g .checks) (g .mechanisms) (countEdges matrix) (length ps) (probabilityFault ps) (length matrix) (madeFits (countEdges matrix) priors g) d in
-        no-eight ps priors scaled m (ap (λ (k : ℕ). firstOf k (probabilityFault ps)) (t .numbers-many) ∙ t .given-none) h)
+    let t = dense-told (g .checks) (g .mechanisms) (countEdges matrix) (length ps) (probabilityFault ps) (length matrix) (madeFits (countEdges matrix) priors g) d in
+    no-eight ps priors scaled m (ap (λ (k : ℕ). firstOf k (probabilityFault ps)) (t .numbers-many) ∙ t .given-none) h)
 
 -- ---- one result
 

@@ -2,6 +2,7 @@
 use mathlib.Core.Path.{_≡_, sym, _∙_, ap}
 use Prim.Native.Nat.{ℕ}
 use native.Mathlib.Omega.{arith}
+use lib.Dec.{eqb}
 use lib.ListN.{length}
 use borrow.Author.Needs.{needs}
 use Rattle.numbers.proofs.Cases.{was-true, was-false}
@@ -9,7 +10,7 @@ use Rattle.refusals.proofs.Tests.{done-is}
 use Rattle.refusals.specs.Tests.{firstOf}
 use Rattle.probabilities.specs.Calls.{probabilityFault}
 use Rattle.graph_lists.specs.Graph.{Graph, graph}
-use Rattle.graph_lists.specs.Model.{graphFits}
+use Rattle.graph_lists.specs.Model.{graphFits, sparseFault}
 use Rattle.graph_lists.specs.Sound.{Long}
 use Rattle.graph_lists.proofs.SparseTests.{Told, sparse-told}
 use Rattle.graph_tests.specs.Numbers.{givenFault}
@@ -27,14 +28,23 @@ lists c = let a = c .args in graph (a .size .checks) (a .size .mechanisms)
 fit : (c : tie.After-both) → c .both .result ≡ madeFits (c .before .before .before .before .before .before .before .before .before .before .before .before .args .size .edges) (c .before .before .before .before .before .before .before .before .before .before .before .before .args .priors .now)
     (lists (c .before .before .before .before .before .before .before .before .before .before .before .before))
 unfolding madeFits graphFits
-fit c = rw (c .both .ensures, c .before .same-number .ensures, c .before .before .lists-fit .ensures)
+fit c =
+    let many : c .before .same-number .result ≡ eqb (length (c .before .before .before .before .before .before .before .before .before .before .before .before .args .priors .now))
+    (c .before .before .before .before .before .before .before .before .before .before .before .before .args .size .mechanisms) = c .before .same-number .ensures in
+    rw (c .both .ensures, many, c .before .before .lists-fit .ensures)
+
+-- what the tests answer
+tests : (c : tie.After-sparse-fault) → let a = c .before .before .before .before .before .before .before .before .before .before .before .before .before .args in
+    c .sparse-fault .result
+    ≡ sparseFault (a .size .checks) (a .size .mechanisms) (a .size .edges) (length (a .probabilities .now)) (probabilityFault (a .probabilities .now)) (a .detector-offsets .now) (a .detectors .now) (c .before .both .result)
+unfolding givenFault
+tests c = c .sparse-fault .ensures
 
 -- what the tests told
 told : (c : tie.Else1)
     → let a = c .before .before .before .before .before .before .before .before .before .before .before .before .before .before .before .args in
     Told (a .size .checks) (a .size .mechanisms) (a .size .edges) (length (a .probabilities .now)) (probabilityFault (a .probabilities .now)) (a .detector-offsets .now) (a .detectors .now) (c .before .before .before .both .result)
-unfolding givenFault
-told c = sparse-told _ _ _ _ _ _ _ _ (sym (c .before .before .sparse-fault .ensures) ∙ done-is _ (was-true _ _ (c .before .is-done .ensures) (c .if1 .left)))
+told c = sparse-told _ _ _ _ _ _ _ _ (sym (tests (c .before .before)) ∙ done-is _ (was-true _ _ (c .before .is-done .ensures) (c .if1 .left)))
 
 -- and of the lists to be written
 room : (c : tie.Else1) → (length (c .before .before .before .before .before .before .before .before .before .before .before .before .before .before .before .args .priors .now)
@@ -59,18 +69,17 @@ is-done-requires : tie.Need-is-done-requires
 is-done-requires c κs = search needs
 
 returns : tie.Need-returns
-unfolding givenFault
 returns c = sparse-refused _ _ _ _ _ _ _ (lists (c .before .before .before .before .before .before .before .before .before .before .before .before .before .before .before))
-    (fit (c .before .before .before)) (c .before .before .sparse-fault .ensures) (was-false _ _ (c .before .is-done .ensures) (c .if1 .taken))
+    (fit (c .before .before .before)) (tests (c .before .before)) (was-false _ _ (c .before .is-done .ensures) (c .if1 .taken))
 
 write-priors-requires : tie.Need-write-priors-requires
-write-priors-requires c κs = 
+write-priors-requires c κs =
     let t = told (c .before) in
     let ps = c .before .before .before .before .before .before .before .before .before .before .before .before .before .before .before .before .args .probabilities .now in
     (room (c .before) .0 ∙ sym (t .lengths .numbers-many), ap (λ (n : ℕ). firstOf n (probabilityFault ps)) (t .lengths .numbers-many) ∙ t .given-none)
 
 from-detectors-requires : tie.Need-from-detectors-requires
-from-detectors-requires c κs = 
+from-detectors-requires c κs =
     let t = told (c .before .before .before .before .before .before .before .before .before) in
     let f = room (c .before .before .before .before .before .before .before .before .before) .1 in
     let d = t .lengths .dets-many in (
@@ -100,9 +109,8 @@ same-length-6 : tie.Need-same-length-6
 same-length-6 c = search needs
 
 returns-2 : tie.Need-returns-2
-unfolding givenFault
 returns-2 c = sparse-done _ _ _ _ _ _ _ (lists (c .before .before .before .before .before .before .before .before .before .before .before .before .before .before .before .before .before .before .before .before .before .before .before .before .before .before .before .before .before .before .before .before .before .before .before))
-    (fit (c .before .before .before .before .before .before .before .before .before .before .before .before .before .before .before .before .before .before .before .before .before .before .before)) (c .before .before .before .before .before .before .before .before .before .before .before .before .before .before .before .before .before .before .before .before .before .before .sparse-fault .ensures) _ _
+    (fit (c .before .before .before .before .before .before .before .before .before .before .before .before .before .before .before .before .before .before .before .before .before .before .before)) (tests (c .before .before .before .before .before .before .before .before .before .before .before .before .before .before .before .before .before .before .before .before .before .before)) _ _
     (was-true _ _ (c .before .before .before .before .before .before .before .before .before .before .before .before .before .before .before .before .before .before .before .before .before .is-done .ensures) (c .before .before .before .before .before .before .before .before .before .before .before .before .before .before .before .before .before .before .before .before .if1 .left))
     (c .before .before .before .before .before .before .before .before .before .before .before .before .before .before .before .before .before .before .write-priors .ensures) (c .before .before .before .before .before .before .before .before .before .before .from-detectors .ensures)
 

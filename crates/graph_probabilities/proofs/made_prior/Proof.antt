@@ -22,7 +22,9 @@ enum-told c = search needs
 -- the answer
 told : (c : tie.After-prior-of) → c .prior-of .result ≡ Prior (scaledOf (c .before .args .p)) (priorOf (c .before .args .p))
 unfolding priorAnswer
-told c = c .prior-of .ensures ∙ rw (c .before .pre)
+told c =
+    let answer : c .prior-of .result ≡ priorAnswer (c .before .args .p) 0 = c .prior-of .ensures in
+    answer ∙ rw (c .before .pre)
 
 -- the float of an answer
 abbrev value : PriorAnswer → Float
