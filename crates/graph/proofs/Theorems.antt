@@ -9,19 +9,18 @@ use lib.ListN.{length, replicate, length-replicate, getD-replicate}
 use borrow.Author.Tests.{eq-eqb, le-leb}
 use Rattle.numbers.specs.Floats.{zero⁺}
 use Rattle.numbers.specs.Loops.{row}
-use Rattle.refusals.proofs.Tests.{or-done}
 use Rattle.refusals.specs.Tests.{firstOf, unlessRefused}
 use Rattle.refusals.specs.declared.Answer.{Answer}
 use Rattle.refusals.specs.declared.Answer.the-variants.{Done}
 use Rattle.graph_lists.specs.Graph.{Graph, graphOf, among, marked, ownIncidence}
 use Rattle.graph_lists.specs.Lists.{has}
-use Rattle.graph_lists.specs.Model.{edgesGood, graphFits, denseFits, priorGood, priorFault, isGraph, BuildOutcome, buildOutcome, built, sparseFault, buildSparse, countEdges, denseFault, buildDense, graphFault, countsGood}
+use Rattle.graph_lists.specs.Model.{edgesGood, graphFits, denseFits, priorGood, priorFault, isGraph, BuildOutcome, buildOutcome, built, buildSparse, countEdges, buildDense, graphFault, countsGood}
 use Rattle.graph_lists.specs.Steps.{Valid}
 use Rattle.graph_lists.proofs.Built.{sparse-length}
 use Rattle.graph_lists.proofs.DenseTests.{dense-5, DenseTold, dense-told, dense-done}
 use Rattle.graph_lists.proofs.GraphTests.{graph-told}
 use Rattle.graph_lists.proofs.Matrix.{matrix-edges}
-use Rattle.graph_lists.proofs.Models.{GoodPriors, good-none, none-good, mechanisms-good, built-from, graph-checked}
+use Rattle.graph_lists.proofs.Models.{GoodPriors, good-none, none-good, built-from, graph-checked}
 use Rattle.graph_lists.proofs.Sameness.{graph-agrees, is-graph-told, is-graph-some}
 use Rattle.graph_lists.proofs.SparseTests.{Told, sparse-told}
 
@@ -52,27 +51,27 @@ dense-lists priors matrix g h = built-lists _ (marked (g .mechanisms) matrix) g 
 
 -- what the tests tell of an accepted sparse model
 sparse-accepted : (edges : ℕ) (priors : List Float) (off dets : List ℕ) (g : Graph) → buildSparse edges priors off dets g .answer ≡ Done
-    → Told (g .checks) (g .mechanisms) edges priors off dets (graphFits edges g)
+    → Told (g .checks) (g .mechanisms) edges (length priors) (priorFault priors) off dets (graphFits edges g)
 unfolding buildSparse built
-sparse-accepted edges priors off dets g h = sparse-told (g .checks) (g .mechanisms) edges priors off dets (graphFits edges g) h
+sparse-accepted edges priors off dets g h = sparse-told (g .checks) (g .mechanisms) edges (length priors) (priorFault priors) off dets (graphFits edges g) h
 
 -- and that its priors are good
 sparse-good : (edges : ℕ) (priors : List Float) (off dets : List ℕ) (g : Graph) → buildSparse edges priors off dets g .answer ≡ Done → GoodPriors (g .mechanisms) priors
-unfolding buildSparse built sparseFault
 sparse-good edges priors off dets g h =
-    mechanisms-good (g .checks) (g .mechanisms) priors off dets (sparse-accepted edges priors off dets g h .lengths .priors-many) (or-done _ _ (or-done _ _ (or-done _ _ h .1) .1) .1)
+    let t = sparse-accepted edges priors off dets g h in
+    none-good (g .mechanisms) priors (t .lengths .numbers-many) (t .given-none)
 
 -- what they tell of an accepted dense model
 dense-accepted : (priors : List Float) (matrix : List ℕ) (g : Graph) → buildDense priors matrix g .answer ≡ Done
-    → DenseTold (g .checks) (g .mechanisms) (countEdges matrix) priors (length matrix) (graphFits (countEdges matrix) g)
+    → DenseTold (g .checks) (g .mechanisms) (countEdges matrix) (length priors) (priorFault priors) (length matrix) (graphFits (countEdges matrix) g)
 unfolding buildDense built
-dense-accepted priors matrix g h = dense-told (g .checks) (g .mechanisms) (countEdges matrix) priors (length matrix) (graphFits (countEdges matrix) g) h
+dense-accepted priors matrix g h = dense-told (g .checks) (g .mechanisms) (countEdges matrix) _ _ (length matrix) (graphFits (countEdges matrix) g) h
 
 -- and that its priors are good
 dense-good : (priors : List Float) (matrix : List ℕ) (g : Graph) → buildDense priors matrix g .answer ≡ Done → GoodPriors (g .mechanisms) priors
-unfolding buildDense built denseFault
 dense-good priors matrix g h =
-    none-good (g .mechanisms) priors (dense-accepted priors matrix g h .priors-many) (or-done _ _ (or-done _ _ (or-done _ _ (or-done _ _ h .1) .1) .1) .1)
+    let t = dense-accepted priors matrix g h in
+    none-good (g .mechanisms) priors (t .numbers-many) (t .given-none)
 
 -- ---- sparse and dense
 
@@ -108,7 +107,7 @@ dense-is-sparse edges priors off dets matrix g h l e =
     let counts : countsGood (g .checks) (g .mechanisms) ≡ true = rw (le-leb (g .checks) 65536 (t .few .checks-few), le-leb (g .mechanisms) 65536 (t .few .mechanisms-few)) in
     let small : edgesGood (countEdges matrix) ≡ true = le-leb (countEdges matrix) 1048576 (omega (arith, n, t .few .edges-few)) in
     let none : Done ≡ firstOf (length priors) (priorFault priors) = sym (ap (λ (k : ℕ). firstOf k (priorFault priors)) (p .many) ∙ good-none (g .mechanisms) priors p) in
-    let tests = dense-5 (g .checks) (g .mechanisms) (countEdges matrix) priors (length matrix) (graphFits (countEdges matrix) g) Done counts lengths small fits none in
+    let tests = dense-5 (g .checks) (g .mechanisms) (countEdges matrix) _ (priorFault priors) (length matrix) (graphFits (countEdges matrix) g) Done counts lengths small fits none in
     sym (dense-done priors matrix Done (countEdges matrix) (graphFits (countEdges matrix) g) g refl refl tests _ refl refl)
     ∙ ap (buildOutcome Done) (sym (graph-agrees (g .checks) (g .mechanisms) (among off dets) (marked (g .mechanisms) matrix) e))
     ∙ sym (sparse-whole edges priors off dets g h)

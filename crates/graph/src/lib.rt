@@ -5,9 +5,10 @@ ghost use Rattle.graph_lists.specs.Graph.{graph};
 ghost use Rattle.graph_lists.specs.Model.{buildOutcome, buildSparse, countEdges, buildDense, graphFault};
 use graph_lists::build::from_detectors;
 use graph_lists::dense::from_matrix;
+use graph_tests::Given;
 use graph_tests::dense_fault;
 use graph_tests::lists_fit;
-use graph_tests::priors_fault;
+use graph_tests::numbers_fault;
 use graph_tests::seven::is_graph;
 use graph_tests::sizes_good;
 use graph_tests::sparse_fault;
@@ -48,7 +49,14 @@ pub fn build_sparse(
         var_message.len(),
         var_offset.len(),
     );
-    let a = sparse_fault(size, priors, detector_offsets, detectors, fit);
+    let a = sparse_fault(
+        size,
+        Given::Priors,
+        priors,
+        detector_offsets,
+        detectors,
+        fit,
+    );
     if !is_done(a) {
         return a;
     }
@@ -113,7 +121,7 @@ pub fn build_dense(
         var_message.len(),
         var_offset.len(),
     );
-    let a = dense_fault(size, priors, matrix.len(), fit);
+    let a = dense_fault(size, Given::Priors, priors, matrix.len(), fit);
     if !is_done(a) {
         return a;
     }
@@ -159,7 +167,7 @@ pub fn check_graph(
     if !both(same_number(priors.len(), size.mechanisms), fit) {
         return Answer::Refused(Refusal::ModelListLength);
     }
-    let a = priors_fault(priors);
+    let a = numbers_fault(Given::Priors, priors);
     if !is_done(a) {
         return a;
     }

@@ -1,4 +1,4 @@
--- The tests of `build_dense` one after the other: which refuses, what they tell where none does, and the two ways out of the call. Assumes nothing.
+-- The tests of a dense model one after the other: which refuses, what they tell where none does, and the two ways out of `build_dense`. Assumes nothing.
 use mathlib.Core.Bool.{Bool, true, false}
 use mathlib.Core.List.{List}
 use mathlib.Core.Path.{_≡_, ap, _∙_}
@@ -26,46 +26,47 @@ product-small checks mechanisms h =
     let m : checks * mechanisms ≤ 65536 * 65536 = mul-le-mul (leb-true checks 65536 (w .0)) (leb-true mechanisms 65536 (w .1)) in
     omega arith
 
-module _ (checks mechanisms edges : ℕ) (priors : List Float) (bytes : ℕ) (fit : Bool) where
+module _ (checks mechanisms edges numbers : ℕ) (given : ℕ → Answer) (bytes : ℕ) (fit : Bool) where
   -- 1, for the counts
-  pub dense-1 : countsGood checks mechanisms ≡ false → Refused SizeAboveLimit ≡ denseFault checks mechanisms edges priors bytes fit
+  pub dense-1 : countsGood checks mechanisms ≡ false → Refused SizeAboveLimit ≡ denseFault checks mechanisms edges numbers given bytes fit
   unfolding denseFault orElse unless
   dense-1 h = rw h
 
-  -- 2, for matrix and priors
-  pub dense-2 : countsGood checks mechanisms ≡ true → denseFits checks mechanisms (length priors) bytes ≡ false
-      → Refused ModelListLength ≡ denseFault checks mechanisms edges priors bytes fit
+  -- 2, for the matrix and the numbers
+  pub dense-2 : countsGood checks mechanisms ≡ true → denseFits checks mechanisms numbers bytes ≡ false
+      → Refused ModelListLength ≡ denseFault checks mechanisms edges numbers given bytes fit
   unfolding denseFault orElse unless
   dense-2 h k = rw (h, k)
 
   -- 1, for the edges
-  pub dense-3 : countsGood checks mechanisms ≡ true → denseFits checks mechanisms (length priors) bytes ≡ true → edgesGood edges ≡ false
-      → Refused SizeAboveLimit ≡ denseFault checks mechanisms edges priors bytes fit
+  pub dense-3 : countsGood checks mechanisms ≡ true → denseFits checks mechanisms numbers bytes ≡ true → edgesGood edges ≡ false
+      → Refused SizeAboveLimit ≡ denseFault checks mechanisms edges numbers given bytes fit
   unfolding denseFault orElse unless
   dense-3 h k l = rw (h, k, l)
 
   -- 2, for the graph lists
-  pub dense-4 : countsGood checks mechanisms ≡ true → denseFits checks mechanisms (length priors) bytes ≡ true → edgesGood edges ≡ true → fit ≡ false
-      → Refused ModelListLength ≡ denseFault checks mechanisms edges priors bytes fit
+  pub dense-4 : countsGood checks mechanisms ≡ true → denseFits checks mechanisms numbers bytes ≡ true → edgesGood edges ≡ true → fit ≡ false
+      → Refused ModelListLength ≡ denseFault checks mechanisms edges numbers given bytes fit
   unfolding denseFault orElse unless
   dense-4 h k l m = rw (h, k, l, m)
 
-  -- 4, or none
-  pub dense-5 : (a : Answer) → countsGood checks mechanisms ≡ true → denseFits checks mechanisms (length priors) bytes ≡ true → edgesGood edges ≡ true → fit ≡ true
-      → a ≡ firstOf (length priors) (priorFault priors) → a ≡ denseFault checks mechanisms edges priors bytes fit
+  -- `given`, or none
+  pub dense-5 : (a : Answer) → countsGood checks mechanisms ≡ true → denseFits checks mechanisms numbers bytes ≡ true → edgesGood edges ≡ true → fit ≡ true
+      → a ≡ firstOf numbers given → a ≡ denseFault checks mechanisms edges numbers given bytes fit
   unfolding denseFault orElse unless
-  dense-5 a h k l m e = rw (h, k, l, m) (e ∙ ap (λ (n : ℕ). firstOf n
-      (priorFault priors)) (eqb-true (length priors) mechanisms (and-both (eqb bytes (checks * mechanisms)) (eqb (length priors) mechanisms) k .1)))
+  dense-5 a h k l m e = rw (h, k, l, m) (e ∙ ap (λ (n : ℕ). firstOf n given)
+      (eqb-true numbers mechanisms (and-both (eqb bytes (checks * mechanisms)) (eqb numbers mechanisms) k .1)))
 
   -- what they tell where none refuses
   pub record DenseTold : Type 0 where
     pub few : Few checks mechanisms edges
     pub bytes-many : bytes ≡ checks * mechanisms
-    pub priors-many : length priors ≡ mechanisms
+    pub numbers-many : numbers ≡ mechanisms
     pub fits : fit ≡ true
+    pub given-none : firstOf mechanisms given ≡ Done
 
   -- and that they do
-  pub dense-told : denseFault checks mechanisms edges priors bytes fit ≡ Done → DenseTold
+  pub dense-told : denseFault checks mechanisms edges numbers given bytes fit ≡ Done → DenseTold
   unfolding denseFault
   dense-told h =
       let a = or-done _ _ h in
@@ -76,19 +77,20 @@ module _ (checks mechanisms edges : ℕ) (priors : List Float) (bytes : ℕ) (fi
       record {
         few = few-told _ _ _ (unless-done _ SizeAboveLimit (a .0)) (unless-done _ SizeAboveLimit (c .0));
         bytes-many = eqb-true _ _ (l .0);
-        priors-many = eqb-true _ _ (l .1);
+        numbers-many = eqb-true _ _ (l .1);
         fits = unless-done _ ModelListLength (d .0);
+        given-none = d .1;
       }
 
 -- the two ways out of `build_dense`
 module _ (priors : List Float) (matrix : List ℕ) (a : Answer) (edges : ℕ) (fit : Bool) (old : Graph) (c : edges ≡ countEdges matrix) (f : fit ≡ graphFits edges old)
-    (p : a ≡ denseFault (old .checks) (old .mechanisms) edges priors (length matrix) fit) where
+    (p : a ≡ denseFault (old .checks) (old .mechanisms) edges (length priors) (priorFault priors) (length matrix) fit) where
   -- the answer is that of the definition
-  answer : a ≡ denseFault (old .checks) (old .mechanisms) (countEdges matrix) priors (length matrix) (graphFits (countEdges matrix) old)
+  answer : a ≡ denseFault (old .checks) (old .mechanisms) (countEdges matrix) (length priors) (priorFault priors) (length matrix) (graphFits (countEdges matrix) old)
   answer =
       p
-      ∙ ap (λ (b : Bool). denseFault (old .checks) (old .mechanisms) edges priors (length matrix) b) f
-      ∙ ap (λ (n : ℕ). denseFault (old .checks) (old .mechanisms) n priors (length matrix) (graphFits n old)) c
+      ∙ ap (λ (b : Bool). denseFault (old .checks) (old .mechanisms) edges (length priors) (priorFault priors) (length matrix) b) f
+      ∙ ap (λ (n : ℕ). denseFault (old .checks) (old .mechanisms) n (length priors) (priorFault priors) (length matrix) (graphFits n old)) c
 
   -- built
   pub dense-done : (new : Graph) → isDone a ≡ true → new ≡ graphOf (old .checks) (old .mechanisms) (marked (old .mechanisms) matrix) → buildOutcome a new ≡ buildDense priors matrix old

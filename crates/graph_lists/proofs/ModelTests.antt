@@ -7,7 +7,7 @@ use Prim.Native.Nat.{ℕ, zero, suc, _+_, _-_, _<_, _≤_}
 use native.Mathlib.Numerals.{add-one}
 use native.Mathlib.Omega.{arith}
 use lib.Dec.{eqb}
-use lib.Ieee.{Float, nan, fin, le, neg}
+use lib.Ieee.{Float, fin, le, neg}
 use lib.IntN.{pos}
 use lib.ListN.{length, getD, take, drop}
 use lib.Seq.{getD-take, length-take-le, take-suc}
@@ -19,7 +19,7 @@ use Rattle.refusals.proofs.Tests.{or-done, unless-done, first-all, first-none, 
 use Rattle.refusals.specs.Tests.{isDone, unless, orElse, firstOf}
 use Rattle.refusals.specs.declared.Answer.{Answer}
 use Rattle.refusals.specs.declared.Answer.the-variants.{Done, Refused}
-use Rattle.refusals.specs.declared.Refusal.the-variants.{BadPrior, DetectorOutOfRange, DetectorRepeated}
+use Rattle.refusals.specs.declared.Refusal.the-variants.{DetectorOutOfRange, DetectorRepeated}
 use Rattle.graph_lists.specs.Lists.{has}
 use Rattle.graph_lists.specs.Model.{rising, offsetsGood, priorGood, detectorFault, mechanismFault, mechanismTest}
 use Rattle.graph_lists.specs.Sound.{Offsets, RisesTo}
@@ -72,12 +72,12 @@ detector-told checks m ds i h =
     flip false e = refl
 
 -- so is each of a mechanism's
-mech-told : (checks m : ℕ) (prior : Float) (ds : List ℕ) → mechanismTest checks m prior ds ≡ Done → (i : ℕ) → i < length ds → (getD ds i 0 < checks) × (has (take i ds) (getD ds i 0) ≡ false)
+mech-told : (checks m : ℕ) (given : Answer) (ds : List ℕ) → mechanismTest checks m given ds ≡ Done → (i : ℕ) → i < length ds → (getD ds i 0 < checks) × (has (take i ds) (getD ds i 0) ≡ false)
 unfolding mechanismTest
-mech-told checks m prior ds h i l = detector-told checks m ds i (first-all (detectorFault checks m ds) (length ds) (or-done _ _ h .1) i l)
+mech-told checks m given ds h i l = detector-told checks m ds i (first-all (detectorFault checks m ds) (length ds) (or-done _ _ h .1) i l)
 
-module _ (checks mechanisms : ℕ) (priors : List Float) (off dets : List ℕ) (o : Offsets mechanisms (length dets) off)
-    (h : firstOf mechanisms (mechanismFault checks priors off dets) ≡ Done) where
+module _ (checks mechanisms : ℕ) (given : ℕ → Answer) (off dets : List ℕ) (o : Offsets mechanisms (length dets) off)
+    (h : firstOf mechanisms (mechanismFault checks given off dets) ≡ Done) where
   -- of the place i of m's part
   at-told : (m i : ℕ) → Row mechanisms (length dets) off o i m
       → (getD dets i 0 < checks) × ((j : ℕ) → getD off m 0 ≤ j → j < i → getD dets j 0 ≡ getD dets i 0 → ⊥)
@@ -88,7 +88,7 @@ module _ (checks mechanisms : ℕ) (priors : List Float) (off dets : List ℕ) (
       let room : e ≤ length dets = row-end mechanisms (length dets) off o m (r .below) in
       let long : length (part a e dets) ≡ e - a = length-part a e dets room in
       let place : i - a < e - a = omega (arith, r .from, r .to) in
-      let t = mech-told checks m (getD priors m nan) (part a e dets) (first-all _ mechanisms h m (r .below)) (i - a) (rw long place) in
+      let t = mech-told checks m (given m) (part a e dets) (first-all _ mechanisms h m (r .below)) (i - a) (rw long place) in
       let here : getD (part a e dets) (i - a) 0 ≡ getD dets i 0 = getD-part a e dets (i - a) 0 (omega (arith, r .from, r .to)) ∙ ap (λ (x : ℕ). getD dets x 0) (omega (arith, r .from)) in (
         rw here at (t .0),
         λ j l k q.
@@ -105,6 +105,12 @@ module _ (checks mechanisms : ℕ) (priors : List Float) (off dets : List ℕ) (
         keys = record { small = λ j l. at-told _ j (row-is mechanisms (length dets) off o j l) .0 };
         distinct = record { apart = λ r i j k a b e. at-told r j (record { below = k; from = omega arith; to = e }) .1 i a b };
       }
+
+-- nor is the number of any mechanism refused
+pub given-told : (checks mechanisms : ℕ) (given : ℕ → Answer) (off dets : List ℕ) → firstOf mechanisms (mechanismFault checks given off dets) ≡ Done → firstOf mechanisms given ≡ Done
+unfolding mechanismFault mechanismTest
+given-told checks mechanisms given off dets h =
+    first-none given mechanisms (λ m l. or-done _ _ (first-all (mechanismFault checks given off dets) mechanisms h m l) .0)
 
 -- ---- single tests, as the code has them
 
@@ -193,18 +199,8 @@ module _ (checks m : ℕ) (ds : List ℕ) (r : ℕ) (f : RisesTo ds r) where
   front-out zero h l = front-stop 0 h l (first-none Test 0 (λ j k. absurd (omega arith)))
   front-out (suc i) h l = ⊎-elim (λ k. front-stop (suc i) h l (front-passed i (omega arith) k)) (λ k. front-out i (omega arith) k) (less-or-not (getD ds i 0) checks)
 
--- a mechanism whose prior is refused
-pub mech-prior : (checks m : ℕ) (x : Float) (ds : List ℕ) → false ≡ priorGood x → Refused (BadPrior m) ≡ mechanismTest checks m x ds
-unfolding mechanismTest orElse unless
-mech-prior checks m x ds h = rw (← h)
-
--- one whose prior is not: its detectors decide
-pub mech-rest : (checks m : ℕ) (x : Float) (ds : List ℕ) (a : Answer) → true ≡ priorGood x → a ≡ firstOf (length ds) (detectorFault checks m ds) → a ≡ mechanismTest checks m x ds
-unfolding mechanismTest orElse unless
-mech-rest checks m x ds a h e = rw (← h) e
-
 -- a mechanism of a model, its detectors cut out by the code
-pub mech-at : (checks : ℕ) (priors : List Float) (off dets : List ℕ) (m a e : ℕ) (x : Answer) → a ≡ getD off m 0 → e ≡ getD off (m + 1) 0
-    → x ≡ mechanismTest checks m (getD priors m nan) (take (e - a) (drop a dets)) → x ≡ mechanismFault checks priors off dets m
+pub mech-at : (checks : ℕ) (given : ℕ → Answer) (off dets : List ℕ) (m a e : ℕ) (x : Answer) → a ≡ getD off m 0 → e ≡ getD off (m + 1) 0
+    → x ≡ mechanismTest checks m (given m) (take (e - a) (drop a dets)) → x ≡ mechanismFault checks given off dets m
 unfolding mechanismFault
-mech-at checks priors off dets m a e x p q h = let w : e ≡ getD off (suc m) 0 = rw add-one at q in rw (← p, ← w) h
+mech-at checks given off dets m a e x p q h = let w : e ≡ getD off (suc m) 0 = rw add-one at q in rw (← p, ← w) h

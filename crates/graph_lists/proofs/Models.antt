@@ -9,7 +9,7 @@ use lib.Ieee.{Float, nan}
 use lib.ListN.{length, getD}
 use borrow.Author.Tests.{eq-eqb, le-leb}
 use Rattle.numbers.specs.Loops.{row}
-use Rattle.refusals.proofs.Tests.{or-done, unless-done, first-all, first-none}
+use Rattle.refusals.proofs.Tests.{unless-done, first-all, first-none}
 use Rattle.refusals.specs.Tests.{unless, orElse, firstOf}
 use Rattle.refusals.specs.declared.Answer.the-variants.{Done}
 use Rattle.refusals.specs.declared.Refusal.the-variants.{BadPrior}
@@ -28,8 +28,8 @@ use Rattle.graph_lists.proofs.SparseTests.{sparse-4, long-fits, sparse-
 
 -- rising detectors and a good prior pass 4, 5 and 6
 mechanism-none : (checks : ℕ) (priors : List Float) (off dets : List ℕ) (m : ℕ) → priorGood (getD priors m nan) ≡ true → Rising checks (row off m dets)
-    → mechanismFault checks priors off dets m ≡ Done
-unfolding mechanismFault mechanismTest orElse unless
+    → mechanismFault checks (priorFault priors) off dets m ≡ Done
+unfolding mechanismFault mechanismTest priorFault orElse unless
 mechanism-none checks priors off dets m p r =
     let ds = row off m dets in
     rw p (first-none (detectorFault checks m ds) (length ds) (λ i l. sym (detector-fine checks m ds i (getD ds i 0) refl (r .below i l) (above-new ds i l (λ j k. r .rises j i k l)))))
@@ -57,13 +57,6 @@ pub none-good : (mechanisms : ℕ) (priors : List Float) → length priors ≡ m
 unfolding priorFault
 none-good mechanisms priors l h = record { many = l; good = λ m k. unless-done _ (BadPrior m) (first-all (priorFault priors) mechanisms h m k) }
 
--- so are those of a model that passes 4, 5 and 6
-pub mechanisms-good : (checks mechanisms : ℕ) (priors : List Float) (off dets : List ℕ) → length priors ≡ mechanisms → firstOf mechanisms (mechanismFault checks priors off dets) ≡ Done
-    → GoodPriors mechanisms priors
-unfolding mechanismFault mechanismTest
-mechanisms-good checks mechanisms priors off dets l h =
-    record { many = l; good = λ m k. unless-done _ (BadPrior m) (or-done _ _ (first-all (mechanismFault checks priors off dets) mechanisms h m k) .0) }
-
 -- the incidences that a graph's variable lists tell are the graph's own
 back : (checks mechanisms : ℕ) (inc : ℕ → ℕ → Bool) (c m : ℕ) → c < checks → m < mechanisms
     → among (offsets mechanisms (checksOf checks inc)) (joined mechanisms (checksOf checks inc)) c m ≡ inc c m
@@ -80,15 +73,15 @@ module _ (inc : ℕ → ℕ → Bool) (priors : List Float) (old : Graph) (hc : 
 
   -- each of its mechanisms passes 4, 5 and 6
   none : (m : ℕ) → m < old .mechanisms
-      → mechanismFault (old .checks) priors (offsets (old .mechanisms) (checksOf (old .checks) inc)) (joined (old .mechanisms) (checksOf (old .checks) inc)) m ≡ Done
+      → mechanismFault (old .checks) (priorFault priors) (offsets (old .mechanisms) (checksOf (old .checks) inc)) (joined (old .mechanisms) (checksOf (old .checks) inc)) m ≡ Done
   none m h = mechanism-none (old .checks) priors _ _ m (p .good m h) (var-parts-rise (old .checks) (old .mechanisms) inc m h)
 
   -- so the tests pass
   passed-all : Done
-      ≡ sparseFault (old .checks) (old .mechanisms) (length (entries (old .checks) (old .mechanisms) inc)) priors (offsets (old .mechanisms) (checksOf (old .checks) inc))
-      (joined (old .mechanisms) (checksOf (old .checks) inc)) true
+      ≡ sparseFault (old .checks) (old .mechanisms) (length (entries (old .checks) (old .mechanisms) inc)) (length priors) (priorFault priors)
+      (offsets (old .mechanisms) (checksOf (old .checks) inc)) (joined (old .mechanisms) (checksOf (old .checks) inc)) true
   passed-all =
-      sparse-4 (old .checks) (old .mechanisms) _ priors _ _ true Done
+      sparse-4 (old .checks) (old .mechanisms) _ _ (priorFault priors) _ _ true Done
       (sizes-few (old .checks) (old .mechanisms) (length (entries (old .checks) (old .mechanisms) inc)) hc hm he)
       (lengths-fit (old .mechanisms) (length (entries (old .checks) (old .mechanisms) inc)) _ _ _ true (p .many) (length-offsets (old .mechanisms) _) (sym
       (graph-length (old .checks) (old .mechanisms) inc)) refl)

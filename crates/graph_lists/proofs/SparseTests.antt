@@ -1,4 +1,4 @@
--- The tests of `build_sparse` one after the other: which refuses, what they tell where none does, and the two ways out of the call. Assumes nothing.
+-- The tests of a sparse model one after the other: which refuses, what they tell where none does, and the two ways out of `build_sparse`. Assumes nothing.
 use mathlib.Core.Bool.{Bool, true, false, _&&_}
 use mathlib.Core.List.{List}
 use mathlib.Core.Path.{_≡_, ap, _∙_}
@@ -13,10 +13,10 @@ use Rattle.refusals.specs.declared.Answer.{Answer}
 use Rattle.refusals.specs.declared.Answer.the-variants.{Done, Refused}
 use Rattle.refusals.specs.declared.Refusal.the-variants.{SizeAboveLimit, ModelListLength, BadDetectorOffsets}
 use Rattle.graph_lists.specs.Graph.{Graph, graphOf, among}
-use Rattle.graph_lists.specs.Model.{graphFits, offsetsGood, mechanismFault, buildOutcome, built, buildSparse, countsGood, edgesGood, sizesGood, sparseFits, sparseFault}
+use Rattle.graph_lists.specs.Model.{graphFits, offsetsGood, priorFault, mechanismFault, buildOutcome, built, buildSparse, countsGood, edgesGood, sizesGood, sparseFits, sparseFault}
 use Rattle.graph_lists.specs.Sound.{Long}
 use Rattle.graph_lists.specs.Steps.{Valid}
-use Rattle.graph_lists.proofs.ModelTests.{offsets-told, valid-told}
+use Rattle.graph_lists.proofs.ModelTests.{offsets-told, valid-told, given-told}
 
 -- what sizes are that pass 1
 pub record Few (checks mechanisms edges : ℕ) : Type 0 where
@@ -30,53 +30,54 @@ few-told checks mechanisms edges h k =
     let a = and-both _ _ h in
     record { checks-few = leb-true _ _ (a .0); mechanisms-few = leb-true _ _ (a .1); edges-few = leb-true _ _ k }
 
-module _ (checks mechanisms edges : ℕ) (priors : List Float) (off dets : List ℕ) (fit : Bool) where
+module _ (checks mechanisms edges numbers : ℕ) (given : ℕ → Answer) (off dets : List ℕ) (fit : Bool) where
   -- 1
-  pub sparse-1 : sizesGood checks mechanisms edges ≡ false → Refused SizeAboveLimit ≡ sparseFault checks mechanisms edges priors off dets fit
+  pub sparse-1 : sizesGood checks mechanisms edges ≡ false → Refused SizeAboveLimit ≡ sparseFault checks mechanisms edges numbers given off dets fit
   unfolding sparseFault orElse unless
   sparse-1 h = rw h
 
   -- 2
-  pub sparse-2 : sizesGood checks mechanisms edges ≡ true → (sparseFits mechanisms edges (length priors) (length off) (length dets) && fit) ≡ false
-      → Refused ModelListLength ≡ sparseFault checks mechanisms edges priors off dets fit
+  pub sparse-2 : sizesGood checks mechanisms edges ≡ true → (sparseFits mechanisms edges numbers (length off) (length dets) && fit) ≡ false
+      → Refused ModelListLength ≡ sparseFault checks mechanisms edges numbers given off dets fit
   unfolding sparseFault orElse unless
   sparse-2 h k = rw (h, k)
 
   -- 3
-  pub sparse-3 : sizesGood checks mechanisms edges ≡ true → (sparseFits mechanisms edges (length priors) (length off) (length dets) && fit) ≡ true
-      → offsetsGood mechanisms (length dets) off ≡ false → Refused BadDetectorOffsets ≡ sparseFault checks mechanisms edges priors off dets fit
+  pub sparse-3 : sizesGood checks mechanisms edges ≡ true → (sparseFits mechanisms edges numbers (length off) (length dets) && fit) ≡ true
+      → offsetsGood mechanisms (length dets) off ≡ false → Refused BadDetectorOffsets ≡ sparseFault checks mechanisms edges numbers given off dets fit
   unfolding sparseFault orElse unless
   sparse-3 h k l = rw (h, k, l)
 
-  -- 4, 5 or 6, or none
-  pub sparse-4 : (a : Answer) → sizesGood checks mechanisms edges ≡ true → (sparseFits mechanisms edges (length priors) (length off) (length dets) && fit) ≡ true
-      → offsetsGood mechanisms (length dets) off ≡ true → a ≡ firstOf mechanisms (mechanismFault checks priors off dets) → a ≡ sparseFault checks mechanisms edges priors off dets fit
+  -- `given`, 5 or 6, or none
+  pub sparse-4 : (a : Answer) → sizesGood checks mechanisms edges ≡ true → (sparseFits mechanisms edges numbers (length off) (length dets) && fit) ≡ true
+      → offsetsGood mechanisms (length dets) off ≡ true → a ≡ firstOf mechanisms (mechanismFault checks given off dets) → a ≡ sparseFault checks mechanisms edges numbers given off dets fit
   unfolding sparseFault orElse unless
   sparse-4 a h k l e = rw (h, k, l) e
 
   -- what the lengths are where they fit
   pub record Lengths : Type 0 where
-    pub priors-many : length priors ≡ mechanisms
+    pub numbers-many : numbers ≡ mechanisms
     pub off-many : length off ≡ suc mechanisms
     pub dets-many : length dets ≡ edges
     pub fits : fit ≡ true
 
   -- and that the test tells it
-  pub lengths-told : (sparseFits mechanisms edges (length priors) (length off) (length dets) && fit) ≡ true → Lengths
+  pub lengths-told : (sparseFits mechanisms edges numbers (length off) (length dets) && fit) ≡ true → Lengths
   lengths-told h =
       let a = and-both _ _ h in
       let b = and-both _ _ (a .0) in
       let c = and-both _ _ (b .1) in
-      record { priors-many = eqb-true _ _ (b .0); off-many = eqb-true _ _ (c .0); dets-many = eqb-true _ _ (c .1); fits = a .1 }
+      record { numbers-many = eqb-true _ _ (b .0); off-many = eqb-true _ _ (c .0); dets-many = eqb-true _ _ (c .1); fits = a .1 }
 
   -- what the tests tell where none refuses
   pub record Told : Type 0 where
     pub few : Few checks mechanisms edges
     pub lengths : Lengths
     pub valid : Valid checks mechanisms off dets
+    pub given-none : firstOf mechanisms given ≡ Done
 
   -- and that they do
-  pub sparse-told : sparseFault checks mechanisms edges priors off dets fit ≡ Done → Told
+  pub sparse-told : sparseFault checks mechanisms edges numbers given off dets fit ≡ Done → Told
   unfolding sparseFault
   sparse-told h =
       let a = or-done _ _ h in
@@ -87,7 +88,8 @@ module _ (checks mechanisms edges : ℕ) (priors : List Float) (off dets : List 
       record {
         few = few-told _ _ _ (s .0) (s .1);
         lengths = l;
-        valid = valid-told checks mechanisms priors off dets (offsets-told mechanisms (length dets) off (l .off-many) (unless-done _ BadDetectorOffsets (c .0))) (c .1);
+        valid = valid-told checks mechanisms given off dets (offsets-told mechanisms (length dets) off (l .off-many) (unless-done _ BadDetectorOffsets (c .0))) (c .1);
+        given-none = given-told checks mechanisms given off dets (c .1);
       }
 
 -- the five lengths, where they fit
@@ -130,10 +132,10 @@ built-refused a b inc old p d = rw (← p, d)
 
 -- the two ways out of `build_sparse`
 module _ (edges : ℕ) (priors : List Float) (off dets : List ℕ) (a : Answer) (fit : Bool) (old : Graph) (f : fit ≡ graphFits edges old)
-    (p : a ≡ sparseFault (old .checks) (old .mechanisms) edges priors off dets fit) where
+    (p : a ≡ sparseFault (old .checks) (old .mechanisms) edges (length priors) (priorFault priors) off dets fit) where
   -- the answer is that of the definition
-  answer : a ≡ sparseFault (old .checks) (old .mechanisms) edges priors off dets (graphFits edges old)
-  answer = p ∙ ap (λ (b : Bool). sparseFault (old .checks) (old .mechanisms) edges priors off dets b) f
+  answer : a ≡ sparseFault (old .checks) (old .mechanisms) edges (length priors) (priorFault priors) off dets (graphFits edges old)
+  answer = p ∙ ap (λ (b : Bool). sparseFault (old .checks) (old .mechanisms) edges (length priors) (priorFault priors) off dets b) f
 
   -- built
   pub sparse-done : (new : Graph) → isDone a ≡ true → new ≡ graphOf (old .checks) (old .mechanisms) (among off dets) → buildOutcome a new ≡ buildSparse edges priors off dets old

@@ -41,13 +41,13 @@ unfoldable pub graphFits : ℕ → Graph → Bool
 graphFits edges g =
     graphLengths (g .checks) (g .mechanisms) edges (length (g .checkVar)) (length (g .checkOffset)) (length (g .varCheck)) (length (g .varMessage)) (length (g .varOffset))
 
--- a sparse model's three lists have these lengths
+-- a sparse model's three lists have these lengths; `numbers` is that of the priors
 abbrev pub sparseFits : ℕ → ℕ → ℕ → ℕ → ℕ → Bool
-sparseFits mechanisms edges priors off dets = eqb priors mechanisms && (eqb off (suc mechanisms) && eqb dets edges)
+sparseFits mechanisms edges numbers off dets = eqb numbers mechanisms && (eqb off (suc mechanisms) && eqb dets edges)
 
 -- a dense model's two
 abbrev pub denseFits : ℕ → ℕ → ℕ → ℕ → Bool
-denseFits checks mechanisms priors bytes = eqb bytes (checks * mechanisms) && eqb priors mechanisms
+denseFits checks mechanisms numbers bytes = eqb bytes (checks * mechanisms) && eqb numbers mechanisms
 
 -- ---- 3: detector offsets
 
@@ -74,13 +74,13 @@ unfoldable pub detectorFault : ℕ → ℕ → List ℕ → ℕ → Answer
 detectorFault checks m ds i =
     orElse (unless (ltb (getD ds i 0) checks) (DetectorOutOfRange m)) (unless (not (has (take i ds) (getD ds i 0))) (DetectorRepeated m))
 
--- 4, then each detector in list order, for the mechanism m with its prior and its detectors
-unfoldable pub mechanismTest : ℕ → ℕ → Float → List ℕ → Answer
-mechanismTest checks m prior ds = orElse (unless (priorGood prior) (BadPrior m)) (firstOf (length ds) (detectorFault checks m ds))
+-- the mechanism m with its detectors: what the test of its number answers, `given`, then each detector in list order
+unfoldable pub mechanismTest : ℕ → ℕ → Answer → List ℕ → Answer
+mechanismTest checks m given ds = orElse given (firstOf (length ds) (detectorFault checks m ds))
 
--- that, of a model's mechanism m
-unfoldable pub mechanismFault : ℕ → List Float → List ℕ → List ℕ → ℕ → Answer
-mechanismFault checks priors off dets m = mechanismTest checks m (getD priors m nan) (row off m dets)
+-- that, of a model's mechanism m. `given` tests the number that the model gives for each mechanism: 4 of priors
+unfoldable pub mechanismFault : ℕ → (ℕ → Answer) → List ℕ → List ℕ → ℕ → Answer
+mechanismFault checks given off dets m = mechanismTest checks m (given m) (row off m dets)
 
 -- ---- 7: graph lists that no model builds
 
@@ -110,35 +110,37 @@ buildOutcome a g = record { answer = a; lists = g }
 unfoldable pub built : Answer → (ℕ → ℕ → Bool) → Graph → BuildOutcome
 built a inc g = buildOutcome a (unlessRefused a (graphOf (g .checks) (g .mechanisms) inc) g)
 
--- the tests of `build_sparse`: 1, 2, 3, then mechanism by mechanism 4, 5 and 6. `fit` says whether the graph lists have their lengths
-unfoldable pub sparseFault : ℕ → ℕ → ℕ → List Float → List ℕ → List ℕ → Bool → Answer
-sparseFault checks mechanisms edges priors off dets fit =
+-- the tests of a sparse model: 1, 2, 3, then mechanism by mechanism `given`, 5 and 6. `numbers` says how many priors or probabilities there are, `given`
+-- tests each, and `fit` says whether the lists to be written have their lengths
+unfoldable pub sparseFault : ℕ → ℕ → ℕ → ℕ → (ℕ → Answer) → List ℕ → List ℕ → Bool → Answer
+sparseFault checks mechanisms edges numbers given off dets fit =
     orElse (unless (sizesGood checks mechanisms edges) SizeAboveLimit)
-    (orElse (unless (sparseFits mechanisms edges (length priors) (length off) (length dets) && fit) ModelListLength)
-    (orElse (unless (offsetsGood mechanisms (length dets) off) BadDetectorOffsets) (firstOf mechanisms (mechanismFault checks priors off dets))))
+    (orElse (unless (sparseFits mechanisms edges numbers (length off) (length dets) && fit) ModelListLength)
+    (orElse (unless (offsetsGood mechanisms (length dets) off) BadDetectorOffsets) (firstOf mechanisms (mechanismFault checks given off dets))))
 
--- `build_sparse`: mechanism m's detectors stand in `dets` from offset m to offset m + 1
+-- `build_sparse`, with 4 for `given`: mechanism m's detectors stand in `dets` from offset m to offset m + 1
 unfoldable pub buildSparse : ℕ → List Float → List ℕ → List ℕ → Graph → BuildOutcome
-buildSparse edges priors off dets g = built (sparseFault (g .checks) (g .mechanisms) edges priors off dets (graphFits edges g)) (among off dets) g
+buildSparse edges priors off dets g =
+    built (sparseFault (g .checks) (g .mechanisms) edges (length priors) (priorFault priors) off dets (graphFits edges g)) (among off dets) g
 
 -- how many bytes of a matrix are not zero: `count_edges`
 unfoldable pub countEdges : List ℕ → ℕ
 countEdges [] = 0
 countEdges (x ∷ xs) = cond (eqb x 0) (countEdges xs) (suc (countEdges xs))
 
--- the tests of `build_dense`: counts, matrix and prior lengths, edges, graph lists, priors. `bytes` is the matrix's length, `edges` how many of its bytes are
--- not zero, and `fit` says whether the graph lists have their lengths
-unfoldable pub denseFault : ℕ → ℕ → ℕ → List Float → ℕ → Bool → Answer
-denseFault checks mechanisms edges priors bytes fit =
+-- the tests of a dense model: counts, the lengths of what is given, edges, lists to be written, and `given` of each mechanism. `bytes` is the matrix's
+-- length, `edges` how many of its bytes are not zero; `numbers`, `given` and `fit` are as above
+unfoldable pub denseFault : ℕ → ℕ → ℕ → ℕ → (ℕ → Answer) → ℕ → Bool → Answer
+denseFault checks mechanisms edges numbers given bytes fit =
     orElse (unless (countsGood checks mechanisms) SizeAboveLimit)
-    (orElse (unless (denseFits checks mechanisms (length priors) bytes) ModelListLength)
-    (orElse (unless (edgesGood edges) SizeAboveLimit) (orElse (unless fit ModelListLength) (firstOf mechanisms (priorFault priors)))))
+    (orElse (unless (denseFits checks mechanisms numbers bytes) ModelListLength)
+    (orElse (unless (edgesGood edges) SizeAboveLimit) (orElse (unless fit ModelListLength) (firstOf mechanisms given))))
 
--- `build_dense`: the matrix lies check by check, and a byte that is not zero is an incidence
+-- `build_dense`, with 4 for `given`: the matrix lies check by check, and a byte that is not zero is an incidence
 unfoldable pub buildDense : List Float → List ℕ → Graph → BuildOutcome
 buildDense priors matrix g =
     let edges = countEdges matrix in
-    built (denseFault (g .checks) (g .mechanisms) edges priors (length matrix) (graphFits edges g)) (marked (g .mechanisms) matrix) g
+    built (denseFault (g .checks) (g .mechanisms) edges (length priors) (priorFault priors) (length matrix) (graphFits edges g)) (marked (g .mechanisms) matrix) g
 
 -- the tests of lent graph lists and their priors, in whatever layout: 1, 2, 4 and 7. `fit` says whether the lists have their lengths, and `is` whether they
 -- are the graph of what they tell

@@ -1,5 +1,5 @@
-// Inner: tests 1 to 6, of sparse and of dense models: sizes, lengths, detector offsets, priors and detectors; and 7, of lent graph lists.
-// `graph` alone calls it.
+// Inner: tests 1 to 6 and 8, of sparse and of dense models: sizes, lengths, detector offsets, priors or probabilities, and detectors; and 7,
+// of lent graph lists. `graph` and `graph_probabilities` alone call it.
 pub mod seven;
 
 ghost use mathlib.Core.Path.{_≡_};
@@ -9,21 +9,31 @@ ghost use lib.ListN.{length, take};
 ghost use Rattle.numbers.specs.Loops.{every};
 ghost use Rattle.refusals.specs.Tests.{firstOf};
 ghost use Rattle.graph_lists.specs.Lists.{has};
-ghost use Rattle.graph_lists.specs.Model.{edgesGood, rising, offsetsGood, priorGood, priorFault, detectorFault, mechanismFault, countsGood};
+ghost use Rattle.graph_lists.specs.Model.{edgesGood, rising, offsetsGood, priorGood, detectorFault, mechanismFault, countsGood};
 ghost use Rattle.graph_lists.specs.Model.{sizesGood, sparseFits, sparseFault, denseFault, graphLengths, mechanismTest};
 ghost use Rattle.graph_lists.specs.Sound.{Offsets, RisesTo};
+ghost use Rattle.graph_tests.specs.Numbers.{givenFault};
 use graph_lists::Size;
 use graph_lists::indices::at;
 use numbers::limits::MAX_CHECKS;
 use numbers::limits::MAX_EDGES;
 use numbers::limits::MAX_MECHANISMS;
+use probabilities::is_probability;
 use refusals::Answer;
 use refusals::Refusal;
 use refusals_tests::at_most;
 use refusals_tests::both;
 use refusals_tests::is_done;
 use refusals_tests::one_more;
+use refusals_tests::or_else;
 use refusals_tests::same_number;
+use refusals_tests::unless;
+
+// What the numbers are that a model gives for its mechanisms.
+pub enum Given {
+    Priors,
+    Probabilities,
+}
 
 // ---- 1 and 2
 
@@ -52,11 +62,11 @@ pub fn sizes_good(s: Size) -> bool
 }
 
 // The lengths of a sparse model's three lists.
-fn model_fits(s: Size, priors: usize, off: usize, dets: usize) -> bool
-    ensures { λ r. ⌜ r ≡ sparseFits (s .mechanisms) (s .edges) priors off dets ⌝ }
+fn model_fits(s: Size, numbers: usize, off: usize, dets: usize) -> bool
+    ensures { λ r. ⌜ r ≡ sparseFits (s .mechanisms) (s .edges) numbers off dets ⌝ }
 {
     both(
-        same_number(priors, s.mechanisms),
+        same_number(numbers, s.mechanisms),
         both(one_more(off, s.mechanisms), same_number(dets, s.edges)),
     )
 }
@@ -118,13 +128,24 @@ pub(crate) fn offsets_good(rows: usize, n: usize, off: &[u32]) -> bool
     )
 }
 
-// ---- 4, 5 and 6
+// ---- 4 or 8, 5 and 6
 
 // From -30 to 30, and no NaN.
 fn prior_good(x: f64) -> bool
     ensures { λ r. ⌜ r ≡ priorGood x ⌝ }
 {
     -30.0 <= x && x <= 30.0
+}
+
+// The number that is given for m: 4 of a prior, 8 of a probability.
+fn given_fault(given: Given, numbers: &[f64], m: usize) -> Answer
+    requires { ⌜ m < length (now numbers) ⌝ }
+    ensures { λ r. ⌜ r ≡ givenFault given (now (numbers .entry)) m ⌝ }
+{
+    match given {
+        Given::Priors => unless(prior_good(numbers[m]), Refusal::BadPrior(m)),
+        Given::Probabilities => unless(is_probability(numbers[m]), Refusal::BadProbability(m)),
+    }
 }
 
 // Whether d is among the first i of ds.
@@ -206,33 +227,37 @@ fn detectors_fault(checks: usize, m: usize, ds: &[u32]) -> Answer
     detectors_fault_from(checks, m, ds, from)
 }
 
-// The mechanism m: the prior, then the detectors.
-fn mechanism_fault(checks: usize, m: usize, prior: f64, ds: &[u32]) -> Answer
-    ensures { λ r. ⌜ r ≡ mechanismTest checks m prior (now (ds .entry)) ⌝ }
+// The mechanism m: its number, then its detectors.
+fn mechanism_fault(checks: usize, given: Given, numbers: &[f64], m: usize, ds: &[u32]) -> Answer
+    requires { ⌜ m < length (now numbers) ⌝ }
+    ensures { λ r. ⌜ r ≡ mechanismTest checks m (givenFault given (now (numbers .entry)) m) (now (ds .entry)) ⌝ }
 {
-    if prior_good(prior) {
-        return detectors_fault(checks, m, ds);
-    }
-    Answer::Refused(Refusal::BadPrior(m))
+    let a = given_fault(given, numbers, m);
+    let b = detectors_fault(checks, m, ds);
+    or_else(a, b)
 }
 
 // All mechanisms.
 fn mechanisms_fault(
     checks: usize,
     mechanisms: usize,
-    priors: &[f64],
+    given: Given,
+    numbers: &[f64],
     off: &[u32],
     dets: &[u32],
 ) -> Answer
     requires { ⌜ Offsets mechanisms (length (now dets)) (now off) ⌝ }
-    requires { ⌜ length (now priors) ≡ mechanisms ⌝ }
-    ensures { λ r. ⌜ r ≡ firstOf mechanisms (mechanismFault checks (now (priors .entry)) (now (off .entry)) (now (dets .entry))) ⌝ }
+    requires { ⌜ length (now numbers) ≡ mechanisms ⌝ }
+    ensures { λ r. ⌜
+        r
+        ≡ firstOf mechanisms
+        (mechanismFault checks (givenFault given (now (numbers .entry))) (now (off .entry)) (now (dets .entry))) ⌝ }
 {
     let mut m = 0;
     while m < mechanisms {
         let start = at(off, m);
         let end = at(off, m + 1);
-        let a = mechanism_fault(checks, m, priors[m], &dets[start..end]);
+        let a = mechanism_fault(checks, given, numbers, m, &dets[start..end]);
         if !is_done(a) {
             return a;
         }
@@ -241,14 +266,15 @@ fn mechanisms_fault(
     Answer::Done
 }
 
-// The priors alone.
-pub fn priors_fault(priors: &[f64]) -> Answer
-    ensures { λ r. ⌜ r ≡ firstOf (length (now (priors .entry))) (priorFault (now (priors .entry))) ⌝ }
+// The numbers alone.
+pub fn numbers_fault(given: Given, numbers: &[f64]) -> Answer
+    ensures { λ r. ⌜ r ≡ firstOf (length (now (numbers .entry))) (givenFault given (now (numbers .entry))) ⌝ }
 {
     let mut m = 0;
-    while m < priors.len() {
-        if !prior_good(priors[m]) {
-            return Answer::Refused(Refusal::BadPrior(m));
+    while m < numbers.len() {
+        let a = given_fault(given, numbers, m);
+        if !is_done(a) {
+            return a;
         }
         m += 1;
     }
@@ -257,36 +283,47 @@ pub fn priors_fault(priors: &[f64]) -> Answer
 
 // ---- the tests of a sparse model
 
-// 1 to 6. `fit`: the lent graph lists have their lengths.
-pub fn sparse_fault(s: Size, priors: &[f64], off: &[u32], dets: &[u32], fit: bool) -> Answer
-    ensures { λ r. ⌜
-        r ≡ sparseFault (s .checks) (s .mechanisms) (s .edges) (now (priors .entry)) (now (off .entry)) (now (dets .entry)) fit ⌝ }
+// 1 to 6, with 8 for 4 where probabilities are given. `fit`: the lists to be written have their lengths.
+pub fn sparse_fault(
+    s: Size,
+    given: Given,
+    numbers: &[f64],
+    off: &[u32],
+    dets: &[u32],
+    fit: bool,
+) -> Answer
+    ensures { λ r.
+        let xs = now (numbers .entry) in
+        ⌜ r
+        ≡ sparseFault (s .checks) (s .mechanisms) (s .edges) (length xs) (givenFault given xs) (now (off .entry)) (now (dets .entry)) fit ⌝ }
 {
     if !sizes_good(s) {
         return Answer::Refused(Refusal::SizeAboveLimit);
     }
-    if !both(model_fits(s, priors.len(), off.len(), dets.len()), fit) {
+    if !both(model_fits(s, numbers.len(), off.len(), dets.len()), fit) {
         return Answer::Refused(Refusal::ModelListLength);
     }
     if !offsets_good(s.mechanisms, dets.len(), off) {
         return Answer::Refused(Refusal::BadDetectorOffsets);
     }
-    mechanisms_fault(s.checks, s.mechanisms, priors, off, dets)
+    mechanisms_fault(s.checks, s.mechanisms, given, numbers, off, dets)
 }
 
 // ---- the tests of a dense model
 
-// Counts, the lengths of matrix and priors, edges, the lent graph lists, priors. `bytes`: the matrix's length; the size's edges: how many
-// of its bytes are not zero; `fit`: the lent graph lists have their lengths.
-pub fn dense_fault(s: Size, priors: &[f64], bytes: usize, fit: bool) -> Answer
-    ensures { λ r. ⌜ r ≡ denseFault (s .checks) (s .mechanisms) (s .edges) (now (priors .entry)) bytes fit ⌝ }
+// Counts, the lengths of the matrix and the numbers, edges, the lists to be written, the numbers. `bytes`: the matrix's length; the size's
+// edges: how many of its bytes are not zero; `fit`: the lists to be written have their lengths.
+pub fn dense_fault(s: Size, given: Given, numbers: &[f64], bytes: usize, fit: bool) -> Answer
+    ensures { λ r.
+        let xs = now (numbers .entry) in
+        ⌜ r ≡ denseFault (s .checks) (s .mechanisms) (s .edges) (length xs) (givenFault given xs) bytes fit ⌝ }
 {
     if !counts_good(s.checks, s.mechanisms) {
         return Answer::Refused(Refusal::SizeAboveLimit);
     }
     if !both(
         same_number(bytes, s.checks * s.mechanisms),
-        same_number(priors.len(), s.mechanisms),
+        same_number(numbers.len(), s.mechanisms),
     ) {
         return Answer::Refused(Refusal::ModelListLength);
     }
@@ -296,5 +333,5 @@ pub fn dense_fault(s: Size, priors: &[f64], bytes: usize, fit: bool) -> Answer
     if !fit {
         return Answer::Refused(Refusal::ModelListLength);
     }
-    priors_fault(priors)
+    numbers_fault(given, numbers)
 }

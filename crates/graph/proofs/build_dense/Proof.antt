@@ -6,10 +6,11 @@ use borrow.Author.Needs.{needs}
 use Rattle.numbers.proofs.Cases.{was-true, was-false}
 use Rattle.refusals.proofs.Tests.{done-is}
 use Rattle.graph_lists.specs.Graph.{Graph, graph}
-use Rattle.graph_lists.specs.Model.{graphFits}
+use Rattle.graph_lists.specs.Model.{graphFits, priorFault}
 use Rattle.graph_lists.specs.Sound.{Long}
 use Rattle.graph_lists.proofs.DenseTests.{DenseTold, dense-told, dense-done, dense-refused}
 use Rattle.graph_lists.proofs.SparseTests.{long-told}
+use Rattle.graph_tests.specs.Numbers.{givenFault}
 use Rattle.graph.proofs.build_dense.Statement.{statement}
 use Rattle.graph.proofs.build_dense.Tie as tie
 
@@ -20,8 +21,9 @@ lists c = let a = c .args in graph (a .checks) (a .mechanisms) (a .check-var .no
 -- what the tests told
 told : (c : tie.Else1)
     → let a = c .before .before .before .before .before .before .before .before .before .before .before .before .args in
-    DenseTold (a .checks) (a .mechanisms) (c .before .before .before .before .count-edges .result) (a .priors .now) (length (a .matrix .now)) (c .before .before .before .lists-fit .result)
-told c = dense-told _ _ _ _ _ _ (sym (c .before .before .dense-fault .ensures) ∙ done-is _ (was-true _ _ (c .before .is-done .ensures) (c .if1 .left)))
+    DenseTold (a .checks) (a .mechanisms) (c .before .before .before .before .count-edges .result) (length (a .priors .now)) (priorFault (a .priors .now)) (length (a .matrix .now)) (c .before .before .before .lists-fit .result)
+unfolding givenFault
+told c = dense-told _ _ _ _ _ _ _ (sym (c .before .before .dense-fault .ensures) ∙ done-is _ (was-true _ _ (c .before .is-done .ensures) (c .if1 .left)))
 
 -- and of the graph lists
 long : (c : tie.Else1) → Long (c .before .before .before .before .count-edges .result)
@@ -43,7 +45,7 @@ is-done-requires : tie.Need-is-done-requires
 is-done-requires c κs = search needs
 
 returns : tie.Need-returns
-unfolding graphFits
+unfolding graphFits givenFault
 returns c = dense-refused _ _ _ _ _ (lists (c .before .before .before .before .before .before .before .before .before .before .before .before))
     (c .before .before .before .before .count-edges .ensures) (c .before .before .before .lists-fit .ensures) (c .before .before .dense-fault .ensures)
     (was-false _ _ (c .before .is-done .ensures) (c .if1 .taken))
@@ -76,7 +78,7 @@ same-length-5 : tie.Need-same-length-5
 same-length-5 c = search needs
 
 returns-2 : tie.Need-returns-2
-unfolding graphFits
+unfolding graphFits givenFault
 returns-2 c = dense-done _ _ _ _ _ (lists (c .before .before .before .before .before .before .before .before .before .before .before .before .before .before .before .before .before .before .before .before .before .before .before .before .before .before .before .before))
     (c .before .before .before .before .before .before .before .before .before .before .before .before .before .before .before .before .before .before
     .before .before .count-edges .ensures) (c .before .before .before .before .before .before .before .before .before .before .before .before .before

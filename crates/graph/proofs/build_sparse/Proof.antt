@@ -1,13 +1,15 @@
 -- `graph::build_sparse` meets its contract. Where no test refuses, the model is valid and the lists fit, which is all that building asks; a refusal leaves them. Assumes nothing.
 use mathlib.Core.Path.{sym, _∙_}
 use native.Mathlib.Omega.{arith}
+use lib.ListN.{length}
 use borrow.Author.Needs.{needs}
 use Rattle.numbers.proofs.Cases.{was-true, was-false}
 use Rattle.refusals.proofs.Tests.{done-is}
 use Rattle.graph_lists.specs.Graph.{Graph, graph}
-use Rattle.graph_lists.specs.Model.{graphFits}
+use Rattle.graph_lists.specs.Model.{graphFits, priorFault}
 use Rattle.graph_lists.specs.Sound.{Long}
 use Rattle.graph_lists.proofs.SparseTests.{Told, sparse-told, long-told, sparse-done, sparse-refused}
+use Rattle.graph_tests.specs.Numbers.{givenFault}
 use Rattle.graph.proofs.build_sparse.Statement.{statement}
 use Rattle.graph.proofs.build_sparse.Tie as tie
 
@@ -19,8 +21,9 @@ lists c = let a = c .args in graph (a .size .checks) (a .size .mechanisms)
 -- what the tests told
 told : (c : tie.Else1)
     → let a = c .before .before .before .before .before .before .before .before .before .before .before .before .args in
-    Told (a .size .checks) (a .size .mechanisms) (a .size .edges) (a .priors .now) (a .detector-offsets .now) (a .detectors .now) (c .before .before .before .lists-fit .result)
-told c = sparse-told _ _ _ _ _ _ _ (sym (c .before .before .sparse-fault .ensures) ∙ done-is _ (was-true _ _ (c .before .is-done .ensures) (c .if1 .left)))
+    Told (a .size .checks) (a .size .mechanisms) (a .size .edges) (length (a .priors .now)) (priorFault (a .priors .now)) (a .detector-offsets .now) (a .detectors .now) (c .before .before .before .lists-fit .result)
+unfolding givenFault
+told c = sparse-told _ _ _ _ _ _ _ _ (sym (c .before .before .sparse-fault .ensures) ∙ done-is _ (was-true _ _ (c .before .is-done .ensures) (c .if1 .left)))
 
 -- and of the graph lists
 long : (c : tie.Else1) → Long (c .before .before .before .before .before .before .before .before .before .before .before .before .args .size .edges)
@@ -39,7 +42,7 @@ is-done-requires : tie.Need-is-done-requires
 is-done-requires c κs = search needs
 
 returns : tie.Need-returns
-unfolding graphFits
+unfolding graphFits givenFault
 returns c = sparse-refused _ _ _ _ _ _ (lists (c .before .before .before .before .before .before .before .before .before .before .before .before))
     (c .before .before .before .lists-fit .ensures) (c .before .before .sparse-fault .ensures) (was-false _ _ (c .before .is-done .ensures) (c .if1 .taken))
 
@@ -71,7 +74,7 @@ same-length-5 : tie.Need-same-length-5
 same-length-5 c = search needs
 
 returns-2 : tie.Need-returns-2
-unfolding graphFits
+unfolding graphFits givenFault
 returns-2 c = sparse-done _ _ _ _ _ _ (lists (c .before .before .before .before .before .before .before .before .before .before .before .before .before .before .before .before .before .before .before .before .before .before .before .before .before .before .before .before))
     (c .before .before .before .before .before .before .before .before .before .before .before .before .before .before .before .before .before .before
     .before .lists-fit .ensures) (c .before .before .before .before .before .before .before .before .before .before .before .before .before .before

@@ -14,6 +14,8 @@ use Rattle.graph_lists.specs.Model.{graphFits, priorFault, sizesGood}
 use Rattle.graph_lists.specs.Sound.{Long}
 use Rattle.graph_lists.proofs.GraphTests.{fault-1, fault-2, fault-4, fault-7, fault-none}
 use Rattle.graph_lists.proofs.SparseTests.{long-told}
+use Rattle.graph_tests.specs.declared.Given.the-variants.{Priors}
+use Rattle.graph_tests.specs.Numbers.{givenFault}
 use Rattle.graph.proofs.check_graph.Statement.{statement}
 use Rattle.graph.proofs.check_graph.Tie as tie
 
@@ -47,10 +49,10 @@ long c = long-told _ (lists (c .before .before .before .before .before .before .
     (c .before .before .before .before .before .before .before .before .before .before .before .before .args .size .mechanisms)) _ (fits c) .1)
 
 -- there are as many priors as mechanisms
-priors : (c : tie.Else2) {a : Answer} → a ≡ firstOf (length (c .before .before .before .before .before .before .before .before .before .before .before .before .args .priors .now)) (priorFault (c .before .before .before .before .before .before .before .before .before .before .before .before .args
-    .priors .now))
-    → a ≡ firstOf (c .before .before .before .before .before .before .before .before .before .before .before .before .args .size .mechanisms)
-    (priorFault (c .before .before .before .before .before .before .before .before .before .before .before .before .args .priors .now))
+priors : (c : tie.Else2) {a : Answer} → let xs = c .before .before .before .before .before .before .before .before .before .before .before .before .args .priors .now in
+    a ≡ firstOf (length xs) (givenFault Priors xs)
+    → a ≡ firstOf (c .before .before .before .before .before .before .before .before .before .before .before .before .args .size .mechanisms) (priorFault xs)
+unfolding givenFault
 priors c e = e ∙ ap (λ (n : ℕ). firstOf n (priorFault (c .before .before .before .before .before .before .before .before .before .before .before .before
     .args .priors .now))) (eqb-true _ _ (and-both _ _ (fits c) .0))
 
@@ -73,8 +75,8 @@ returns-2 : tie.Need-returns-2
 returns-2 c = fault-2 _ _ (lists (c .before .before .before .before .before .before .before .before .before .before .before .before))
     (sizes (c .before .before .before .before)) (was-false _ _ (fit (c .before)) (c .if2 .taken))
 
-priors-fault-requires : tie.Need-priors-fault-requires
-priors-fault-requires c κs = search needs
+numbers-fault-requires : tie.Need-numbers-fault-requires
+numbers-fault-requires c κs = search needs
 
 is-done-requires : tie.Need-is-done-requires
 is-done-requires c κs = search needs
@@ -82,7 +84,7 @@ is-done-requires c κs = search needs
 returns-3 : tie.Need-returns-3
 returns-3 c = fault-4 _ _ (lists (c .before .before .before .before .before .before .before .before .before .before .before .before .before .before .before)) _ (sizes (c .before .before .before .before .before .before .before))
     (fits (c .before .before .before)) (priors (c .before .before .before)
-    (c .before .before .priors-fault .ensures)) (sym (c .before .is-done .ensures) ∙ not-true _ (c .if3 .taken))
+    (c .before .before .numbers-fault .ensures)) (sym (c .before .is-done .ensures) ∙ not-true _ (c .if3 .taken))
 
 is-graph-requires : tie.Need-is-graph-requires
 is-graph-requires c κs = long (c .before .before .before)
@@ -90,13 +92,13 @@ is-graph-requires c κs = long (c .before .before .before)
 returns-4 : tie.Need-returns-4
 returns-4 c = fault-7 _ _ (lists (c .before .before .before .before .before .before .before .before .before .before .before .before .before .before .before .before .before)) _ (sizes (c .before .before .before .before .before .before .before .before .before))
     (fits (c .before .before .before .before .before)) (priors (c .before .before .before .before .before)
-    (c .before .before .before .before .priors-fault .ensures)) (sym (c .before .before .before .is-done .ensures) ∙ not-false _ (c .before .before .if3 .left))
+    (c .before .before .before .before .numbers-fault .ensures)) (sym (c .before .before .before .is-done .ensures) ∙ not-false _ (c .before .before .if3 .left))
     (was-false _ _ (c .before .is-graph .ensures) (c .if4 .taken))
 
 returns-5 : tie.Need-returns-5
 returns-5 c = fault-none _ _ (lists (c .before .before .before .before .before .before .before .before .before .before .before .before .before .before .before .before .before)) _ (sizes (c .before .before .before .before .before .before .before .before .before))
     (fits (c .before .before .before .before .before)) (priors (c .before .before .before .before .before)
-    (c .before .before .before .before .priors-fault .ensures)) (sym (c .before .before .before .is-done .ensures) ∙ not-false _ (c .before .before .if3 .left))
+    (c .before .before .before .before .numbers-fault .ensures)) (sym (c .before .before .before .is-done .ensures) ∙ not-false _ (c .before .before .if3 .left))
     (was-true _ _ (c .before .is-graph .ensures) (c .if4 .left))
 
 pub check-graph-spec : {M : Type 1} → statement M
@@ -109,7 +111,7 @@ check-graph-spec =
     same-number-requires
     both-requires
     returns-2
-    priors-fault-requires
+    numbers-fault-requires
     is-done-requires
     returns-3
     is-graph-requires

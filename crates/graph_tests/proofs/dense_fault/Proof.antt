@@ -19,17 +19,21 @@ counts c = was-true _ _ (c .before .counts-good .ensures) (c .if1 .left)
 
 -- what the second asks
 lengths : (c : tie.After-both) → let a = c .before .before .before .before .before .before .before .args in c .both .result ≡
-    (eqb (a .bytes) (a .s .checks * a .s .mechanisms) && eqb (length (a .priors .now)) (a .s .mechanisms))
+    (eqb (a .bytes) (a .s .checks * a .s .mechanisms) && eqb (length (a .numbers .now)) (a .s .mechanisms))
 lengths c = cc
 
 counts-good-requires : tie.Need-counts-good-requires
 counts-good-requires c κs = search needs
 
 returns : tie.Need-returns
-returns c = dense-1 _ _ _ _ _ _ (was-false _ _ (c .before .counts-good .ensures) (c .if1 .taken))
+returns c = dense-1 _ _ _ _ _ _ _ (was-false _ _ (c .before .counts-good .ensures) (c .if1 .taken))
 
 mul-same-number : tie.Need-mul-same-number
-mul-same-number c = omega (arith, product-small (c .before .before .before .before .args .s .checks) (c .before .before .before .before .args .s .mechanisms) (counts (c .before)))
+mul-same-number c = omega (
+  arith,
+  product-small (c .before .before .before .before .args .s .checks) (c .before .before .before
+      .before .args .s .mechanisms) (counts (c .before)),
+)
 
 same-number-requires : tie.Need-same-number-requires
 same-number-requires c κs = search needs
@@ -41,28 +45,28 @@ both-requires : tie.Need-both-requires
 both-requires c κs = search needs
 
 returns-2 : tie.Need-returns-2
-returns-2 c = dense-2 _ _ _ _ _ _ (counts (c .before .before .before .before .before)) (was-false _ _ (lengths (c .before)) (c .if2 .taken))
+returns-2 c = dense-2 _ _ _ _ _ _ _ (counts (c .before .before .before .before .before)) (was-false _ _ (lengths (c .before)) (c .if2 .taken))
 
 edges-good-requires : tie.Need-edges-good-requires
 edges-good-requires c κs = search needs
 
 returns-3 : tie.Need-returns-3
-returns-3 c = dense-3 _ _ _ _ _ _ (counts (c .before .before .before .before .before .before .before))
+returns-3 c = dense-3 _ _ _ _ _ _ _ (counts (c .before .before .before .before .before .before .before))
     (was-true _ _ (lengths (c .before .before .before)) (c .before .before .if2 .left)) (was-false _ _ (c .before .edges-good .ensures) (c .if3 .taken))
 
 returns-4 : tie.Need-returns-4
-returns-4 c = dense-4 _ _ _ _ _ _ (counts (c .before .before .before .before .before .before .before .before))
+returns-4 c = dense-4 _ _ _ _ _ _ _ (counts (c .before .before .before .before .before .before .before .before))
     (was-true _ _ (lengths (c .before .before .before .before)) (c .before .before .before .if2 .left)) (was-true _ _ (c .before .before .edges-good .ensures)
     (c .before .if3 .left)) (not-true _ (c .if4 .taken))
 
-priors-fault-requires : tie.Need-priors-fault-requires
-priors-fault-requires c κs = search needs
+numbers-fault-requires : tie.Need-numbers-fault-requires
+numbers-fault-requires c κs = search needs
 
 returns-5 : tie.Need-returns-5
-returns-5 c = dense-5 _ _ _ _ _ _ _ (counts (c .before .before .before .before .before .before .before .before .before))
+returns-5 c = dense-5 _ _ _ _ _ _ _ _ (counts (c .before .before .before .before .before .before .before .before .before))
     (was-true _ _ (lengths (c .before .before .before .before .before))
     (c .before .before .before .before .if2 .left)) (was-true _ _ (c .before .before .before .edges-good .ensures) (c .before .before .if3 .left)) (not-false _
-    (c .before .if4 .left)) (c .priors-fault .ensures)
+    (c .before .if4 .left)) (c .numbers-fault .ensures)
 
 pub dense-fault-spec : {M : Type 1} → statement M
 dense-fault-spec =
@@ -78,5 +82,5 @@ dense-fault-spec =
     edges-good-requires
     returns-3
     returns-4
-    priors-fault-requires
+    numbers-fault-requires
     returns-5)

@@ -10,17 +10,19 @@ use Rattle.refusals.specs.declared.Answer.the-variants.{Done}
 use Rattle.graph_lists.specs.Model.{mechanismFault}
 use Rattle.graph_lists.proofs.Cuts.{cut-bounds}
 use Rattle.graph_lists.proofs.ModelTests.{mech-at}
+use Rattle.graph_tests.specs.Numbers.{givenFault}
 use Rattle.graph_tests.proofs.mechanisms_fault.Statement.{statement}
 use Rattle.graph_tests.proofs.mechanisms_fault.Tie as tie
 
 abbrev Inv-loop : tie.InvT-loop
-Inv-loop checks mechanisms priors off dets m₀ m = (m ≤ mechanisms) × (firstOf m (mechanismFault checks priors off dets) ≡ Done)
+Inv-loop checks mechanisms given numbers off dets m₀ m = (m ≤ mechanisms) × (firstOf m (mechanismFault checks (givenFault given numbers) off dets) ≡ Done)
 
 abbrev μ-loop : tie.MeasureT-loop
-μ-loop checks mechanisms priors off dets m₀ m = mechanisms - m
+μ-loop checks mechanisms given numbers off dets m₀ m = mechanisms - m
 
 -- a mechanism's part lies within the detectors
-bounds : (c : tie.After-at2 Inv-loop μ-loop) → (c .before .at .result ≤ c .at2 .result) × (c .at2 .result ≤ length (c .before .before .before .before .before .before .before .args .dets .now))
+bounds : (c : tie.After-at2 Inv-loop μ-loop) → (c .before .at .result ≤ c .at2 .result) × (c .at2 .result ≤ length (c .before .before .before .before
+    .before .before .before .args .dets .now))
 bounds c = cut-bounds _ _ _ (c .before .before .before .loop .m) _ _
     (c .before .before .before .before .before .before .before .pre .0) (c .before .before .loop-test .taken) (c .before .at .ensures) (c .at2 .ensures)
 
@@ -38,41 +40,35 @@ at-requires-2 : tie.Need-at-requires-2 Inv-loop μ-loop
 at-requires-2 c κs = omega (arith, c .before .before .before .before .before .before .pre .0 .many)
 
 mul-mechanism-fault : tie.Need-mul-mechanism-fault Inv-loop μ-loop
-mul-mechanism-fault c = omega arith
-
-shared-slice-read-mechanism-fault : tie.Need-shared-slice-read-mechanism-fault Inv-loop μ-loop
-shared-slice-read-mechanism-fault c = omega arith
-
-mul-mechanism-fault-2 : tie.Need-mul-mechanism-fault-2 Inv-loop μ-loop
-mul-mechanism-fault-2 c = omega (arith, bounds (c .before))
+mul-mechanism-fault c = omega (arith, bounds (c))
 
 sub-mechanism-fault : tie.Need-sub-mechanism-fault Inv-loop μ-loop
-sub-mechanism-fault c = omega (arith, bounds (c .before))
+sub-mechanism-fault c = omega (arith, bounds (c))
 
 part-mechanism-fault-start : tie.Need-part-mechanism-fault-start Inv-loop μ-loop
-part-mechanism-fault-start c = bounds (c .before) .0
+part-mechanism-fault-start c = bounds (c) .0
 
 part-mechanism-fault-end : tie.Need-part-mechanism-fault-end Inv-loop μ-loop
-part-mechanism-fault-end c = bounds (c .before) .1
+part-mechanism-fault-end c = bounds (c) .1
 
 mechanism-fault-requires : tie.Need-mechanism-fault-requires Inv-loop μ-loop
-mechanism-fault-requires c κs = search needs
+mechanism-fault-requires c κs = omega arith
 
 is-done-requires : tie.Need-is-done-requires Inv-loop μ-loop
 is-done-requires c κs = search needs
 
 returns : tie.Need-returns Inv-loop μ-loop
 returns c =
-    first-refuse (mechanismFault (c .before .before .before .before .before .before .before .before .before .before .before .before .args .checks)
-    (c .before .before .before .before .before .before .before .before .before .before .before .before .args .priors .now)
-    (c .before .before .before .before .before .before .before .before .before .before .before .before .args .off .now)
-    (c .before .before .before .before .before .before .before .before .before .before .before .before .args .dets .now))
-    (c .before .before .before .before .before .before .before .before .loop .m) _ _ _
-    (c .before .before .before .before .before .before .before .loop-test .taken)
-    (c .before .before .before .before .before .before .before .before .loop .inv .1)
-    (mech-at _ _ _ _ (c .before .before .before .before .before .before .before .before .loop .m) _ _ _
-    (c .before .before .before .before .before .before .at .ensures)
-    (c .before .before .before .before .before .at2 .ensures) (c .before .before .mechanism-fault .ensures)) (c .before .is-done .ensures) (c .if1 .taken)
+    first-refuse (mechanismFault (c .before .before .before .before .before .before .before .before .before .before .before .args .checks)
+    (givenFault (c .before .before .before .before .before .before .before .before .before .before .before .args .given) (c .before .before .before .before .before .before .before .before .before .before .before .args .numbers .now))
+    (c .before .before .before .before .before .before .before .before .before .before .before .args .off .now)
+    (c .before .before .before .before .before .before .before .before .before .before .before .args .dets .now))
+    (c .before .before .before .before .before .before .before .loop .m) _ _ _
+    (c .before .before .before .before .before .before .loop-test .taken)
+    (c .before .before .before .before .before .before .before .loop .inv .1)
+    (mech-at _ _ _ _ (c .before .before .before .before .before .before .before .loop .m) _ _ _
+    (c .before .before .before .before .before .at .ensures)
+    (c .before .before .before .before .at2 .ensures) (c .before .before .mechanism-fault .ensures)) (c .before .is-done .ensures) (c .if1 .taken)
 
 add-m : tie.Need-add-m Inv-loop μ-loop
 add-m c = omega arith
@@ -83,15 +79,15 @@ loop-less c = omega arith
 loop-again : tie.Need-loop-again Inv-loop μ-loop
 loop-again c = (
   omega arith,
-  first-go (mechanismFault (c .before .before .before .before .before .before .before .before .before .before .before .before .args .checks)
-      (c .before .before .before .before .before .before .before .before .before .before .before .before .args .priors .now)
-      (c .before .before .before .before .before .before .before .before .before .before .before .before .args .off .now)
-      (c .before .before .before .before .before .before .before .before .before .before .before .before .args .dets .now))
-      (c .before .before .before .before .before .before .before .before .loop .m) _ _
-      (c .before .before .before .before .before .before .before .before .loop .inv .1)
-      (mech-at _ _ _ _ (c .before .before .before .before .before .before .before .before .loop .m) _ _ _
-      (c .before .before .before .before .before .before .at .ensures)
-      (c .before .before .before .before .before .at2 .ensures) (c .before .before .mechanism-fault .ensures)) (c .before .is-done .ensures) (c .if1 .left),
+  first-go (mechanismFault (c .before .before .before .before .before .before .before .before .before .before .before .args .checks)
+      (givenFault (c .before .before .before .before .before .before .before .before .before .before .before .args .given) (c .before .before .before .before .before .before .before .before .before .before .before .args .numbers .now))
+      (c .before .before .before .before .before .before .before .before .before .before .before .args .off .now)
+      (c .before .before .before .before .before .before .before .before .before .before .before .args .dets .now))
+      (c .before .before .before .before .before .before .before .loop .m) _ _
+      (c .before .before .before .before .before .before .before .loop .inv .1)
+      (mech-at _ _ _ _ (c .before .before .before .before .before .before .before .loop .m) _ _ _
+      (c .before .before .before .before .before .at .ensures)
+      (c .before .before .before .before .at2 .ensures) (c .before .before .mechanism-fault .ensures)) (c .before .is-done .ensures) (c .if1 .left),
 )
 
 returns-2 : tie.Need-returns-2 Inv-loop μ-loop
@@ -108,8 +104,6 @@ mechanisms-fault-spec =
     add-at
     at-requires-2
     mul-mechanism-fault
-    shared-slice-read-mechanism-fault
-    mul-mechanism-fault-2
     sub-mechanism-fault
     part-mechanism-fault-start
     part-mechanism-fault-end
