@@ -9,6 +9,8 @@ ghost use lib.ListN.{length};
 ghost use Rattle.numbers.specs.Loops.{over};
 ghost use Rattle.graph_lists.specs.Graph.{graph};
 ghost use Rattle.graph_lists.specs.Model.{buildSparse, countEdges, buildDense, graphFault};
+ghost use Rattle.graph_probabilities.specs.Calls.{buildSparseProbabilities, buildDenseProbabilities};
+ghost use Rattle.probabilities.specs.Calls.{priorAnswer, priorsOf};
 ghost use Rattle.min_sum.specs.Beliefs.{beliefsLists, beliefs as beliefsOf};
 ghost use Rattle.relay_settings.specs.Settings.{published, checkSettings};
 ghost use Rattle.relay_step.specs.Step.{state};
@@ -18,12 +20,13 @@ ghost use Rattle.stream_session.specs.Shots.{startSession, byteTaken, endText};
 ghost use Rattle.exports_values.specs.Codes.{codeOf, numberIn, placeIn, scheduleGiven, settingsGiven, byteOf, floatsIn, countsIn, version};
 ghost use Rattle.exports_session.specs.Words.{sessionOf, sessionWords, sessionFloats};
 ghost use Rattle.exports_bodies.specs.Answers.{graphLeft, graphLeftBy, beliefsLeft, beliefsLeftBy, stepLeft, stepLeftBy, decodeLeft};
-ghost use Rattle.exports_bodies.specs.Answers.{decodeLeftBy};
+ghost use Rattle.exports_bodies.specs.Answers.{decodeLeftBy, madeLeft, madeLeftBy, priorsLeft, priorsLeftBy, priorLeftBy};
 use exports_bodies::beliefs;
 use exports_bodies::decodes;
 use exports_bodies::graphs;
 use exports_bodies::legs;
 use exports_bodies::point;
+use exports_bodies::priors;
 use exports_bodies::sessions;
 use exports_bodies::steps;
 use exports_values::answers;
@@ -138,6 +141,116 @@ pub extern "C" fn chowderkite_check_graph(
         var_message,
         var_offset,
     )
+}
+
+// `graph_probabilities::build_sparse_probabilities`.
+#[no_mangle]
+pub extern "C" fn chowderkite_build_sparse_probabilities(
+    checks: usize,
+    mechanisms: usize,
+    edges: usize,
+    probabilities: &[f64],
+    detector_offsets: &[u32],
+    detectors: &[u32],
+    priors: &mut [f64],
+    check_var: &mut [u32],
+    check_offset: &mut [u32],
+    var_check: &mut [u32],
+    var_message: &mut [u32],
+    var_offset: &mut [u32],
+) -> u64
+    ensures { λ r. ⌜ (
+        let g = graph checks mechanisms (now («check_var» .entry)) (now («check_offset» .entry))
+        (now («var_check» .entry)) (now («var_message» .entry)) (now («var_offset» .entry)) in
+        let after = graph checks mechanisms (now («check_var» .exit)) (now («check_offset» .exit))
+        (now («var_check» .exit)) (now («var_message» .exit)) (now («var_offset» .exit)) in
+        madeLeft r (now (priors .exit)) after
+        ≡ madeLeftBy
+        (buildSparseProbabilities edges (now (probabilities .entry)) (now («detector_offsets» .entry)) (now (detectors .entry))
+        (now (priors .entry)) g)) ⌝ }
+{
+    graphs::build_sparse_probabilities(
+        checks,
+        mechanisms,
+        edges,
+        probabilities,
+        detector_offsets,
+        detectors,
+        priors,
+        check_var,
+        check_offset,
+        var_check,
+        var_message,
+        var_offset,
+    )
+}
+
+// `graph_probabilities::build_dense_probabilities`.
+#[no_mangle]
+pub extern "C" fn chowderkite_build_dense_probabilities(
+    checks: usize,
+    mechanisms: usize,
+    probabilities: &[f64],
+    matrix: &[u8],
+    priors: &mut [f64],
+    check_var: &mut [u32],
+    check_offset: &mut [u32],
+    var_check: &mut [u32],
+    var_message: &mut [u32],
+    var_offset: &mut [u32],
+) -> u64
+    ensures { λ r. ⌜ (
+        let g = graph checks mechanisms (now («check_var» .entry)) (now («check_offset» .entry))
+        (now («var_check» .entry)) (now («var_message» .entry)) (now («var_offset» .entry)) in
+        let after = graph checks mechanisms (now («check_var» .exit)) (now («check_offset» .exit))
+        (now («var_check» .exit)) (now («var_message» .exit)) (now («var_offset» .exit)) in
+        madeLeft r (now (priors .exit)) after
+        ≡ madeLeftBy
+        (buildDenseProbabilities (now (probabilities .entry)) (now (matrix .entry)) (now (priors .entry)) g)) ⌝ }
+{
+    graphs::build_dense_probabilities(
+        checks,
+        mechanisms,
+        probabilities,
+        matrix,
+        priors,
+        check_var,
+        check_offset,
+        var_check,
+        var_message,
+        var_offset,
+    )
+}
+
+// ---- priors of probabilities
+
+// `probabilities::prior_of`.
+#[no_mangle]
+pub extern "C" fn chowderkite_prior_of(
+    probability: f64,
+    mechanism: usize,
+    prior: &mut [f64; 1],
+    scaled: &mut [i64; 1],
+) -> u64
+    ensures { λ r. ⌜
+        priorsLeft r (now (prior .exit)) (now (scaled .exit))
+        ≡ priorLeftBy (priorAnswer probability mechanism) (now (prior .entry)) (now (scaled .entry)) ⌝ }
+{
+    priors::prior_of(probability, mechanism, prior, scaled)
+}
+
+// `probabilities::priors_of`.
+#[no_mangle]
+pub extern "C" fn chowderkite_priors_of(
+    probabilities: &[f64],
+    priors: &mut [f64],
+    scaled: &mut [i64],
+) -> u64
+    ensures { λ r. ⌜
+        priorsLeft r (now (priors .exit)) (now (scaled .exit))
+        ≡ priorsLeftBy (priorsOf (now (probabilities .entry)) (now (priors .entry)) (now (scaled .entry))) ⌝ }
+{
+    priors::priors_of(probabilities, priors, scaled)
 }
 
 // ---- min-sum beliefs

@@ -9,6 +9,7 @@ use Rattle.probabilities.specs.declared.PriorAnswer.the-variants.{Prior, Refuse
 use Rattle.probabilities.specs.Calls.{PriorsOutcome}
 use Rattle.graph_lists.specs.Graph.{Graph}
 use Rattle.graph_lists.specs.Model.{BuildOutcome}
+use Rattle.graph_probabilities.specs.Calls.{ProbabilityOutcome}
 use Rattle.relay_calls.specs.Calls.{StepLists, StepOutcome, DecodeLists, DecodeOutcome}
 use Rattle.min_sum.specs.Beliefs.{BeliefsLists, BeliefsOutcome}
 use Rattle.exports_values.specs.Codes.{codeOf, decodedCode, decodedCounts, decodedWeight}
@@ -26,6 +27,21 @@ graphLeft code g = record { code = code; lists = g }
 -- an outcome, its answer as a code
 abbrev pub graphLeftBy : BuildOutcome → GraphLeft
 graphLeftBy o = graphLeft (codeOf (o .answer)) (o .lists)
+
+-- ---- a call that fills graph lists and a list of priors
+
+-- the code, and the list of priors and the graph lists as the call leaves them
+pub record MadeLeft : Type 0 where
+  pub code : ℕ
+  pub priors : List Float
+  pub lists : Graph
+
+abbrev pub madeLeft : ℕ → List Float → Graph → MadeLeft
+madeLeft code priors g = record { code = code; priors = priors; lists = g }
+
+-- an outcome of building from probabilities, its answer as a code
+abbrev pub madeLeftBy : ProbabilityOutcome → MadeLeft
+madeLeftBy o = madeLeft (codeOf (o .answer)) (o .priors) (o .lists)
 
 -- ---- priors of probabilities
 
