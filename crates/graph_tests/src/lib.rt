@@ -1,5 +1,5 @@
-// Inner: tests 1 to 6 and 8, of sparse and of dense models: sizes, lengths, detector offsets, priors or probabilities, and detectors; and 7,
-// of lent graph lists. `graph` and `graph_probabilities` alone call it.
+// Inner: tests 1 to 6 and 8, of sparse and of dense models: sizes, lengths, detector offsets, priors or probabilities, detectors; and 7, of
+// lent graph lists. `graph` and `graph_probabilities` alone call it.
 pub mod seven;
 
 ghost use mathlib.Core.Path.{_≡_};
@@ -295,7 +295,8 @@ pub fn sparse_fault(
     ensures { λ r.
         let xs = now (numbers .entry) in
         ⌜ r
-        ≡ sparseFault (s .checks) (s .mechanisms) (s .edges) (length xs) (givenFault given xs) (now (off .entry)) (now (dets .entry)) fit ⌝ }
+        ≡ sparseFault (s .checks) (s .mechanisms) (s .edges) (length xs) (givenFault given xs)
+        (now (off .entry)) (now (dets .entry)) fit ⌝ }
 {
     if !sizes_good(s) {
         return Answer::Refused(Refusal::SizeAboveLimit);
