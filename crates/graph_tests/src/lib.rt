@@ -25,7 +25,6 @@ use refusals_tests::at_most;
 use refusals_tests::both;
 use refusals_tests::is_done;
 use refusals_tests::one_more;
-use refusals_tests::or_else;
 use refusals_tests::same_number;
 use refusals_tests::unless;
 
@@ -232,9 +231,11 @@ fn mechanism_fault(checks: usize, given: Given, numbers: &[f64], m: usize, ds: &
     requires { ⌜ m < length (now numbers) ⌝ }
     ensures { λ r. ⌜ r ≡ mechanismTest checks m (givenFault given (now (numbers .entry)) m) (now (ds .entry)) ⌝ }
 {
-    let a = given_fault(given, numbers, m);
-    let b = detectors_fault(checks, m, ds);
-    or_else(a, b)
+    let own = given_fault(given, numbers, m);
+    if is_done(own) {
+        return detectors_fault(checks, m, ds);
+    }
+    own
 }
 
 // All mechanisms.
