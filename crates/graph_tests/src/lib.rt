@@ -1,5 +1,5 @@
-// Inner: tests 1 to 6 and 8, of sparse and of dense models: sizes, lengths, detector offsets, priors or probabilities, and detectors; and 7,
-// of lent graph lists. `graph` and `graph_probabilities` alone call it.
+// Inner: tests 1 to 6 and 8, of sparse and of dense models: sizes, lengths, detector offsets, priors or probabilities, detectors; and 7, of
+// lent graph lists. `graph` and `graph_probabilities` alone call it.
 pub mod seven;
 
 ghost use mathlib.Core.Path.{_≡_};
@@ -25,7 +25,6 @@ use refusals_tests::at_most;
 use refusals_tests::both;
 use refusals_tests::is_done;
 use refusals_tests::one_more;
-use refusals_tests::or_else;
 use refusals_tests::same_number;
 use refusals_tests::unless;
 
@@ -232,9 +231,11 @@ fn mechanism_fault(checks: usize, given: Given, numbers: &[f64], m: usize, ds: &
     requires { ⌜ m < length (now numbers) ⌝ }
     ensures { λ r. ⌜ r ≡ mechanismTest checks m (givenFault given (now (numbers .entry)) m) (now (ds .entry)) ⌝ }
 {
-    let a = given_fault(given, numbers, m);
-    let b = detectors_fault(checks, m, ds);
-    or_else(a, b)
+    let own = given_fault(given, numbers, m);
+    if is_done(own) {
+        return detectors_fault(checks, m, ds);
+    }
+    own
 }
 
 // All mechanisms.
@@ -295,7 +296,8 @@ pub fn sparse_fault(
     ensures { λ r.
         let xs = now (numbers .entry) in
         ⌜ r
-        ≡ sparseFault (s .checks) (s .mechanisms) (s .edges) (length xs) (givenFault given xs) (now (off .entry)) (now (dets .entry)) fit ⌝ }
+        ≡ sparseFault (s .checks) (s .mechanisms) (s .edges) (length xs) (givenFault given xs)
+        (now (off .entry)) (now (dets .entry)) fit ⌝ }
 {
     if !sizes_good(s) {
         return Answer::Refused(Refusal::SizeAboveLimit);

@@ -25,12 +25,12 @@ lists c = let a = c .args in graph (a .checks) (a .mechanisms)
     (a .check-var .now) (a .check-offset .now) (a .var-check .now) (a .var-message .now) (a .var-offset .now)
 
 -- what the flag for the tests says: the lists to be written fit
-fit : (c : tie.After-both) → c .both .result ≡ madeFits (c .before .before .before .count-edges .result) (c .before .before .before .before .before .before .before .before .before .before .before .before .args .priors .now)
-    (lists (c .before .before .before .before .before .before .before .before .before .before .before .before))
+fit : (c : tie.After-both) → let a = c .before .before .before .before .before .before .before .before .before .before .before .before .args in
+    c .both .result ≡ madeFits (c .before .before .before .count-edges .result) (a .priors .now) (lists (c .before .before .before .before .before .before .before .before .before .before .before .before))
 unfolding madeFits graphFits
 fit c =
-    let many : c .before .same-number .result ≡ eqb (length (c .before .before .before .before .before .before .before .before .before .before .before .before .args .priors .now))
-    (c .before .before .before .before .before .before .before .before .before .before .before .before .args .mechanisms) = c .before .same-number .ensures in
+    let a = c .before .before .before .before .before .before .before .before .before .before .before .before .args in
+    let many : c .before .same-number .result ≡ eqb (length (a .priors .now)) (a .mechanisms) = c .before .same-number .ensures in
     rw (c .both .ensures, many, c .before .before .lists-fit .ensures)
 
 -- what the tests answer
@@ -47,8 +47,8 @@ told : (c : tie.Else1)
 told c = dense-told _ _ _ _ _ _ _ (sym (tests (c .before .before)) ∙ done-is _ (was-true _ _ (c .before .is-done .ensures) (c .if1 .left)))
 
 -- and of the lists to be written
-room : (c : tie.Else1) → (length (c .before .before .before .before .before .before .before .before .before .before .before .before .before .before .before .args .priors .now)
-    ≡ c .before .before .before .before .before .before .before .before .before .before .before .before .before .before .before .args .mechanisms) × Long (c .before .before .before .before .before .before .count-edges .result)
+room : (c : tie.Else1) → let a = c .before .before .before .before .before .before .before .before .before .before .before .before .before .before .before .args in
+    (length (a .priors .now) ≡ a .mechanisms) × Long (c .before .before .before .before .before .before .count-edges .result)
     (lists (c .before .before .before .before .before .before .before .before .before .before .before .before .before .before .before))
 room c = fits-told _ _ (lists (c .before .before .before .before .before .before .before .before .before .before .before .before .before .before .before))
     (sym (fit (c .before .before .before)) ∙ told c .fits)
@@ -112,10 +112,14 @@ same-length-6 : tie.Need-same-length-6
 same-length-6 c = search needs
 
 returns-2 : tie.Need-returns-2
-returns-2 c = dense-done _ _ _ _ _ _ (lists (c .before .before .before .before .before .before .before .before .before .before .before .before .before .before .before .before .before .before .before .before .before .before .before .before .before .before .before .before .before .before .before .before .before .before .before))
-    (c .before .before .before .before .before .before .before .before .before .before .before .before .before .before .before .before .before .before .before .before .before .before .before .before .before .before .count-edges .ensures) (fit (c .before .before .before .before .before .before .before .before .before .before .before .before .before .before .before .before .before .before .before .before .before .before .before)) (tests (c .before .before .before .before .before .before .before .before .before .before .before .before .before .before .before .before .before .before .before .before .before .before)) _ _
-    (was-true _ _ (c .before .before .before .before .before .before .before .before .before .before .before .before .before .before .before .before .before .before .before .before .before .is-done .ensures) (c .before .before .before .before .before .before .before .before .before .before .before .before .before .before .before .before .before .before .before .before .if1 .left))
-    (c .before .before .before .before .before .before .before .before .before .before .before .before .before .before .before .before .before .before .write-priors .ensures) (c .before .before .before .before .before .before .before .before .before .before .from-matrix .ensures)
+returns-2 c =
+    let e : tie.Else1 = c .before .before .before .before .before .before .before .before .before .before
+    .before .before .before .before .before .before .before .before .before .before in
+    dense-done _ _ _ _ _ _ (lists (e .before .before .before .before .before .before .before .before .before .before .before .before .before .before .before))
+    (e .before .before .before .before .before .before .count-edges .ensures) (fit (e .before .before .before)) (tests (e .before .before)) _ _
+    (was-true _ _ (e .before .is-done .ensures) (e .if1 .left))
+    (c .before .before .before .before .before .before .before .before .before .before .before .before .before .before .before .before .before .before .write-priors .ensures)
+    (c .before .before .before .before .before .before .before .before .before .before .from-matrix .ensures)
 
 pub build-dense-probabilities-spec : {M : Type 1} → statement M
 build-dense-probabilities-spec =

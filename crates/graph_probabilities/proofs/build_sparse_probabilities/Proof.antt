@@ -25,12 +25,12 @@ lists c = let a = c .args in graph (a .size .checks) (a .size .mechanisms)
     (a .check-var .now) (a .check-offset .now) (a .var-check .now) (a .var-message .now) (a .var-offset .now)
 
 -- what the flag for the tests says: the lists to be written fit
-fit : (c : tie.After-both) → c .both .result ≡ madeFits (c .before .before .before .before .before .before .before .before .before .before .before .before .args .size .edges) (c .before .before .before .before .before .before .before .before .before .before .before .before .args .priors .now)
-    (lists (c .before .before .before .before .before .before .before .before .before .before .before .before))
+fit : (c : tie.After-both) → let a = c .before .before .before .before .before .before .before .before .before .before .before .before .args in
+    c .both .result ≡ madeFits (a .size .edges) (a .priors .now) (lists (c .before .before .before .before .before .before .before .before .before .before .before .before))
 unfolding madeFits graphFits
 fit c =
-    let many : c .before .same-number .result ≡ eqb (length (c .before .before .before .before .before .before .before .before .before .before .before .before .args .priors .now))
-    (c .before .before .before .before .before .before .before .before .before .before .before .before .args .size .mechanisms) = c .before .same-number .ensures in
+    let a = c .before .before .before .before .before .before .before .before .before .before .before .before .args in
+    let many : c .before .same-number .result ≡ eqb (length (a .priors .now)) (a .size .mechanisms) = c .before .same-number .ensures in
     rw (c .both .ensures, many, c .before .before .lists-fit .ensures)
 
 -- what the tests answer
@@ -47,8 +47,8 @@ told : (c : tie.Else1)
 told c = sparse-told _ _ _ _ _ _ _ _ (sym (tests (c .before .before)) ∙ done-is _ (was-true _ _ (c .before .is-done .ensures) (c .if1 .left)))
 
 -- and of the lists to be written
-room : (c : tie.Else1) → (length (c .before .before .before .before .before .before .before .before .before .before .before .before .before .before .before .args .priors .now)
-    ≡ c .before .before .before .before .before .before .before .before .before .before .before .before .before .before .before .args .size .mechanisms) × Long (c .before .before .before .before .before .before .before .before .before .before .before .before .before .before .before .args .size .edges)
+room : (c : tie.Else1) → let a = c .before .before .before .before .before .before .before .before .before .before .before .before .before .before .before .args in
+    (length (a .priors .now) ≡ a .size .mechanisms) × Long (a .size .edges)
     (lists (c .before .before .before .before .before .before .before .before .before .before .before .before .before .before .before))
 room c = fits-told _ _ (lists (c .before .before .before .before .before .before .before .before .before .before .before .before .before .before .before))
     (sym (fit (c .before .before .before)) ∙ told c .lengths .fits)
@@ -109,10 +109,14 @@ same-length-6 : tie.Need-same-length-6
 same-length-6 c = search needs
 
 returns-2 : tie.Need-returns-2
-returns-2 c = sparse-done _ _ _ _ _ _ _ (lists (c .before .before .before .before .before .before .before .before .before .before .before .before .before .before .before .before .before .before .before .before .before .before .before .before .before .before .before .before .before .before .before .before .before .before .before))
-    (fit (c .before .before .before .before .before .before .before .before .before .before .before .before .before .before .before .before .before .before .before .before .before .before .before)) (tests (c .before .before .before .before .before .before .before .before .before .before .before .before .before .before .before .before .before .before .before .before .before .before)) _ _
-    (was-true _ _ (c .before .before .before .before .before .before .before .before .before .before .before .before .before .before .before .before .before .before .before .before .before .is-done .ensures) (c .before .before .before .before .before .before .before .before .before .before .before .before .before .before .before .before .before .before .before .before .if1 .left))
-    (c .before .before .before .before .before .before .before .before .before .before .before .before .before .before .before .before .before .before .write-priors .ensures) (c .before .before .before .before .before .before .before .before .before .before .from-detectors .ensures)
+returns-2 c =
+    let e : tie.Else1 = c .before .before .before .before .before .before .before .before .before .before
+    .before .before .before .before .before .before .before .before .before .before in
+    sparse-done _ _ _ _ _ _ _ (lists (e .before .before .before .before .before .before .before .before .before .before .before .before .before .before .before))
+    (fit (e .before .before .before)) (tests (e .before .before)) _ _
+    (was-true _ _ (e .before .is-done .ensures) (e .if1 .left))
+    (c .before .before .before .before .before .before .before .before .before .before .before .before .before .before .before .before .before .before .write-priors .ensures)
+    (c .before .before .before .before .before .before .before .before .before .before .from-detectors .ensures)
 
 pub build-sparse-probabilities-spec : {M : Type 1} → statement M
 build-sparse-probabilities-spec =
