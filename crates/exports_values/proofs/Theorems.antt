@@ -19,7 +19,7 @@ below n (At place) h = omega (arith, h)
 pub number-in : (r : Refusal) → numberIn (codeOf (Refused r)) ≡ numberOf r
 number-in r = below (numberOf r) (placeOf r) (number-small r)
 
--- and the place, where there is one; no place of a refusal reaches 2^32
+-- and the place, where there is one below 2^32
 pub place-in : (r : Refusal) (place : ℕ) → placeOf r ≡ At place → place < 4294967296 → placeIn (codeOf (Refused r)) ≡ place
 place-in r place e h =
     ap (λ p. (numberOf r + placeCode p) / 65536) e ∙ above (numberOf r) (number-small r)

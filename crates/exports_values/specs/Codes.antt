@@ -31,8 +31,8 @@ abbrev pub bitOf : Bool → ℕ
 bitOf true = 1
 bitOf false = 0
 
--- 65,536 times the place, 0 where there is none. The remainder keeps the code within 64 bits for every number; no place of a refusal reaches 2^32, for
--- the largest is an index of at most 65,535 times 65,536 gammas.
+-- 65,536 times the place, 0 where there is none. The remainder keeps the code within 64 bits for every number. No place reaches 2^32 but the mechanism that
+-- a caller hands to `prior_of`, and the index of a list of as many probabilities: else the largest is an index of at most 65,535 times 65,536 gammas.
 abbrev pub placeCode : Place → ℕ
 placeCode Nowhere = 0
 placeCode (At place) = 65536 * (place % 4294967296)

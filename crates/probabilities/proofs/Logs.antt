@@ -9,7 +9,7 @@ use lib.Pow.{pow-pos}
 use lib.Ieee.{size}
 use borrow.Author.Tests.{le-leb}
 use Rattle.numbers.proofs.Cases.{less-or-not}
-use Rattle.probabilities.specs.Fractions.{Fraction, over, plus, times, cutTo, Near}
+use Rattle.probabilities.specs.Fractions.{Fraction, ratio, plus, times, cutTo, Near}
 use Rattle.probabilities.specs.Logarithm.{ln2, twos, tangent, partialSum, logarithmAfter, logarithm}
 use Rattle.probabilities.specs.Scaled.{leading, slope, series, ln2Cut, most, scaledAfter, scaledSize}
 use Rattle.probabilities.specs.Ratios.{Split}
@@ -55,14 +55,14 @@ module _ (a b c d k : ℕ) (same : a * d ≡ c * b) where
 
 -- the leading digits of a and b * 2 ^ k are the ratio taken apart, in units of 2 ^ -32 of the digits of b * 2 ^ k
 pub taken-apart : (a b k : ℕ) → 0 < b → b * 2 ^ k ≤ a → a < 2 * (b * 2 ^ k) → Split (a * 2 ^ 32) (b * 2 ^ 32) k (leading (b * 2 ^ k) a) (leading (b * 2 ^ k) (b * 2 ^ k))
-taken-apart a b k some under over =
+taken-apart a b k some under less =
     let c = b * 2 ^ k in
     let p : 0 < c = mul-pos some (pow-pos k) in
     let e : b * 2 ^ 32 * 2 ^ k ≡ c * 2 ^ 32 = mul-right-comm b (2 ^ 32) (2 ^ k) in
     record {
       digits = size c;
       least = omega (arith, e, under);
-      double = omega (arith, e, over);
+      double = omega (arith, e, less);
       high-low = leading-low c a;
       high-high = leading-high c a;
       low-low = omega (arith, e, leading-low c c);
@@ -78,14 +78,14 @@ near-ln2 : (k : ℕ) → Near k (k * ln2Cut) (times k ln2)
 near-ln2 k = record { low = omega arith; high = omega arith }
 
 -- with the partial sum, by 18 more
-near-after : (k t n d : ℕ) → 0 < d → 3 * t ≤ 2 ^ 32 → Near 4 t (over n d) → Near (k + 2 * 9) (k * ln2Cut + 2 * series t) (plus (times k ln2) (times 2 (partialSum (over n d))))
+near-after : (k t n d : ℕ) → 0 < d → 3 * t ≤ 2 ^ 32 → Near 4 t (ratio n d) → Near (k + 2 * 9) (k * ln2Cut + 2 * series t) (plus (times k ln2) (times 2 (partialSum (ratio n d))))
 near-after k t n d p small near =
-    let x = partialSum (over n d) in
+    let x = partialSum (ratio n d) in
     near-plus k (2 * 9) (k * ln2Cut) (2 * series t) (times k ln2) (times 2 x) (near-ln2 k) (near-twice 9 (series t) x (near-series t n d p small near))
 
 module _ (a b k : ℕ) (some : 0 < b) (under : b * 2 ^ k ≤ a) (over-half : a < 2 * (b * 2 ^ k)) where
   -- the t of the ratio
-  near-tangent : Near 4 (slope (leading (b * 2 ^ k) a) (leading (b * 2 ^ k) (b * 2 ^ k))) (over (a - b * 2 ^ k) (a + b * 2 ^ k))
+  near-tangent : Near 4 (slope (leading (b * 2 ^ k) a) (leading (b * 2 ^ k) (b * 2 ^ k))) (ratio (a - b * 2 ^ k) (a + b * 2 ^ k))
   near-tangent =
       let h = leading (b * 2 ^ k) a in
       let l = leading (b * 2 ^ k) (b * 2 ^ k) in
@@ -116,11 +116,11 @@ module _ (a b k : ℕ) (some : 0 < b) (under : b * 2 ^ k ≤ a) (over-half : a <
 beyond : (k x y : ℕ) → 44 ≤ k → 30 * (2 ^ 64 * y) ≤ k * 12786308645202655660 * y + x * 2 ^ 64
 beyond k x y h = omega (arith, mul-le-mul-right y (let e : 30 * 2 ^ 64 ≤ k * 12786308645202655660 = omega arith in e), mul-assoc 30 (2 ^ 64) y)
 
-cut-logarithm : (a b : ℕ) → 44 ≤ twos a b → cutTo most (logarithm a b) ≡ over most 1
+cut-logarithm : (a b : ℕ) → 44 ≤ twos a b → cutTo most (logarithm a b) ≡ ratio most 1
 unfolding logarithm logarithmAfter
 cut-logarithm a b h =
     let x = partialSum (tangent (twos a b) a b) in
-    ap (λ (t : Bool). cond t (over most 1) (plus (times (twos a b) ln2) (times 2 x)))
+    ap (λ (t : Bool). cond t (ratio most 1) (plus (times (twos a b) ln2) (times 2 x)))
     (le-leb (30 * (2 ^ 64 * x .bottom)) (twos a b * 12786308645202655660 * x .bottom + 2 * x .top * 2 ^ 64) (beyond (twos a b) (2 * x .top) (x .bottom) h))
 
 -- and so is 44 times the whole number for it
@@ -128,7 +128,7 @@ pub cut-scaled : (a b : ℕ) → 44 ≤ twos a b → scaledSize a b ≡ most * 2
 unfolding scaledSize scaledAfter
 cut-scaled a b h = omega arith
 
-pub near-most : Near 256 (most * 2 ^ 32) (over most 1)
+pub near-most : Near 256 (most * 2 ^ 32) (ratio most 1)
 near-most = record { low = omega arith; high = omega arith }
 
 -- ---- the whole
@@ -143,7 +143,7 @@ near-size a b some order =
     subst
     (λ (x : Fraction). Near 256 (scaledSize a b) x)
     (sym (cut-logarithm a b g))
-    (subst (λ (n : ℕ). Near 256 n (over most 1)) (sym (cut-scaled a b g)) near-most))
+    (subst (λ (n : ℕ). Near 256 n (ratio most 1)) (sym (cut-scaled a b g)) near-most))
     (less-or-not (twos a b) 44)
   where
     few : twos a b < 44 → Near 256 (scaledSize a b) (cutTo most (logarithm a b))

@@ -8,7 +8,7 @@ use native.Mathlib.Omega.{arith}
 use lib.Dec.{leb}
 use borrow.Author.Tests.{leb-true, leb-false}
 use Rattle.numbers.proofs.Cases.{less-or-not}
-use Rattle.probabilities.specs.Fractions.{Fraction, over, plus, times, cutTo, Near}
+use Rattle.probabilities.specs.Fractions.{Fraction, ratio, plus, times, cutTo, Near}
 
 -- ---- sums
 
@@ -48,7 +48,7 @@ near-twice c h x p = record {
 
 -- ---- 1 over a whole number
 
-pub near-one-over : (w : ℕ) → 0 < w → Near 1 (2 ^ 32 / w) (over 1 w)
+pub near-one-over : (w : ℕ) → 0 < w → Near 1 (2 ^ 32 / w) (ratio 1 w)
 near-one-over w p = record {
   low = omega (arith, div-add-mod' (2 ^ 32) w);
   high = omega (arith, div-add-mod' (2 ^ 32) w, mod-lt (2 ^ 32) p, add-mul (2 ^ 32 / w) 1 w);
@@ -78,8 +78,8 @@ product-high h u r a b x y e p q =
       mul-mul-mul-comm a (2 ^ 32) b (2 ^ 32),
     )
 
-pub near-product : (c d e h u a b x y : ℕ) → (h + c) * (u + d) ≤ (h * u / 2 ^ 32 + e) * 2 ^ 32 → Near c h (over a x) → Near d u (over b y)
-    → Near e (h * u / 2 ^ 32) (over (a * b) (x * y))
+pub near-product : (c d e h u a b x y : ℕ) → (h + c) * (u + d) ≤ (h * u / 2 ^ 32 + e) * 2 ^ 32 → Near c h (ratio a x) → Near d u (ratio b y)
+    → Near e (h * u / 2 ^ 32) (ratio (a * b) (x * y))
 near-product c d e h u a b x y room p q = record {
   low = product-low h u (h * u / 2 ^ 32) a b x y (omega arith) (p .low) (q .low);
   high = product-high (h + c) (u + d) (h * u / 2 ^ 32 + e) a b x y room (p .high) (q .high);
@@ -87,7 +87,7 @@ near-product c d e h u a b x y room p q = record {
 
 -- ---- the same number as another fraction
 
-pub near-same : (c h a x b y : ℕ) → 0 < x → a * y ≡ b * x → Near c h (over a x) → Near c h (over b y)
+pub near-same : (c h a x b y : ℕ) → 0 < x → a * y ≡ b * x → Near c h (ratio a x) → Near c h (ratio b y)
 near-same c h a x b y px e p = record {
   low = le-of-mul-le-mul-right {k = x} (omega (arith, mul-le-mul-right y (p .low), mul-right-comm h x y, mul-right-comm a (2 ^ 32) y, mul-right-comm b (2 ^ 32) x, e)) px;
   high = le-of-mul-le-mul-right {k = x} (omega (arith, mul-le-mul-right y (p .high), mul-right-comm (h + c) x y, mul-right-comm a (2 ^ 32) y, mul-right-comm b (2 ^ 32) x, e)) px;
@@ -114,6 +114,6 @@ near-cut c n h x b p = go (leb (n * x .bottom) (x .top)) (leb-true (n * x .botto
         (mul-le-mul-right (x .bottom) (let e : n * 2 ^ 32 ≤ min h (n * 2 ^ 32) + c = omega arith in e)))
         (less-or-not h (n * 2 ^ 32))
 
-    go : (t : Bool) → (t ≡ true → n * x .bottom ≤ x .top) → (t ≡ false → x .top < n * x .bottom) → Near c (min h (n * 2 ^ 32)) (cond t (over n 1) x)
+    go : (t : Bool) → (t ≡ true → n * x .bottom ≤ x .top) → (t ≡ false → x .top < n * x .bottom) → Near c (min h (n * 2 ^ 32)) (cond t (ratio n 1) x)
     go true above under = record { low = omega arith; high = omega (arith, beyond (above refl)) }
     go false above under = record { low = within-low; high = within-high (under refl) }

@@ -14,7 +14,7 @@ use lib.Ieee.Exact.{HasValue}
 use lib.Ieee.Positive.{num, den, den-pos}
 use borrow.Author.Tests.{eqb-false, ltb-true, ltb-false}
 use Rattle.numbers.specs.Floats.{zero⁺, one⁺, saturation}
-use Rattle.probabilities.specs.Fractions.{Fraction, over, cutTo, Near}
+use Rattle.probabilities.specs.Fractions.{Fraction, ratio, cutTo, Near}
 use Rattle.probabilities.specs.Logarithm.{logarithm}
 use Rattle.probabilities.specs.Scaled.{most, scaledSize, scaledAt, scaledOf, floatOf, priorOf}
 use Rattle.probabilities.specs.Exact.{Signed, plain, minus, exactAt, exactPrior, signed, Close}
@@ -41,9 +41,9 @@ close-at a b h = go (eqb a 0) (eqb a b) (ltb (2 * a) b) (eqb-false a 0) (eqb-fal
     go : (s t u : Bool) → (s ≡ false → a ≡ 0 → ⊥) → (t ≡ false → a ≡ b → ⊥) → (u ≡ true → 2 * a < b) → (u ≡ false → b ≤ 2 * a)
         → Close
         (cond s (pos (most * 2 ^ 32)) (cond t (negℤ (pos (most * 2 ^ 32))) (cond u (pos (scaledSize (b - a) a)) (negℤ (pos (scaledSize a (b - a)))))))
-        (cond s (plain (over most 1)) (cond t (minus (over most 1)) (cond u (plain (cutTo most (logarithm (b - a) a))) (minus (cutTo most (logarithm a (b - a)))))))
-    go true t u n o l g = close-plain (most * 2 ^ 32) (over most 1) near-most
-    go false true u n o l g = close-minus (most * 2 ^ 32) (over most 1) near-most
+        (cond s (plain (ratio most 1)) (cond t (minus (ratio most 1)) (cond u (plain (cutTo most (logarithm (b - a) a))) (minus (cutTo most (logarithm a (b - a)))))))
+    go true t u n o l g = close-plain (most * 2 ^ 32) (ratio most 1) near-most
+    go false true u n o l g = close-minus (most * 2 ^ 32) (ratio most 1) near-most
     go false false true n o l g = let p = n refl in let q = l refl in close-plain (scaledSize (b - a) a) (cutTo most (logarithm (b - a) a)) (near-size (b - a) a (omega arith) (omega arith))
     go false false false n o l g =
         let p = n refl in

@@ -7,7 +7,7 @@ use lib.Dec.{eqb, ltb}
 use lib.IntN.{ℤ, pos, negℤ, natAbs}
 use lib.Ieee.{Float}
 use lib.Ieee.Positive.{num, den}
-use Rattle.probabilities.specs.Fractions.{Fraction, over, cutTo, Near}
+use Rattle.probabilities.specs.Fractions.{Fraction, ratio, cutTo, Near}
 use Rattle.probabilities.specs.Logarithm.{logarithm}
 use Rattle.probabilities.specs.Scaled.{most}
 
@@ -26,8 +26,8 @@ minus x = record { below = true; size = x }
 -- the exact prior of the probability a / b. Below a half it is ln ((b - a) / a), and from there on -(ln (a / (b - a))), which is the same number.
 unfoldable pub exactAt : ℕ → ℕ → Signed
 exactAt a b =
-    cond (eqb a 0) (plain (over most 1))
-    (cond (eqb a b) (minus (over most 1))
+    cond (eqb a 0) (plain (ratio most 1))
+    (cond (eqb a b) (minus (ratio most 1))
     (cond (ltb (2 * a) b) (plain (cutTo most (logarithm (b - a) a)))
     (minus (cutTo most (logarithm a (b - a))))))
 

@@ -6,11 +6,11 @@
 -- The terms from the 11th on sum to less than 1.02 * 10 ^ -11, twice taken, which is 0.044 of 2 ^ -32; `ln2` is less than 1.2 * 10 ^ -20 from ln 2.
 use Prim.Native.Nat.{ℕ, zero, suc, _+_, _-_, _*_, _/_, _^_}
 use lib.Ieee.{size}
-use Rattle.probabilities.specs.Fractions.{Fraction, over, plus, times}
+use Rattle.probabilities.specs.Fractions.{Fraction, ratio, plus, times}
 
 -- ln 2, to the nearest 2 ^ -64
 abbrev pub ln2 : Fraction
-ln2 = over 12786308645202655660 (2 ^ 64)
+ln2 = ratio 12786308645202655660 (2 ^ 64)
 
 -- how many powers of two are taken out of a / b: the greatest k with b * 2 ^ k <= a, one less than the binary digits of its whole part
 unfoldable pub twos : ℕ → ℕ → ℕ
@@ -18,15 +18,15 @@ twos a b = size (a / b) - 1
 
 -- the t of a / b: (a - b * 2 ^ k) / (a + b * 2 ^ k)
 abbrev pub tangent : ℕ → ℕ → ℕ → Fraction
-tangent k a b = over (a - b * 2 ^ k) (a + b * 2 ^ k)
+tangent k a b = ratio (a - b * 2 ^ k) (a + b * 2 ^ k)
 
 -- t ^ n / n
 abbrev pub powerOver : ℕ → Fraction → Fraction
-powerOver n t = over (t .top ^ n) (n * t .bottom ^ n)
+powerOver n t = ratio (t .top ^ n) (n * t .bottom ^ n)
 
 -- t ^ (2 j + 1) / (2 j + 1) + t ^ (2 j + 3) / (2 j + 3) + .., n terms
 unfoldable pub termsFrom : ℕ → ℕ → Fraction → Fraction
-termsFrom zero j t = over 0 1
+termsFrom zero j t = ratio 0 1
 termsFrom (suc n) j t = plus (powerOver (2 * j + 1) t) (termsFrom n (suc j) t)
 
 -- the terms that are summed

@@ -193,7 +193,7 @@ pub fn prior_of(p: f64, mechanism: usize) -> PriorAnswer
 // ---- lists of them
 
 // 8: the first that is no probability.
-pub fn probabilities_fault(probabilities: &[f64]) -> Answer
+fn probabilities_fault(probabilities: &[f64]) -> Answer
     ensures { λ r. ⌜ r ≡ firstOf (length (now (probabilities .entry))) (probabilityFault (now (probabilities .entry))) ⌝ }
 {
     let mut m = 0;
