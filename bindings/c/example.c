@@ -51,6 +51,13 @@ static uint64_t build(const double *some_priors, graph *g) {
         g->var_check, EDGES, g->var_message, EDGES, g->var_offset, MECHANISMS + 1);
 }
 
+static uint64_t build_of_probabilities(const double *probabilities, double *made_priors, graph *g) {
+    return chowderkite_build_sparse_probabilities(
+        CHECKS, MECHANISMS, EDGES, probabilities, MECHANISMS, detector_offsets, MECHANISMS + 1, detectors, EDGES,
+        made_priors, MECHANISMS, g->check_var, EDGES, g->check_offset, CHECKS + 1,
+        g->var_check, EDGES, g->var_message, EDGES, g->var_offset, MECHANISMS + 1);
+}
+
 /* Alpha 1, gamma0 0, two iterations, no relayed legs: R3's settings under a schedule and in an order, or in index order
  * where the order is NULL. */
 static uint64_t decode(const graph *g, uint8_t schedule, const uint32_t *order, decoded *d) {
@@ -152,6 +159,36 @@ int main(void) {
                code == CHOWDERKITE_DONE && memcmp(g.check_offset, check_offset, sizeof check_offset) == 0
                    && memcmp(g.var_offset, var_offset, sizeof var_offset) == 0
                    && g.var_message[1] == 1 && g.var_message[2] == 2);
+    }
+
+    /* The model by probabilities instead: the same graph, and the priors beside it. */
+    {
+        const double probabilities[MECHANISMS] = {0.01, 0.25, 0.5}, bad[MECHANISMS] = {0.01, 0.25, 1.5};
+        const double wanted[MECHANISMS] = {19735889468.0 / 4294967296.0, 4718503847.0 / 4294967296.0, 0.0};
+        double made[MECHANISMS], before[MECHANISMS], prior[1];
+        int64_t scaled[1];
+        graph of_probabilities;
+        uint64_t code;
+        memset(&of_probabilities, 9, sizeof of_probabilities);
+        memset(made, 9, sizeof made);
+        memcpy(&before_graph, &of_probabilities, sizeof before_graph);
+        memcpy(before, made, sizeof made);
+        code = build_of_probabilities(bad, made, &of_probabilities);
+        expect("a probability of 1.5 is refused with 8 at its mechanism, 2",
+               chowderkite_number_of(code) == CHOWDERKITE_BAD_PROBABILITY && chowderkite_has_place(code)
+                   && chowderkite_place_of(code) == 2);
+        expect("and the priors and graph lists are as they were",
+               memcmp(made, before, sizeof made) == 0
+                   && memcmp(&of_probabilities, &before_graph, sizeof before_graph) == 0);
+        code = build_of_probabilities(probabilities, made, &of_probabilities);
+        printf("probabilities %g, %g, %g have priors %g, %g, %g\n", probabilities[0], probabilities[1], probabilities[2],
+               made[0], made[1], made[2]);
+        expect("probabilities 0.01, 0.25, 0.5: the same graph, and their priors",
+               code == CHOWDERKITE_DONE && memcmp(&of_probabilities, &g, sizeof g) == 0
+                   && memcmp(made, wanted, sizeof made) == 0);
+        code = chowderkite_prior_of(probabilities[0], 0, prior, scaled);
+        expect("the prior of 0.01 is 19735889468 / 2^32",
+               code == CHOWDERKITE_DONE && scaled[0] == 19735889468 && memcmp(prior, wanted, sizeof prior) == 0);
     }
 
     /* R8 */

@@ -1,19 +1,13 @@
 //! A model of one's own: the repetition code of 9 qubits, decoded for some random shots.
 //!
-//! To adapt it, replace `repetition_code`: how many checks there are, and for each mechanism its prior and the checks that it
-//! sets off.
+//! To adapt it, replace `repetition_code`: how many checks there are, and for each mechanism its probability and the checks that
+//! it sets off.
 
 use chowderkite::{BpGraph, Error, RelayBp, RelayConfig};
 
 const QUBITS: usize = 9;
 const FLIP: f64 = 0.08;
 const SHOTS: u64 = 12;
-
-/// The log ratio of a probability. The crate takes it ready made, since `ln` may differ in its last bits from one library to
-/// another: keep the log ratios with the model.
-fn prior(p: f64) -> f64 {
-    ((1.0 - p) / p).ln().clamp(-30.0, 30.0)
-}
 
 /// Check `c` compares the qubits `c` and `c + 1`. A mechanism is the flip of one qubit.
 fn repetition_code() -> Result<BpGraph, Error> {
@@ -25,10 +19,10 @@ fn repetition_code() -> Result<BpGraph, Error> {
                 .into_iter()
                 .flatten()
                 .filter(|&check| check < checks);
-            (prior(FLIP), inside.map(|check| check as u32).collect())
+            (FLIP, inside.map(|check| check as u32).collect())
         })
         .collect();
-    BpGraph::from_sparse(checks, &mechanisms)
+    BpGraph::from_probabilities(checks, &mechanisms)
 }
 
 /// The checks that an odd number of these mechanisms sets off.

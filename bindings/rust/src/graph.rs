@@ -25,19 +25,23 @@ pub struct GraphLists {
 
 /// A Tanner graph with its priors: built once, used for every shot.
 ///
-/// Each prior is a log ratio `ln((1 - p) / p)` from -30 to 30; [the crate's front page](crate#priors) says why, and how to
-/// make one.
+/// It is given by probabilities, or by priors: log ratios `ln((1 - p) / p)` from -30 to 30. [The crate's front page](crate#priors)
+/// says how the one makes the other.
 ///
 /// ```
 /// use chowderkite::BpGraph;
 ///
-/// let graph = BpGraph::from_sparse(2, &[(4.0, vec![0]), (4.0, vec![0, 1]), (4.0, vec![1])])?;
+/// let graph = BpGraph::from_probabilities(2, &[(0.01, vec![0]), (0.02, vec![0, 1]), (0.01, vec![1])])?;
 /// assert_eq!((graph.check_count(), graph.mechanism_count(), graph.edge_count()), (2, 3, 4));
 /// assert_eq!(graph.detectors(1), [0, 1]);
 /// assert_eq!(graph.mechanisms(0), [0, 1]);
 ///
-/// let dense = BpGraph::from_dense(2, vec![4.0; 3], &[1, 1, 0, 0, 1, 1])?;
+/// let dense = BpGraph::from_dense_probabilities(2, &[0.01, 0.02, 0.01], &[1, 1, 0, 0, 1, 1])?;
 /// assert_eq!(dense, graph);
+///
+/// let priors = graph.prior_llrs().to_vec();
+/// let of_priors = BpGraph::from_dense(2, priors, &[1, 1, 0, 0, 1, 1])?;
+/// assert_eq!(of_priors, graph);
 /// # Ok::<(), chowderkite::Error>(())
 /// ```
 #[derive(Clone, Debug, PartialEq)]
@@ -51,31 +55,105 @@ pub struct BpGraph {
 }
 
 impl BpGraph {
-    /// The graph of a sparse model: a prior and detectors for each mechanism, detectors in any order. Those of a mechanism with
-    /// thousands should rise: from the first that does not, each is compared with all before it.
+    /// The graph of a sparse model that is given by probabilities: a probability and detectors for each mechanism, detectors in
+    /// any order. Those of a mechanism with thousands should rise: from the first that does not, each is compared with all before
+    /// it. [`prior_llrs`](Self::prior_llrs) then has the priors that the archive made, as [`prior_of`](crate::prior_of) has each.
+    ///
+    /// # Errors
+    ///
+    /// 1; then mechanism by mechanism 8, 5, 6: the probability, then each detector in its order, range before repeat.
+    #[doc(alias = "from_sparse_dem")]
+    pub fn from_probabilities<D: AsRef<[u32]>>(
+        checks: usize,
+        mechanisms: &[(f64, D)],
+    ) -> Result<Self, Error> {
+        let flat = Flat::of(mechanisms);
+        Self::from_probability_lists(checks, &flat.numbers, &flat.offsets, &flat.detectors)
+    }
+
+    /// The graph of a sparse model that is given by probabilities, in flat lists: mechanism `m` has the detectors
+    /// `detectors[detector_offsets[m]..detector_offsets[m + 1]]`. There are as many mechanisms as probabilities.
+    ///
+    /// ```
+    /// use chowderkite::BpGraph;
+    ///
+    /// let flat = BpGraph::from_probability_lists(2, &[0.01; 3], &[0, 1, 3, 4], &[0, 0, 1, 1])?;
+    /// let nested = BpGraph::from_probabilities(2, &[(0.01, vec![0]), (0.01, vec![0, 1]), (0.01, vec![1])])?;
+    /// assert_eq!(flat, nested);
+    /// # Ok::<(), chowderkite::Error>(())
+    /// ```
+    ///
+    /// # Errors
+    ///
+    /// 1, 2, 3; then mechanism by mechanism 8, 5, 6.
+    pub fn from_probability_lists(
+        checks: usize,
+        probabilities: &[f64],
+        detector_offsets: &[u32],
+        detectors: &[u32],
+    ) -> Result<Self, Error> {
+        let size = Size {
+            checks,
+            mechanisms: probabilities.len(),
+            edges: detectors.len(),
+        };
+        Self::built(size, vec![0.0; size.mechanisms], |priors, graph| {
+            calls::build_sparse_probabilities(
+                size.checks,
+                size.mechanisms,
+                size.edges,
+                probabilities,
+                detector_offsets,
+                detectors,
+                calls::MadeLists { priors, graph },
+            )
+        })
+    }
+
+    /// The graph of a dense matrix and of probabilities. The matrix lies check by check: byte `c * mechanisms + m` is not 0 where
+    /// mechanism `m` sets off check `c`. There are as many mechanisms as probabilities.
+    ///
+    /// # Errors
+    ///
+    /// 1 for the counts, 2 for the matrix, 1 for the edges, then 8.
+    #[doc(alias = "from_dcm")]
+    pub fn from_dense_probabilities(
+        checks: usize,
+        probabilities: &[f64],
+        matrix: &[u8],
+    ) -> Result<Self, Error> {
+        version::check();
+        let size = Size {
+            checks,
+            mechanisms: probabilities.len(),
+            edges: calls::count_edges(matrix),
+        };
+        Self::built(size, vec![0.0; size.mechanisms], |priors, graph| {
+            calls::build_dense_probabilities(
+                size.checks,
+                size.mechanisms,
+                probabilities,
+                matrix,
+                calls::MadeLists { priors, graph },
+            )
+        })
+    }
+
+    /// The graph of a sparse model that is given by priors: as [`from_probabilities`](Self::from_probabilities), with a log ratio
+    /// for each mechanism in the place of its probability.
     ///
     /// # Errors
     ///
     /// 1; then mechanism by mechanism 4, 5, 6: the prior, then each detector in its order, range before repeat.
-    #[doc(alias = "from_sparse_dem")]
     pub fn from_sparse<D: AsRef<[u32]>>(
         checks: usize,
         mechanisms: &[(f64, D)],
     ) -> Result<Self, Error> {
-        let mut priors = Vec::with_capacity(mechanisms.len());
-        let mut offsets = Vec::with_capacity(mechanisms.len() + 1);
-        let mut detectors = Vec::new();
-        offsets.push(0);
-        for (prior, list) in mechanisms {
-            priors.push(*prior);
-            detectors.extend_from_slice(list.as_ref());
-            // A length that does not fit is far above the limit of edges, which is refused before offsets are read.
-            offsets.push(u32::try_from(detectors.len()).unwrap_or(u32::MAX));
-        }
-        Self::from_sparse_lists(checks, priors, &offsets, &detectors)
+        let flat = Flat::of(mechanisms);
+        Self::from_sparse_lists(checks, flat.numbers, &flat.offsets, &flat.detectors)
     }
 
-    /// The graph of a sparse model in flat lists: mechanism `m` has the detectors
+    /// The graph of a sparse model that is given by priors, in flat lists: mechanism `m` has the detectors
     /// `detectors[detector_offsets[m]..detector_offsets[m + 1]]`. There are as many mechanisms as priors.
     ///
     /// ```
@@ -114,13 +192,12 @@ impl BpGraph {
         })
     }
 
-    /// The graph of a dense matrix, which lies check by check: byte `c * mechanisms + m` is not 0 where mechanism `m` sets off
-    /// check `c`. There are as many mechanisms as priors.
+    /// The graph of a dense matrix and of priors. The matrix lies check by check: byte `c * mechanisms + m` is not 0 where
+    /// mechanism `m` sets off check `c`. There are as many mechanisms as priors.
     ///
     /// # Errors
     ///
     /// 1 for the counts, 2 for the matrix, 1 for the edges, then 4.
-    #[doc(alias = "from_dcm")]
     pub fn from_dense(checks: usize, priors: Vec<f64>, matrix: &[u8]) -> Result<Self, Error> {
         version::check();
         let size = Size {
@@ -161,12 +238,13 @@ impl BpGraph {
         Ok(graph)
     }
 
-    /// The graph whose lists a call fills. They have lengths that fit, but are empty where a size is above its limit, so that
-    /// nothing huge is allocated for a call that refuses with 1 before it looks at a graph list.
+    /// The graph whose lists a call fills, and whose priors it reads or fills too. The lists have lengths that fit, but are empty
+    /// where a size is above its limit, so that nothing huge is allocated for a call that refuses with 1 before it looks at a
+    /// graph list.
     fn built(
         size: Size,
-        priors: Vec<f64>,
-        call: impl FnOnce(&[f64], calls::GraphLists) -> u64,
+        mut priors: Vec<f64>,
+        call: impl FnOnce(&mut [f64], calls::GraphLists) -> u64,
     ) -> Result<Self, Error> {
         let Size {
             checks,
@@ -180,7 +258,7 @@ impl BpGraph {
             lists::GraphLists::default()
         };
         version::check();
-        Error::of_code(call(&priors, lists.written()))?;
+        Error::of_code(call(&mut priors, lists.written()))?;
         Ok(Self {
             checks,
             mechanisms,
@@ -238,7 +316,7 @@ impl BpGraph {
         self.edges
     }
 
-    /// The priors, one log ratio for each mechanism, as they were handed in.
+    /// The priors, one log ratio for each mechanism, as they were handed in or made of probabilities.
     #[must_use]
     pub fn prior_llrs(&self) -> &[f64] {
         &self.priors
@@ -268,6 +346,33 @@ impl BpGraph {
     #[must_use]
     pub fn mechanisms(&self, check: usize) -> &[u32] {
         &self.lists.check_var[part(&self.lists.check_offset, check)]
+    }
+}
+
+/// A sparse model in flat lists: priors or probabilities, detector offsets and detectors.
+struct Flat {
+    numbers: Vec<f64>,
+    offsets: Vec<u32>,
+    detectors: Vec<u32>,
+}
+
+impl Flat {
+    fn of<D: AsRef<[u32]>>(mechanisms: &[(f64, D)]) -> Self {
+        let mut numbers = Vec::with_capacity(mechanisms.len());
+        let mut offsets = Vec::with_capacity(mechanisms.len() + 1);
+        let mut detectors = Vec::new();
+        offsets.push(0);
+        for (number, list) in mechanisms {
+            numbers.push(*number);
+            detectors.extend_from_slice(list.as_ref());
+            // A length that does not fit is far above the limit of edges, which is refused before offsets are read.
+            offsets.push(u32::try_from(detectors.len()).unwrap_or(u32::MAX));
+        }
+        Self {
+            numbers,
+            offsets,
+            detectors,
+        }
     }
 }
 

@@ -13,12 +13,13 @@
 //!
 //! # Quick start
 //!
-//! Two checks and three mechanisms, which set off the checks {0}, {0, 1} and {1}:
+//! Two checks and three mechanisms, which set off the checks {0}, {0, 1} and {1}, each with its probability:
 //!
 //! ```
 //! use chowderkite::{BpGraph, RelayBp, RelayConfig};
 //!
-//! let graph = BpGraph::from_sparse(2, &[(4.0, vec![0]), (4.0, vec![0, 1]), (4.0, vec![1])])?;
+//! let graph = BpGraph::from_probabilities(2, &[(0.01, vec![0]), (0.02, vec![0, 1]), (0.01, vec![1])])?;
+//! let prior = graph.prior_llrs()[0]; // 4.595, which is ln(99)
 //! let config = RelayConfig {
 //!     gamma0: 0.0,
 //!     pre_iterations: 2,
@@ -29,27 +30,34 @@
 //! let outcome = decoder.decode(&[1, 0], 7)?;
 //! assert!(outcome.converged);
 //! assert_eq!(outcome.correction, [1, 0, 0]);
-//! assert_eq!(outcome.weight, Some(4.0));
-//! assert_eq!(outcome.posterior, [-4.0, 4.0, 4.0]);
+//! assert_eq!(outcome.weight, Some(prior));
 //! assert_eq!(outcome.total_iterations, 2);
 //! # Ok::<(), chowderkite::Error>(())
 //! ```
 //!
 //! # Priors
 //!
-//! A mechanism's prior is the log ratio `ln((1 - p) / p)` of its probability `p`, from -30 to 30. It comes ready made: `ln` is
-//! no IEEE 754 operation, so its last bits depend on the library that takes it, and a result must not. Take it once, with the
-//! `ln` that you have, and keep the log ratio with the model: it is the log ratio that belongs to a result's key, and not `p`.
-//! This one gives what `pecos-bp`'s `prior_llrs` gives over the same `ln`:
+//! A decode reckons with priors: a mechanism's is the log ratio `ln((1 - p) / p)` of its probability `p`, cut to -30 and 30. Give
+//! probabilities, and the archive makes the priors: [`BpGraph::from_probabilities`], [`BpGraph::from_probability_lists`] and
+//! [`BpGraph::from_dense_probabilities`] take them, [`BpGraph::prior_llrs`] has what became of them, and [`prior_of`] and
+//! [`priors_of`] make priors without a graph.
+//!
+//! `ln` is no IEEE 754 operation, so its last bits depend on the library that takes it, and a result must not. So the archive
+//! takes none: it works the prior out in whole numbers of 2^-32, by one definition that [`prior_of`] tells, and a probability has
+//! the same prior on every machine, bit for bit. A result's key may hold either, the prior or the probability: a probability
+//! has one prior, and a prior one result.
+//!
+//! Who has log ratios hands them in: [`BpGraph::from_sparse`], [`BpGraph::from_sparse_lists`], [`BpGraph::from_dense`]. They are
+//! taken as they are, so the key holds the log ratio then, and not the probability that some `ln` made it of. A model of
+//! `pecos-bp` keeps its results to the last bit by the log ratios that `pecos-bp` has, for they are its library's `ln`:
 //!
 //! ```
-//! fn prior(p: f64) -> f64 {
-//!     ((1.0 - p) / p).ln().clamp(-30.0, 30.0)
-//! }
+//! use chowderkite::{prior_of, BpGraph};
 //!
-//! assert_eq!(prior(0.5), 0.0);
-//! assert_eq!((prior(0.0), prior(1.0)), (30.0, -30.0));
-//! let graph = chowderkite::BpGraph::from_sparse(1, &[(prior(0.01), vec![0]), (prior(0.02), vec![0])])?;
+//! let theirs = ((1.0 - 0.01) / 0.01_f64).ln().clamp(-30.0, 30.0);
+//! let graph = BpGraph::from_sparse(1, &[(theirs, vec![0])])?;
+//! assert_eq!(graph.prior_llrs(), [theirs]);
+//! assert!((theirs - prior_of(0.01)?.value).abs() < 1e-7);
 //! # Ok::<(), chowderkite::Error>(())
 //! ```
 //!
@@ -62,7 +70,8 @@
 //!
 //! | There | Here |
 //! |---|---|
-//! | `BpGraph::from_sparse_dem`, `from_dcm` | [`BpGraph::from_sparse`], [`BpGraph::from_dense`], of log ratios |
+//! | `BpGraph::from_sparse_dem`, `from_dcm` | [`BpGraph::from_probabilities`], [`BpGraph::from_dense_probabilities`] |
+//! | priors by the library's `ln` | by a fixed definition, some 2^-32 nearer to 0; [`BpGraph::from_sparse`], [`BpGraph::from_dense`] take log ratios |
 //! | `min_sum_bp_into` | [`min_sum_into`], and [`min_sum()`], which allocates |
 //! | `RelayConfig::explicit_gammas` | [`GammaSource::Explicit`], flat, in [`RelayConfig::gamma_source`] |
 //! | gammas drawn by PECOS's generator | SplitMix64: other gammas for the same seed; [`GammaSource::drawn`] hands them out |
@@ -89,6 +98,7 @@ mod error;
 mod graph;
 mod iteration;
 mod min_sum;
+mod prior;
 mod relay;
 mod shots;
 mod version;
@@ -97,6 +107,7 @@ pub use error::{Error, Refusal};
 pub use graph::{BpGraph, GraphLists};
 pub use iteration::{iteration, RelayState};
 pub use min_sum::{min_sum, min_sum_into, BpScratch};
+pub use prior::{prior_of, priors_of, Prior, Priors};
 pub use relay::{GammaSource, LegOutcome, RelayBp, RelayConfig, RelayOutcome, Schedule};
 pub use shots::Shots;
 

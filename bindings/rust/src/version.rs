@@ -3,8 +3,8 @@
 use chowderkite_sys::{chowderkite_version, VERSION};
 use std::sync::OnceLock;
 
-/// Stands before the first call that anything here makes: where a graph is built, settings are asked for or tested, and a
-/// stream begins.
+/// Stands before the first call that anything here makes: where a graph is built, priors are made, settings are asked for or
+/// tested, and a stream begins.
 ///
 /// # Panics
 ///

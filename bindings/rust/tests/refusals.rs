@@ -3,8 +3,9 @@
 mod common;
 
 use chowderkite::{
-    iteration, min_sum, min_sum_into, BpGraph, BpScratch, Error, GammaSource, GraphLists, Refusal,
-    RelayBp, RelayConfig, RelayState, Schedule, MAX_CHECKS, MAX_COUNT, MAX_EDGES, MAX_MECHANISMS,
+    iteration, min_sum, min_sum_into, prior_of, priors_of, BpGraph, BpScratch, Error, GammaSource,
+    GraphLists, Refusal, RelayBp, RelayConfig, RelayState, Schedule, MAX_CHECKS, MAX_COUNT,
+    MAX_EDGES, MAX_MECHANISMS,
 };
 use common::{bits, model_g, plain};
 use Schedule::{CheckSerial, Flooding};
@@ -83,6 +84,16 @@ fn refusal_1() {
     let side = 1025;
     let matrix = vec![1; side * side];
     refused(BpGraph::from_dense(side, vec![4.0; side], &matrix));
+
+    refused(BpGraph::from_probabilities(MAX_CHECKS + 1, &none));
+    refused(BpGraph::from_probabilities(1, &many));
+    refused(BpGraph::from_probabilities(1, &[(4.0, &detectors)]));
+    refused(BpGraph::from_dense_probabilities(usize::MAX, &[0.1], &[]));
+    refused(BpGraph::from_dense_probabilities(
+        side,
+        &vec![4.0; side],
+        &matrix,
+    ));
 }
 
 #[test]
@@ -92,6 +103,10 @@ fn refusal_2() {
     refused(BpGraph::from_sparse_lists(2, vec![4.0], &[0, 1, 1], &[0]));
     refused(BpGraph::from_dense(2, vec![4.0; 3], &[1; 5]));
     refused(BpGraph::from_dense(2, vec![4.0; 3], &[1; 7]));
+    refused(BpGraph::from_probability_lists(2, &[0.1], &[0], &[]));
+    refused(BpGraph::from_probability_lists(2, &[0.1], &[0, 1, 1], &[0]));
+    refused(BpGraph::from_dense_probabilities(2, &[4.0; 3], &[1; 5]));
+    refused(BpGraph::from_dense_probabilities(2, &[4.0; 3], &[1; 7]));
     refused(BpGraph::from_lists(
         3,
         vec![4.0; 3],
@@ -105,6 +120,11 @@ fn refusal_3() {
     for offsets in [[1, 1], [0, 1], [0, 3], [3, 2]] {
         assert_refused(
             BpGraph::from_sparse_lists(2, vec![4.0], &offsets, &[0, 1]),
+            Refusal::BadDetectorOffsets,
+            None,
+        );
+        assert_refused(
+            BpGraph::from_probability_lists(2, &[4.0], &offsets, &[0, 1]),
             Refusal::BadDetectorOffsets,
             None,
         );
@@ -145,6 +165,43 @@ fn refusal_7() {
         BpGraph::from_lists(2, vec![4.0; 3], lists),
         Refusal::NoSuchGraph,
         None,
+    );
+}
+
+/// Where 4 stands when priors are given.
+#[test]
+fn refusal_8() {
+    let model = |second: (f64, Vec<u32>)| {
+        BpGraph::from_probabilities(2, &[(0.1, vec![0]), second, (f64::NAN, vec![9])])
+    };
+    for bad in [f64::NAN, -0.1, 1.5, -5e-324, f64::INFINITY] {
+        let refusal = Refusal::BadProbability;
+        assert_refused(prior_of(bad), refusal, Some(0));
+        assert_refused(priors_of(&[0.1, 1.0, bad, bad]), refusal, Some(2));
+        // Before the mechanism's own detectors,
+        assert_refused(model((bad, vec![9])), refusal, Some(1));
+        assert_refused(model((bad, vec![1, 1])), refusal, Some(1));
+        assert_refused(
+            BpGraph::from_dense_probabilities(1, &[0.1, bad, bad], &[1, 1, 0]),
+            refusal,
+            Some(1),
+        );
+    }
+    // and behind the detectors of an earlier one.
+    assert_refused(
+        model((0.0, vec![1, 2, 1])),
+        Refusal::DetectorOutOfRange,
+        Some(1),
+    );
+    assert_refused(
+        model((1.0, vec![1, 1, 2])),
+        Refusal::DetectorRepeated,
+        Some(1),
+    );
+    assert_refused(model((-0.0, vec![1])), Refusal::BadProbability, Some(2));
+    assert_eq!(
+        prior_of(1.5).unwrap_err().to_string(),
+        "refused with 8, BadProbability, at mechanism 0: probability NaN, below 0 or above 1"
     );
 }
 
