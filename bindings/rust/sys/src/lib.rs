@@ -1,4 +1,4 @@
-//! The 17 calls of the archive `libexports.a`, declared for Rust. The build links the archive.
+//! The 21 calls of the archive `libexports.a`, declared for Rust. The build links the archive.
 //!
 //! A slice passes as a pointer and then its length, an array as a pointer alone, and an answer as a code: 0, or a refusal's
 //! number plus 65,536 times its place. `bindings/c/chowderkite.h` says of each call which lengths its lists have, what it leaves
@@ -98,6 +98,71 @@ unsafe extern "C" {
         var_message_len: usize,
         var_offset: *const u32,
         var_offset_len: usize,
+    ) -> u64;
+
+    /// Builds the graph of a sparse model that is given by probabilities, and writes its priors.
+    pub unsafe fn chowderkite_build_sparse_probabilities(
+        checks: usize,
+        mechanisms: usize,
+        edges: usize,
+        probabilities: *const f64,
+        probabilities_len: usize,
+        detector_offsets: *const u32,
+        detector_offsets_len: usize,
+        detectors: *const u32,
+        detectors_len: usize,
+        priors: *mut f64,
+        priors_len: usize,
+        check_var: *mut u32,
+        check_var_len: usize,
+        check_offset: *mut u32,
+        check_offset_len: usize,
+        var_check: *mut u32,
+        var_check_len: usize,
+        var_message: *mut u32,
+        var_message_len: usize,
+        var_offset: *mut u32,
+        var_offset_len: usize,
+    ) -> u64;
+
+    /// Builds the graph of a dense model that is given by probabilities, and writes its priors.
+    pub unsafe fn chowderkite_build_dense_probabilities(
+        checks: usize,
+        mechanisms: usize,
+        probabilities: *const f64,
+        probabilities_len: usize,
+        matrix: *const u8,
+        matrix_len: usize,
+        priors: *mut f64,
+        priors_len: usize,
+        check_var: *mut u32,
+        check_var_len: usize,
+        check_offset: *mut u32,
+        check_offset_len: usize,
+        var_check: *mut u32,
+        var_check_len: usize,
+        var_message: *mut u32,
+        var_message_len: usize,
+        var_offset: *mut u32,
+        var_offset_len: usize,
+    ) -> u64;
+
+    /// Writes the prior of a mechanism's probability, and the prior times 2^32.
+    pub unsafe fn chowderkite_prior_of(
+        probability: f64,
+        mechanism: usize,
+        prior: *mut [f64; 1],
+        scaled: *mut [i64; 1],
+    ) -> u64;
+
+    /// Writes the priors of probabilities, and the priors times 2^32.
+    pub unsafe fn chowderkite_priors_of(
+        probabilities: *const f64,
+        probabilities_len: usize,
+        priors: *mut f64,
+        priors_len: usize,
+        scaled: *mut i64,
+        scaled_len: usize,
     ) -> u64;
 
     /// Min-sum beliefs.
