@@ -1,7 +1,9 @@
 /* Chowderkite's calls, as the archive libexports.a has them.
  *
  * Version: chowderkite_version.
- * Graph: chowderkite_build_sparse, _build_dense, _count_edges, _check_graph.
+ * Graph: chowderkite_build_sparse, _build_dense, _count_edges, _check_graph; of probabilities _build_sparse_probabilities,
+ *   _build_dense_probabilities.
+ * Priors: chowderkite_prior_of, _priors_of.
  * Beliefs: chowderkite_beliefs.
  * Relay-BP: chowderkite_published, _check_settings, _decode, _decode_in_order, _leg_record, _iteration.
  * Refusals: chowderkite_number_of, _place_of.
@@ -26,8 +28,9 @@
  *
  * Link a program with libexports.a, which wants memset and memcpy of the C library and nothing else.
  *
- * Priors are log ratios ln((1 - p) / p), from -30 to 30. They come ready made, since ln is no IEEE 754 operation, and a
- * result must not depend on the library that took it.
+ * Priors are log ratios ln((1 - p) / p), from -30 to 30. They are given as they are, or made here of probabilities. ln is no
+ * IEEE 754 operation, and a result must not depend on the library that took it: so the calls of probabilities work it out in
+ * whole numbers by one definition, and a probability has the same prior on every machine, bit for bit.
  *
  * Licence: Apache-2.0, see NOTICE. */
 #ifndef CHOWDERKITE_H
@@ -61,8 +64,9 @@ uint64_t chowderkite_version(void);
 /* of a prior's magnitude */
 #define CHOWDERKITE_MAX_PRIOR 30.0
 
-/* ---- codes: 0 where nothing is refused, else the refusal's number plus 65536 times its place. No call gives 8, 9, 26 to
- * 29, or any from 46 on: they are kept for calls to come. */
+/* ---- codes: 0 where nothing is refused, else the refusal's number plus 65536 times its place. A code keeps the place modulo
+ * 2^32; only those of chowderkite_prior_of and chowderkite_priors_of can reach that. No call gives 9, 26 to 29, or any from
+ * 46 on: they are kept for calls to come. */
 
 enum chowderkite_refusal {
     CHOWDERKITE_DONE = 0,
@@ -211,6 +215,66 @@ uint64_t chowderkite_check_graph(
     const uint32_t *var_check, size_t var_check_len,
     const uint32_t *var_message, size_t var_message_len,
     const uint32_t *var_offset, size_t var_offset_len);
+
+/* Builds the graph of a sparse model that is given by probabilities, and the priors to be lent beside it: as
+ * chowderkite_build_sparse of the priors that chowderkite_priors_of makes. Lengths: probabilities and priors mechanisms, the
+ * others as there. Leaves each mechanism's prior in priors, and the graph in its five lists. Refuses with 1, 2, 3, then
+ * mechanism by mechanism 8, 5, 6, where a mechanism's probability comes first and then each detector in list order, range
+ * before repeat. */
+uint64_t chowderkite_build_sparse_probabilities(
+    size_t checks,
+    size_t mechanisms,
+    size_t edges,
+    const double *probabilities, size_t probabilities_len,
+    const uint32_t *detector_offsets, size_t detector_offsets_len,
+    const uint32_t *detectors, size_t detectors_len,
+    double *priors, size_t priors_len,
+    uint32_t *check_var, size_t check_var_len,
+    uint32_t *check_offset, size_t check_offset_len,
+    uint32_t *var_check, size_t var_check_len,
+    uint32_t *var_message, size_t var_message_len,
+    uint32_t *var_offset, size_t var_offset_len);
+
+/* Builds the graph of a dense model that is given by probabilities, and the priors to be lent beside it: as
+ * chowderkite_build_dense of the priors that chowderkite_priors_of makes. Lengths: probabilities and priors mechanisms, the
+ * others as there. Leaves each mechanism's prior in priors, and the graph in its five lists. Refuses with 1 for the counts, 2
+ * for matrix and probabilities, 1 for the edges, 2 for priors and the graph lists, then 8. */
+uint64_t chowderkite_build_dense_probabilities(
+    size_t checks,
+    size_t mechanisms,
+    const double *probabilities, size_t probabilities_len,
+    const uint8_t *matrix, size_t matrix_len,
+    double *priors, size_t priors_len,
+    uint32_t *check_var, size_t check_var_len,
+    uint32_t *check_offset, size_t check_offset_len,
+    uint32_t *var_check, size_t var_check_len,
+    uint32_t *var_message, size_t var_message_len,
+    uint32_t *var_offset, size_t var_offset_len);
+
+/* ---- priors of probabilities
+ *
+ * The prior of a probability p is ln((1 - p) / p), cut to -30 and 30: 30 at 0 and at -0.0, -30 at 1, positive zero at 1/2. It
+ * is worked out in whole numbers of 2^-32 (powers of two taken out, then ten terms of the series of 2 artanh, each step
+ * rounded towards zero), as crates/probabilities/specs/Scaled.antt defines. The calls write that whole number too, scaled:
+ * the prior is exactly scaled / 2^32.
+ *
+ * It is never further from 0 than those terms exactly summed, cut likewise, and at most 256 of 2^-32 nearer. A larger p
+ * never has a larger prior. Where 1 - p is a float, its prior is the negative of p's. */
+
+/* The prior of one probability into prior, and the whole number into scaled. Refuses with 8, and its place is the mechanism
+ * that the caller says, modulo 2^32. */
+uint64_t chowderkite_prior_of(
+    double probability,
+    size_t mechanism,
+    double prior[1],
+    int64_t scaled[1]);
+
+/* The priors of a list of probabilities into priors, and the whole numbers into scaled. Lengths: both that of probabilities,
+ * which has no limit. Refuses with 2, then 8, whose place is the first index that is at fault, modulo 2^32. */
+uint64_t chowderkite_priors_of(
+    const double *probabilities, size_t probabilities_len,
+    double *priors, size_t priors_len,
+    int64_t *scaled, size_t scaled_len);
 
 /* ---- min-sum beliefs */
 

@@ -27,6 +27,13 @@ pub struct GraphLists<'a> {
     pub var_offset: &'a mut [u32],
 }
 
+/// What a graph that is given by probabilities has, to be written.
+#[derive(Debug)]
+pub struct MadeLists<'a> {
+    pub priors: &'a mut [f64],
+    pub graph: GraphLists<'a>,
+}
+
 /// Settings of Relay. `schedule` is 0 for Flooding, and `explicit` is 0 for gammas that are drawn.
 #[derive(Clone, Copy, Debug)]
 pub struct Settings<'a> {
@@ -181,6 +188,111 @@ pub fn check_graph(graph: Graph) -> u64 {
             graph.var_message.len(),
             graph.var_offset.as_ptr(),
             graph.var_offset.len(),
+        )
+    }
+}
+
+/// Builds the graph of a sparse model that is given by probabilities.
+#[inline]
+#[must_use]
+pub fn build_sparse_probabilities(
+    checks: usize,
+    mechanisms: usize,
+    edges: usize,
+    probabilities: &[f64],
+    detector_offsets: &[u32],
+    detectors: &[u32],
+    lists: MadeLists,
+) -> u64 {
+    // SAFETY: as in `build_sparse`.
+    unsafe {
+        crate::chowderkite_build_sparse_probabilities(
+            checks,
+            mechanisms,
+            edges,
+            probabilities.as_ptr(),
+            probabilities.len(),
+            detector_offsets.as_ptr(),
+            detector_offsets.len(),
+            detectors.as_ptr(),
+            detectors.len(),
+            lists.priors.as_mut_ptr(),
+            lists.priors.len(),
+            lists.graph.check_var.as_mut_ptr(),
+            lists.graph.check_var.len(),
+            lists.graph.check_offset.as_mut_ptr(),
+            lists.graph.check_offset.len(),
+            lists.graph.var_check.as_mut_ptr(),
+            lists.graph.var_check.len(),
+            lists.graph.var_message.as_mut_ptr(),
+            lists.graph.var_message.len(),
+            lists.graph.var_offset.as_mut_ptr(),
+            lists.graph.var_offset.len(),
+        )
+    }
+}
+
+/// Builds the graph of a dense model that is given by probabilities.
+#[inline]
+#[must_use]
+pub fn build_dense_probabilities(
+    checks: usize,
+    mechanisms: usize,
+    probabilities: &[f64],
+    matrix: &[u8],
+    lists: MadeLists,
+) -> u64 {
+    // SAFETY: as in `build_sparse`.
+    unsafe {
+        crate::chowderkite_build_dense_probabilities(
+            checks,
+            mechanisms,
+            probabilities.as_ptr(),
+            probabilities.len(),
+            matrix.as_ptr(),
+            matrix.len(),
+            lists.priors.as_mut_ptr(),
+            lists.priors.len(),
+            lists.graph.check_var.as_mut_ptr(),
+            lists.graph.check_var.len(),
+            lists.graph.check_offset.as_mut_ptr(),
+            lists.graph.check_offset.len(),
+            lists.graph.var_check.as_mut_ptr(),
+            lists.graph.var_check.len(),
+            lists.graph.var_message.as_mut_ptr(),
+            lists.graph.var_message.len(),
+            lists.graph.var_offset.as_mut_ptr(),
+            lists.graph.var_offset.len(),
+        )
+    }
+}
+
+/// The prior of a probability, and 2^32 times it; `mechanism` is the place of a refusal.
+#[inline]
+#[must_use]
+pub fn prior_of(
+    probability: f64,
+    mechanism: usize,
+    prior: &mut [f64; 1],
+    scaled: &mut [i64; 1],
+) -> u64 {
+    // SAFETY: both are arrays of the length that the call writes, and apart.
+    unsafe { crate::chowderkite_prior_of(probability, mechanism, prior, scaled) }
+}
+
+/// The priors of a list of probabilities, and 2^32 times each.
+#[inline]
+#[must_use]
+pub fn priors_of(probabilities: &[f64], priors: &mut [f64], scaled: &mut [i64]) -> u64 {
+    // SAFETY: as in `build_sparse`.
+    unsafe {
+        crate::chowderkite_priors_of(
+            probabilities.as_ptr(),
+            probabilities.len(),
+            priors.as_mut_ptr(),
+            priors.len(),
+            scaled.as_mut_ptr(),
+            scaled.len(),
         )
     }
 }

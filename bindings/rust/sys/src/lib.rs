@@ -100,7 +100,7 @@ unsafe extern "C" {
         var_offset_len: usize,
     ) -> u64;
 
-    /// Builds the graph of a sparse model that is given by probabilities, and writes its priors.
+    /// Builds the graph of a sparse model that is given by probabilities, and its priors.
     pub unsafe fn chowderkite_build_sparse_probabilities(
         checks: usize,
         mechanisms: usize,
@@ -125,7 +125,7 @@ unsafe extern "C" {
         var_offset_len: usize,
     ) -> u64;
 
-    /// Builds the graph of a dense model that is given by probabilities, and writes its priors.
+    /// Builds the graph of a dense model that is given by probabilities, and its priors.
     pub unsafe fn chowderkite_build_dense_probabilities(
         checks: usize,
         mechanisms: usize,
@@ -147,7 +147,7 @@ unsafe extern "C" {
         var_offset_len: usize,
     ) -> u64;
 
-    /// Writes the prior of a mechanism's probability, and the prior times 2^32.
+    /// The prior of a probability, and the whole number that is 2^32 times as large.
     pub unsafe fn chowderkite_prior_of(
         probability: f64,
         mechanism: usize,
@@ -155,7 +155,7 @@ unsafe extern "C" {
         scaled: *mut [i64; 1],
     ) -> u64;
 
-    /// Writes the priors of probabilities, and the priors times 2^32.
+    /// The priors of a list of probabilities, and the whole numbers that are 2^32 times as large.
     pub unsafe fn chowderkite_priors_of(
         probabilities: *const f64,
         probabilities_len: usize,
