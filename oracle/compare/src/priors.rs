@@ -66,6 +66,10 @@ pub const PARTS: &[Part] = &[
         rate: Rate::Every(4000),
         case: large_decodes,
     },
+    Part {
+        rate: Rate::Each(1),
+        case: spoiled,
+    },
 ];
 
 const ONE: f64 = 4_294_967_296.0;
@@ -107,7 +111,8 @@ fn single(case: u64, random: &mut SplitMix64, counts: &mut Counts) {
     let near = (BELOW..=ABOVE).contains(&distance) && prior * theirs >= 0.0;
     let whole = (scaled as f64 / ONE).to_bits() == prior.to_bits();
     counts.see(sort.name, distance.abs(), || {
-        format!("p = {p:e}: {prior:?} for {theirs:?}")
+        let apart = (theirs - prior).abs();
+        format!("{apart:.3e}; p = {p:e}, {prior:?} for {theirs:?}")
     });
     counts.check(
         "priors, single",
@@ -340,6 +345,37 @@ fn damaged_sparse(_: u64, random: &mut SplitMix64, counts: &mut Counts) {
         false,
         counts,
     );
+}
+
+/// One to three faults of mechanisms, of which the first in their order is to be told: 8 before 5 and 6 in one mechanism.
+fn spoiled(_: u64, random: &mut SplitMix64, counts: &mut Counts) {
+    let most = random.pick(&[2, 4, 8, 16]);
+    let mut model = with_chances(random_model(random, most, most), random);
+    let mut bad = Vec::new();
+    for _ in 0..random.between(1, 3) {
+        if model.detectors.is_empty() {
+            break;
+        }
+        let mechanism = random.below(model.detectors.len());
+        let list = &mut model.detectors[mechanism];
+        match random.below(4) {
+            0 => {
+                let place = random.between(0, list.len());
+                list.insert(place, model.checks as u32 + random.pick(&[0, 1, 1 << 16]));
+            }
+            1 if !list.is_empty() => {
+                let (again, place) = (random.pick(list), random.between(0, list.len()));
+                list.insert(place, again);
+            }
+            _ => bad.push(mechanism),
+        }
+    }
+    let mut given = given_of(&GraphCase::sparse(model), random);
+    for mechanism in bad {
+        given.probabilities[mechanism] = chances::none(random);
+    }
+    let name = "models of probabilities, with faults of mechanisms";
+    ask_all(name, given, false, counts);
 }
 
 fn damaged_dense(_: u64, random: &mut SplitMix64, counts: &mut Counts) {
