@@ -276,6 +276,8 @@ fn ask_all(name: &'static str, mut given: Given, dense: bool, counts: &mut Count
     };
     let good = match wanted {
         Ok(()) => {
+            // A dense model's edges are counted, whatever was said of them.
+            given.size.edges = given.lists.check_var.len();
             let (all, priors) = priors_of(&given.probabilities);
             all == Ok(())
                 && bits(&given.priors) == bits(&priors)
