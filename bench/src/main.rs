@@ -7,6 +7,7 @@ mod decodes;
 mod iterations;
 mod models;
 mod plot;
+mod priors;
 mod refused;
 mod stack;
 mod table;
@@ -18,13 +19,14 @@ use std::path::Path;
 use std::process::ExitCode;
 use timing::{HEAD, Row};
 
-const USAGE: &str = "usage: bench/run [building|beliefs|iterations|decodes|tests|stack|bytes] | --write
+const USAGE: &str = "usage: bench/run [building|priors|beliefs|iterations|decodes|tests|stack|bytes] | --write
   without a word, all of them; --write besides puts the figures into docs/BENCHMARKS.md and docs/benchmarks.svg";
 
 type Part = (&'static str, fn() -> Vec<Row>);
 
-const PARTS: [Part; 5] = [
+const PARTS: [Part; 6] = [
     ("building", building::run),
+    ("priors", priors::run),
     ("beliefs", beliefs::run),
     ("iterations", iterations::run),
     ("decodes", decodes::run),

@@ -11,6 +11,7 @@ use std::hint::black_box;
 pub struct Lent {
     sized: Sized,
     lists: Lists,
+    priors: Vec<f64>,
     syndrome: Vec<u8>,
     order: Vec<u32>,
     gammas: Vec<f64>,
@@ -28,6 +29,7 @@ impl Lent {
             syndrome: vec![0; size.checks],
             order: sized.kept_order(&lists),
             lists,
+            priors: sized.priors.clone(),
             gammas: sets(size.mechanisms).concat(),
             beliefs: Beliefs::filled(size, 0.0),
             step: Step {
@@ -49,6 +51,19 @@ impl Lent {
             black_box(priors),
             offsets,
             detectors,
+            &mut self.lists,
+        )
+    }
+
+    fn build_sparse_probabilities(&mut self) -> Answer {
+        let Sized { size, model, .. } = &self.sized;
+        let (offsets, detectors) = (&self.sized.offsets, &self.sized.detectors);
+        proved::build_sparse_probabilities(
+            *size,
+            black_box(&model.probabilities),
+            offsets,
+            detectors,
+            &mut self.priors,
             &mut self.lists,
         )
     }
@@ -128,17 +143,26 @@ type Call = fn(&mut Lent) -> Answer;
 /// A call and its way; what spoils it for its last test; that test's number, 0 where the call is all tests; and the call.
 type Subject = (&'static str, &'static str, fn(&mut Lent), u64, Call);
 
+/// The last detector repeats the one before it.
+fn repeat_last(lent: &mut Lent) {
+    let last = lent.sized.detectors.len() - 1;
+    lent.sized.detectors[last] = lent.sized.detectors[last - 1];
+}
+
 const SUBJECTS: &[Subject] = &[
-    // The last detector repeats the one before it.
     (
         "build_sparse",
         "refused with 6",
-        |lent| {
-            let last = lent.sized.detectors.len() - 1;
-            lent.sized.detectors[last] = lent.sized.detectors[last - 1];
-        },
+        repeat_last,
         6,
         Lent::build_sparse,
+    ),
+    (
+        "build_sparse_probabilities",
+        "refused with 6",
+        repeat_last,
+        6,
+        Lent::build_sparse_probabilities,
     ),
     ("check_graph", "passed", |_| {}, 0, Lent::check_graph),
     (
@@ -188,6 +212,10 @@ const SUBJECTS: &[Subject] = &[
 /// The calls, with nothing to refuse.
 pub const GOOD: &[(&str, Call)] = &[
     ("build_sparse", Lent::build_sparse),
+    (
+        "build_sparse_probabilities",
+        Lent::build_sparse_probabilities,
+    ),
     ("check_graph", Lent::check_graph),
     ("beliefs", Lent::beliefs),
     ("iteration", Lent::iteration),

@@ -52,14 +52,19 @@ pub fn graph(case: &GraphCase) -> Result<GraphLists, Refusal> {
 
 pub fn beliefs(case: &BeliefCase) -> Result<Vec<f64>, Refusal> {
     let graph = sparse_graph(&case.model).expect("belief cases have models that build");
+    beliefs_over(&graph, case)
+}
+
+/// The same over a graph that is handed in.
+pub fn beliefs_over(graph: &BpGraph, case: &BeliefCase) -> Result<Vec<f64>, Refusal> {
     let mut posterior = vec![0.0; graph.mechanism_count()];
     min_sum_bp_into(
-        &graph,
+        graph,
         &case.syndrome,
         case.iterations,
         case.scale,
         case.serial,
-        &mut BpScratch::new(&graph),
+        &mut BpScratch::new(graph),
         &mut posterior,
     )
     .map_err(|error| refusal(&error, case.model.mechanisms()))?;
@@ -85,9 +90,14 @@ pub fn config(settings: &Settings, sets: Option<Vec<Vec<f64>>>) -> RelayConfig {
 }
 
 pub fn decode(case: &DecodeCase) -> Result<Decoded, Refusal> {
+    let graph = sparse_graph(&case.model).expect("decode cases have models that build");
+    decode_over(graph, case)
+}
+
+/// The same over a graph that is handed in.
+pub fn decode_over(graph: BpGraph, case: &DecodeCase) -> Result<Decoded, Refusal> {
     let mechanisms = case.model.mechanisms();
     let number = |error: DecoderError| refusal(&error, mechanisms);
-    let graph = sparse_graph(&case.model).expect("decode cases have models that build");
     let config = config(&case.settings, case.explicit_sets());
     let mut decoder = RelayBp::new(graph, config).map_err(number)?;
     assert_eq!(decoder.graph().mechanism_count(), mechanisms);

@@ -16,6 +16,7 @@ pub mod graph_cases;
 pub mod line;
 pub mod lists;
 pub mod model;
+pub mod open;
 pub mod runs;
 pub mod splitmix;
 pub mod tally;

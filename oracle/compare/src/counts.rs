@@ -14,10 +14,18 @@ struct Tally {
     wanted: BTreeMap<u64, u64>,
 }
 
+/// The greatest distance, and where it was.
+#[derive(Default)]
+struct Furthest {
+    distance: f64,
+    place: String,
+}
+
 /// The comparisons of one kind, under a name each, in the order in which they first came.
 pub struct Counts {
     tallies: Vec<(&'static str, Tally)>,
     notes: Vec<(&'static str, u64)>,
+    furthest: Vec<(&'static str, Furthest)>,
     /// How to do the round again that is under way.
     again: String,
     tells_all: bool,
@@ -28,6 +36,7 @@ impl Counts {
         Self {
             tallies: Vec::new(),
             notes: Vec::new(),
+            furthest: Vec::new(),
             again: String::new(),
             tells_all,
         }
@@ -68,6 +77,17 @@ impl Counts {
         *entry(&mut self.notes, name) += times;
     }
 
+    /// Keeps the greatest of some distances, and where it was.
+    pub fn see(&mut self, name: &'static str, distance: f64, place: impl FnOnce() -> String) {
+        let furthest = entry(&mut self.furthest, name);
+        if distance > furthest.distance || furthest.place.is_empty() {
+            *furthest = Furthest {
+                distance,
+                place: place(),
+            };
+        }
+    }
+
     pub fn passed(&self) -> u64 {
         self.tallies.iter().map(|(_, tally)| tally.passed).sum()
     }
@@ -84,6 +104,9 @@ impl Counts {
         }
         for (name, times) in &self.notes {
             println!("{name}: {times}");
+        }
+        for (name, Furthest { distance, place }) in &self.furthest {
+            println!("{name}: at most {distance:.6} ({place})");
         }
     }
 }

@@ -19,6 +19,13 @@ pub fn nudge_length<T: Clone>(random: &mut SplitMix64, list: &mut Vec<T>, other:
     list.resize(length, other);
 }
 
+/// Puts a number into a list, where it is long enough.
+fn set(list: &mut [f64], place: usize, number: f64) {
+    if let Some(at) = list.get_mut(place) {
+        *at = number;
+    }
+}
+
 fn one_size<'a>(random: &mut SplitMix64, size: &'a mut Size) -> &'a mut usize {
     match random.below(3) {
         0 => &mut size.checks,
@@ -60,13 +67,14 @@ pub fn damage_common(random: &mut SplitMix64, given: &mut Given) {
                 f64::MAX,
             ];
             given.priors[mechanism] = random.pick(&bad);
-            given.probabilities[mechanism] = random.pick(&[f64::NAN, -0.25, 1.25, f64::INFINITY]);
+            let none = random.pick(&[f64::NAN, -0.25, 1.25, f64::INFINITY]);
+            set(&mut given.probabilities, mechanism, none);
         }
         5 if !given.priors.is_empty() => {
             // No damage: priors at the limits, and zeros.
             let mechanism = random.below(given.priors.len());
             given.priors[mechanism] = random.pick(&[30.0, -30.0, 0.0, -0.0, 5e-324]);
-            given.probabilities[mechanism] = 0.5;
+            set(&mut given.probabilities, mechanism, 0.5);
         }
         _ => {}
     }

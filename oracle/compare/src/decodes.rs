@@ -42,13 +42,8 @@ pub const PARTS: &[Part] = &[
 
 fn small(case: u64, random: &mut SplitMix64, counts: &mut Counts) {
     let case = random_case(random, case as usize);
-    compare(
-        "decodes, small",
-        "orders of small decodes",
-        &case,
-        random,
-        counts,
-    );
+    let names = ["decodes, small", "orders of small decodes"];
+    compare(names, &case, random, counts);
 }
 
 fn settings_of(case: &CaseSettings) -> Settings {
@@ -163,15 +158,31 @@ fn legs_read(left: &Decode, legs: usize) -> bool {
     })
 }
 
+/// The name of a decode's comparison, and that of its comparisons in other orders.
+pub type Names = [&'static str; 2];
+
 /// One decode both ways, and then in other orders.
-fn compare(
-    name: &'static str,
-    orders: &'static str,
+fn compare(names: Names, case: &DecodeCase, random: &mut SplitMix64, counts: &mut Counts) {
+    let (given, built) = Given::built(&case.model, random);
+    compare_over(
+        names,
+        (&given, built),
+        case,
+        &drive::decode(case),
+        random,
+        counts,
+    );
+}
+
+/// The same over a graph that was built, beside what the Rust answers.
+pub fn compare_over(
+    [name, orders]: Names,
+    (given, built): (&Given, Answer),
     case: &DecodeCase,
+    rust: &Result<Decoded, Refusal>,
     random: &mut SplitMix64,
     counts: &mut Counts,
 ) {
-    let (given, built) = Given::built(&case.model, random);
     let settings = settings_of(&case.settings);
     let gammas = flat_of(&case.settings);
     let legs = settings.num_legs + 1;
@@ -187,8 +198,7 @@ fn compare(
         let answer = given.decode(settings, shot, &mut left);
         (answer, left)
     };
-    let rust = drive::decode(case);
-    let wanted = told(&rust);
+    let wanted = told(rust);
     let wanted_bits = bits(&wanted_left(given.size, legs, &before, rust.as_ref().ok()));
     let (answer, left) = run(shot);
     counts.check(
@@ -198,8 +208,8 @@ fn compare(
         || format!("{answer:?}, {left:?} for {rust:?}: {case:?}"),
     );
     for _ in 0..ORDERS {
-        let order = some_order(&given, random);
-        let refused = wanted_of_order(&given, settings.serial, &order);
+        let order = some_order(given, random);
+        let refused = wanted_of_order(given, settings.serial, &order);
         let (in_order, left) = run(Shot {
             order: Some(&order),
             ..shot
@@ -279,6 +289,13 @@ const LARGE: [(usize, usize, usize, usize, usize); 4] = [
 ];
 
 fn large(case: u64, random: &mut SplitMix64, counts: &mut Counts) {
+    let case = large_case(case, random);
+    let names = ["decodes, large", "orders of large decodes"];
+    compare(names, &case, random, counts);
+}
+
+/// A decode of a size of the list, on one schedule and then on the other.
+pub fn large_case(case: u64, random: &mut SplitMix64) -> DecodeCase {
     let (checks, mechanisms, edges, pre_iterations, num_legs) =
         LARGE[case as usize / 2 % LARGE.len()];
     let size = Size {
@@ -290,7 +307,7 @@ fn large(case: u64, random: &mut SplitMix64, counts: &mut Counts) {
     for probability in &mut model.probabilities {
         *probability = 0.01 + 0.1 * random.unit();
     }
-    let case = DecodeCase {
+    DecodeCase {
         syndrome: model.syndrome_of(&random.flags(mechanisms, 200)),
         model,
         settings: CaseSettings {
@@ -302,14 +319,7 @@ fn large(case: u64, random: &mut SplitMix64, counts: &mut Counts) {
             ..CaseSettings::default_point()
         },
         seed: random.draw(),
-    };
-    compare(
-        "decodes, large",
-        "orders of large decodes",
-        &case,
-        random,
-        counts,
-    );
+    }
 }
 
 /// The published operating point, which the Rust's settings have by default.

@@ -2,6 +2,7 @@
 //! bits, where a NaN is a value that is compared as it is read (`numbers`, `streams`) with any NaN. The last line says 'N passed, M failed'.
 
 mod beliefs;
+mod chances;
 mod counts;
 mod damage;
 mod decodes;
@@ -9,6 +10,7 @@ mod fronts;
 mod given;
 mod graphs;
 mod numbers;
+mod priors;
 mod progress;
 mod records;
 mod rounds;
@@ -23,14 +25,14 @@ use std::process::ExitCode;
 use std::time::Duration;
 
 const USAGE: &str = "usage: oracle/beside [KIND] [--minutes M | --rounds N | --round R] [--seed S]
-  KIND         numbers, graphs, beliefs, iterations, decodes or streams; without it, everything
+  KIND         numbers, graphs, beliefs, iterations, decodes, streams or priors; without it, everything
   --minutes M  as many rounds as M minutes hold; 1 if nothing is said
   --rounds N   the first N rounds
   --round R    round R alone, from 0, and all that is known of what fails
   --seed S     the seed, 1 if nothing is said";
 
 /// A kind's place and a part's place in it choose the part's random numbers.
-const KINDS: [Kind; 6] = [
+const KINDS: [Kind; 7] = [
     Kind {
         name: "numbers",
         parts: numbers::PARTS,
@@ -54,6 +56,10 @@ const KINDS: [Kind; 6] = [
     Kind {
         name: "streams",
         parts: records::PARTS,
+    },
+    Kind {
+        name: "priors",
+        parts: priors::PARTS,
     },
 ];
 

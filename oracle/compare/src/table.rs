@@ -33,18 +33,62 @@ fn is_prior(prior: f64) -> bool {
     (-30.0..=30.0).contains(&prior)
 }
 
-fn wanted_of_priors(priors: &[f64]) -> Answer {
-    match priors.iter().position(|prior| !is_prior(*prior)) {
-        Some(mechanism) => Err((4, mechanism as u64)),
-        None => Ok(()),
+pub fn is_probability(probability: f64) -> bool {
+    (0.0..=1.0).contains(&probability)
+}
+
+/// What a model gives for each mechanism, priors or probabilities.
+struct Numbers<'a> {
+    list: &'a [f64],
+    good: fn(f64) -> bool,
+    /// The refusal of one that is not good.
+    number: u64,
+    /// Whether the list of priors fits, where one is written.
+    fits: bool,
+}
+
+impl<'a> Numbers<'a> {
+    fn priors(given: &'a Given) -> Self {
+        Self {
+            list: &given.priors,
+            good: is_prior,
+            number: 4,
+            fits: true,
+        }
+    }
+
+    fn probabilities(given: &'a Given) -> Self {
+        Self {
+            list: &given.probabilities,
+            good: is_probability,
+            number: 8,
+            fits: given.priors.len() == given.size.mechanisms,
+        }
+    }
+
+    fn wanted(&self) -> Answer {
+        match self.list.iter().position(|&one| !(self.good)(one)) {
+            Some(mechanism) => Err((self.number, mechanism as u64)),
+            None => Ok(()),
+        }
     }
 }
 
 pub fn wanted_sparse(given: &Given) -> Answer {
+    sparse(given, &Numbers::priors(given))
+}
+
+/// The same of a model that is given by probabilities, whose priors are written.
+pub fn wanted_sparse_probabilities(given: &Given) -> Answer {
+    sparse(given, &Numbers::probabilities(given))
+}
+
+fn sparse(given: &Given, numbers: &Numbers) -> Answer {
     let size = given.size;
     test(size_fits(size), 1)?;
     test(
-        given.priors.len() == size.mechanisms
+        numbers.list.len() == size.mechanisms
+            && numbers.fits
             && given.offsets.len() == size.mechanisms + 1
             && given.detectors.len() == size.edges
             && lists_fit(&given.lists, size.edges, size),
@@ -57,8 +101,8 @@ pub fn wanted_sparse(given: &Given) -> Answer {
     )?;
     for mechanism in 0..size.mechanisms {
         let place = mechanism as u64;
-        if !is_prior(given.priors[mechanism]) {
-            return Err((4, place));
+        if !(numbers.good)(numbers.list[mechanism]) {
+            return Err((numbers.number, place));
         }
         let mut seen = BTreeSet::new();
         let part = given.offsets[mechanism] as usize..given.offsets[mechanism + 1] as usize;
@@ -75,6 +119,15 @@ pub fn wanted_sparse(given: &Given) -> Answer {
 }
 
 pub fn wanted_dense(given: &Given) -> Answer {
+    dense(given, &Numbers::priors(given))
+}
+
+/// The same of a model that is given by probabilities, whose priors are written.
+pub fn wanted_dense_probabilities(given: &Given) -> Answer {
+    dense(given, &Numbers::probabilities(given))
+}
+
+fn dense(given: &Given, numbers: &Numbers) -> Answer {
     let size = given.size;
     test(
         size.checks <= MOST_COUNT && size.mechanisms <= MOST_COUNT,
@@ -82,13 +135,23 @@ pub fn wanted_dense(given: &Given) -> Answer {
     )?;
     test(
         given.matrix.len() == size.checks * size.mechanisms
-            && given.priors.len() == size.mechanisms,
+            && numbers.list.len() == size.mechanisms,
         2,
     )?;
     let edges = given.matrix.iter().filter(|byte| **byte != 0).count();
     test(edges <= MOST_EDGES, 1)?;
-    test(lists_fit(&given.lists, edges, size), 2)?;
-    wanted_of_priors(&given.priors)
+    test(numbers.fits && lists_fit(&given.lists, edges, size), 2)?;
+    numbers.wanted()
+}
+
+/// Of `priors_of`, by its probabilities and the lengths of its two results.
+pub fn wanted_priors(probabilities: &[f64], priors: usize, scaled: usize) -> Answer {
+    let length = probabilities.len();
+    test(priors == length && scaled == length, 2)?;
+    match probabilities.iter().position(|p| !is_probability(*p)) {
+        Some(mechanism) => Err((8, mechanism as u64)),
+        None => Ok(()),
+    }
 }
 
 /// 7 unless the lists are those that the Rust builds of the incidences that the check lists tell.
@@ -99,7 +162,7 @@ pub fn wanted_lists(given: &Given) -> Answer {
         given.priors.len() == size.mechanisms && lists_fit(&given.lists, size.edges, size),
         2,
     )?;
-    wanted_of_priors(&given.priors)?;
+    Numbers::priors(given).wanted()?;
     let built = told(size, &given.lists).map(|case| rust(&case));
     test(built == Some(Ok(given.lists.clone())), 7)
 }

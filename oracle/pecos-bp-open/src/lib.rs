@@ -1,12 +1,12 @@
 //! The published files with one module more within each. In `relay`: the published iterations, and the same
-//! in any order of checks. In `min_sum`: log ratios that no probability need have.
+//! in any order of checks. In `min_sum`: log ratios that no probability need have, and those of probabilities into a list.
 
 include!(concat!(env!("OUT_DIR"), "/modules.rs"));
 
 use pecos_decoder_core::dem::SparseDem;
 
-pub use min_sum::priors::with_priors;
-pub use min_sum::{BpGraph, LLR_SATURATION};
+pub use min_sum::priors::{priors_into, with_priors};
+pub use min_sum::{BpGraph, BpScratch, LLR_SATURATION, min_sum_bp_into};
 pub use relay::step::{State, iteration, load, step, store};
 pub use relay::{RelayBp, RelayConfig, Schedule};
 

@@ -1,6 +1,7 @@
 //! The calls of the crates `exports` and `exports_compare`, in safe Rust, over lists of any length: the crate of `bindings/rust` makes
 //! lists that fit, and so can't ask for most refusals.
 
+mod priors;
 mod single;
 pub mod streams;
 
@@ -9,6 +10,7 @@ use chowderkite_sys::calls;
 pub use calls::count_edges;
 pub use chowderkite_sys::lists::{DecodeLists as Decode, GraphLists as Lists, Size};
 pub use chowderkite_sys::{chowderkite_number_of as number_of, chowderkite_place_of as place_of};
+pub use priors::{build_dense_probabilities, build_sparse_probabilities, prior_of, priors_of};
 pub use single::{
     alpha_good, draw, gamma, infinity, is_finite, is_negative, is_of_shot, magnitude, message_sign,
     next_state, unit, wrapping_mul,
