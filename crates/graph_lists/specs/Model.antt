@@ -41,7 +41,7 @@ unfoldable pub graphFits : ℕ → Graph → Bool
 graphFits edges g =
     graphLengths (g .checks) (g .mechanisms) edges (length (g .checkVar)) (length (g .checkOffset)) (length (g .varCheck)) (length (g .varMessage)) (length (g .varOffset))
 
--- a sparse model's three lists have these lengths; `numbers` is that of the priors
+-- a sparse model's three lists have these lengths; `numbers` is that of the priors or probabilities
 abbrev pub sparseFits : ℕ → ℕ → ℕ → ℕ → ℕ → Bool
 sparseFits mechanisms edges numbers off dets = eqb numbers mechanisms && (eqb off (suc mechanisms) && eqb dets edges)
 
@@ -78,7 +78,7 @@ detectorFault checks m ds i =
 unfoldable pub mechanismTest : ℕ → ℕ → Answer → List ℕ → Answer
 mechanismTest checks m given ds = orElse given (firstOf (length ds) (detectorFault checks m ds))
 
--- that, of a model's mechanism m. `given` tests the number that the model gives for each mechanism: 4 of priors
+-- that, of a model's mechanism m. `given` tests the number that the model gives for each mechanism: 4 of priors, 8 of probabilities
 unfoldable pub mechanismFault : ℕ → (ℕ → Answer) → List ℕ → List ℕ → ℕ → Answer
 mechanismFault checks given off dets m = mechanismTest checks m (given m) (row off m dets)
 
