@@ -7,8 +7,6 @@ use Prim.Native.Nat.{ℕ, zero, suc, _+_, _-_, _<_, _≤_}
 use native.Mathlib.Numerals.{add-one}
 use native.Mathlib.Omega.{arith}
 use lib.Dec.{eqb}
-use lib.Ieee.{Float, fin, le, neg}
-use lib.IntN.{pos}
 use lib.ListN.{length, getD, take, drop}
 use lib.Seq.{getD-take, length-take-le, take-suc}
 use borrow.Author.Tests.{le-leb, lt-leb, le-ltb, ltb-true, leb-true, eqb-true, lt-ltb, ne-eqb}
@@ -21,7 +19,7 @@ use Rattle.refusals.specs.declared.Answer.{Answer}
 use Rattle.refusals.specs.declared.Answer.the-variants.{Done, Refused}
 use Rattle.refusals.specs.declared.Refusal.the-variants.{DetectorOutOfRange, DetectorRepeated}
 use Rattle.graph_lists.specs.Lists.{has}
-use Rattle.graph_lists.specs.Model.{rising, offsetsGood, priorGood, detectorFault, mechanismFault, mechanismTest}
+use Rattle.graph_lists.specs.Model.{rising, offsetsGood, detectorFault, mechanismFault, mechanismTest}
 use Rattle.graph_lists.specs.Sound.{Offsets, RisesTo}
 use Rattle.graph_lists.specs.Steps.{Valid}
 use Rattle.graph_lists.proofs.Cuts.{Row, row-is, row-end}
@@ -113,16 +111,6 @@ given-told checks mechanisms given off dets h =
     first-none given mechanisms (λ m l. or-done _ _ (first-all (mechanismFault checks given off dets) mechanisms h m l) .0)
 
 -- ---- single tests, as the code has them
-
--- a prior of at least -30 is good where it is at most 30
-pub prior-yes : (x : Float) → le (fin true 15 (pos 1)) x ≡ true → le x (fin false 15 (pos 1)) ≡ priorGood x
-unfolding priorGood neg
-prior-yes x h = rw h
-
--- one that is not, or is NaN, is not good
-pub prior-no : (x : Float) → le (fin true 15 (pos 1)) x ≡ false → le (fin true 15 (pos 1)) x ≡ priorGood x
-unfolding priorGood neg
-prior-no x h = rw h
 
 -- an offset that is not below the one before it
 pub rising-yes : (off : List ℕ) (r a b : ℕ) → a ≡ getD off r 0 → b ≡ getD off (r + 1) 0 → a ≤ b → rising off r ≡ true

@@ -5,20 +5,20 @@ pub mod seven;
 ghost use mathlib.Core.Path.{_≡_};
 ghost use mathlib.Core.Bool.{_&&_};
 ghost use Prim.Native.Nat.{suc, _+_, _-_, _<_, _≤_};
+ghost use lib.Ieee.{le};
 ghost use lib.ListN.{length, take};
 ghost use Rattle.numbers.specs.Loops.{every};
 ghost use Rattle.refusals.specs.Tests.{firstOf};
 ghost use Rattle.graph_lists.specs.Lists.{has};
-ghost use Rattle.graph_lists.specs.Model.{edgesGood, rising, offsetsGood, priorGood, detectorFault, mechanismFault, countsGood};
+ghost use Rattle.graph_lists.specs.Model.{edgesGood, rising, offsetsGood, detectorFault, mechanismFault, countsGood};
 ghost use Rattle.graph_lists.specs.Model.{sizesGood, sparseFits, sparseFault, denseFault, graphLengths, mechanismTest};
 ghost use Rattle.graph_lists.specs.Sound.{Offsets, RisesTo};
-ghost use Rattle.graph_tests.specs.Numbers.{givenFault};
+ghost use Rattle.graph_tests.specs.Numbers.{lowestOf, highestOf, badNumber, givenFault};
 use graph_lists::Size;
 use graph_lists::indices::at;
 use numbers::limits::MAX_CHECKS;
 use numbers::limits::MAX_EDGES;
 use numbers::limits::MAX_MECHANISMS;
-use probabilities::is_probability;
 use refusals::Answer;
 use refusals::Refusal;
 use refusals_tests::at_most;
@@ -129,22 +129,51 @@ pub(crate) fn offsets_good(rows: usize, n: usize, off: &[u32]) -> bool
 
 // ---- 4 or 8, 5 and 6
 
-// From -30 to 30, and no NaN.
-fn prior_good(x: f64) -> bool
-    ensures { λ r. ⌜ r ≡ priorGood x ⌝ }
+// The least number that is good.
+fn lowest(given: Given) -> f64
+    ensures { λ r. ⌜ r ≡ lowestOf given ⌝ }
 {
-    -30.0 <= x && x <= 30.0
+    match given {
+        Given::Priors => -30.0,
+        Given::Probabilities => 0.0,
+    }
 }
 
-// The number that is given for m: 4 of a prior, 8 of a probability.
+// The greatest.
+fn highest(given: Given) -> f64
+    ensures { λ r. ⌜ r ≡ highestOf given ⌝ }
+{
+    match given {
+        Given::Priors => 30.0,
+        Given::Probabilities => 1.0,
+    }
+}
+
+// From low to high, and no NaN.
+fn within(low: f64, x: f64, high: f64) -> bool
+    ensures { λ r. ⌜ r ≡ (le low x && le x high) ⌝ }
+{
+    low <= x && x <= high
+}
+
+// Why m's number is refused.
+fn bad_number(given: Given, m: usize) -> Refusal
+    ensures { λ r. ⌜ r ≡ badNumber given m ⌝ }
+{
+    match given {
+        Given::Priors => Refusal::BadPrior(m),
+        Given::Probabilities => Refusal::BadProbability(m),
+    }
+}
+
+// The number that is given for m: 4 of a prior, 8 of a probability. Both are asked for two bounds, so that no mechanism's test waits for
+// which of the two it is.
 fn given_fault(given: Given, numbers: &[f64], m: usize) -> Answer
     requires { ⌜ m < length (now numbers) ⌝ }
     ensures { λ r. ⌜ r ≡ givenFault given (now (numbers .entry)) m ⌝ }
 {
-    match given {
-        Given::Priors => unless(prior_good(numbers[m]), Refusal::BadPrior(m)),
-        Given::Probabilities => unless(is_probability(numbers[m]), Refusal::BadProbability(m)),
-    }
+    let good = within(lowest(given), numbers[m], highest(given));
+    unless(good, bad_number(given, m))
 }
 
 // Whether d is among the first i of ds.

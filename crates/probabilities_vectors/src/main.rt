@@ -1,5 +1,5 @@
-// Writes the scaled priors of fixed probabilities, and of some that SplitMix64 draws; the file stdout has what `oracle/priors --vectors` works
-// out of the definition.
+// Writes the scaled priors of fixed probabilities, and of some that SplitMix64 draws; the file stdout has what `oracle/priors --vectors`
+// works out of the definition.
 ghost use Prim.Native.Nat.{_*_, _^_, _≤_};
 ghost use lib.IntN.{natAbs};
 use libc::STDOUT_FILENO;
