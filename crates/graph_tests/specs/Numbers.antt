@@ -1,4 +1,5 @@
--- The test of the number that a model gives for a mechanism, whichever it is. Definitions only. Assumes nothing.
+-- The test of the number that a model gives for a mechanism, whichever it is. Only private contracts cite this: it is no part of what a reader must believe.
+-- Definitions only. Assumes nothing.
 use Prim.Native.Nat.{ℕ}
 use mathlib.Core.List.{List}
 use lib.Ieee.{Float, neg}
