@@ -38,7 +38,8 @@ pub fn run() -> Vec<Row> {
     rows
 }
 
-fn work(call: &'static str, way: &'static str, edges: usize) -> Work {
+/// One run of a call.
+pub fn work(call: &'static str, way: &'static str, edges: usize) -> Work {
     Work {
         call,
         way,

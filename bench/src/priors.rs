@@ -3,8 +3,9 @@
 //! many probabilities as another has edges. Building allocates nothing here; the Rust allocates its lists. Both test the model, and both take
 //! the logarithm of each probability.
 
+use crate::building::work;
 use crate::models::{EDGES, Sized, sized};
-use crate::timing::{Row, Work, timed};
+use crate::timing::{Row, timed};
 use oracle::exact::bp::BpGraph;
 use oracle::splitmix::SplitMix64;
 use pecos_bp_open::priors_into;
@@ -28,16 +29,6 @@ pub fn run() -> Vec<Row> {
     rows.push(single(SORTS[1]));
     rows.extend(EDGES.map(|edges| sparse(&sized(edges))));
     rows
-}
-
-fn work(call: &'static str, way: &'static str, edges: usize) -> Work {
-    Work {
-        call,
-        way,
-        edges,
-        iterations: None,
-        runs: 1,
-    }
 }
 
 fn drawn(draw: Draw) -> Vec<f64> {
