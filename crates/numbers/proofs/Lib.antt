@@ -2,6 +2,7 @@
 pub mod Cases
 pub mod Bits
 pub mod Order
+pub mod Sizes
 pub mod Loops
 pub mod Turns
 pub mod Product
