@@ -90,7 +90,7 @@ finite-number (fin s m e) h = refl
 -- ---- "not above", as a fact
 
 -- ±a <= ±b
-abbrev NotAbove : Bool → ℕ → Bool → ℕ → Type 0
+abbrev pub NotAbove : Bool → ℕ → Bool → ℕ → Type 0
 NotAbove false a false b = a ≤ b
 NotAbove false a true b = a + b ≤ 0
 NotAbove true a false b = 0 ≤ a + b
@@ -107,7 +107,7 @@ second-holds true q h = refl
 second-holds false q h = h
 
 -- the fact from the test
-le-fact : (s : Bool) (a : ℕ) (t : Bool) (b : ℕ) → (below s a t b || level s a t b) ≡ true → NotAbove s a t b
+pub le-fact : (s : Bool) (a : ℕ) (t : Bool) (b : ℕ) → (below s a t b || level s a t b) ≡ true → NotAbove s a t b
 le-fact false a false b h =
     ⊎-elim (λ (l : ltb a b ≡ true). omega (arith, ltb-true a b l)) (λ (l : level false a false b ≡ true). omega (arith, eqb-true a b (and-both _ _ l .0))) (one-holds _ _ h)
 le-fact false a true b h = let both = and-both (eqb a b) (eqb a 0) h in omega (arith, eqb-true a b (both .0), eqb-true a 0 (both .1))

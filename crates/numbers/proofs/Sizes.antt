@@ -1,18 +1,19 @@
--- How large a float is: a sum and a product keep to bounds that are whole numbers. Assumes nothing.
+-- How large a float is: what lies between two bounds, a sum and a product keep to bounds that are whole numbers. Assumes nothing.
 use mathlib.Core.Path.{_≡_, refl, sym, ap, _∙_, subst}
-use mathlib.Core.Bool.{Bool, true, false, _&&_, Bool·beq, cond}
+use mathlib.Core.Bool.{Bool, true, false, not, _&&_, Bool·beq, cond, false≢true}
 use Prim.Native.Nat.{ℕ, suc, _+_, _-_, _*_, _/_, _^_, _<_, _≤_, compare, Ordering}
 use native.Mathlib.Nat.{le-of-eq, le-trans, lt-of-le-of-lt, lt-of-lt-of-le, mul-assoc, mul-comm, mul-right-comm, mul-one, mul-mul-mul-comm, mul-le-mul, mul-le-mul-right, le-of-mul-le-mul-right, mul-pos, add-mul, div-one, mod-one, div-le-of-le-mul}
 use native.Mathlib.Omega.{arith}
 use lib.Dec.{ltb}
 use lib.Pow.{pow-add, pow-pos, pow-mono, shl-lt}
-use lib.Ieee.{Float, nan, inf, fin, Format, binary64, prec, emax, low, up, down, size, nearest, units, round, unlike, sum, add, mul}
+use lib.Ieee.{Float, nan, inf, fin, Format, binary64, prec, emax, low, up, down, size, nearest, units, round, unlike, neg, sum, add, mul, le}
 use lib.Ieee.Digits.{size-le, back}
 use lib.Ieee.Fits.{round-is, reach, down-pos}
 use lib.Ieee.Exact.{HasValue, units-val}
 use lib.Ieee.Nearest.{closest, closest-mono}
 use lib.Ieee.Order.{drop, kept}
 use Rattle.numbers.specs.Floats.{_+ᶠ_, _*ᶠ_, isFinite}
+use Rattle.numbers.proofs.Order.{NotAbove, le-fact}
 
 -- x is a finite number of at most a in size
 abbrev pub Within : Float → ℕ → Type 0
@@ -34,6 +35,33 @@ value-within (inf t) s a c k p h v = v
 value-within (fin t m e) s a c k p h v =
     let u : a * down e ≤ k * c * down e = mul-le-mul-right (down e) h in
     le-of-mul-le-mul-right {k = c} (omega (arith, u, v .1, mul-right-comm k c (down e))) p
+
+-- ---- comparing
+
+-- a / p <= b / q <= k give a / p <= k
+fraction-within : (a p b q k : ℕ) → 0 < q → a * q ≤ b * p → b ≤ k * q → a ≤ k * p
+fraction-within a p b q k some h g = le-of-mul-le-mul-right {k = q} (le-trans h (le-trans (mul-le-mul-right p g) (le-of-eq (mul-right-comm k q p)))) some
+
+-- a is at most b in size where a <= ±b
+plus-bound : (a : ℕ) (t : Bool) (b : ℕ) → NotAbove false a t b → a ≤ b
+plus-bound a false b h = h
+plus-bound a true b h = omega arith
+
+-- and where ±b <= -a
+minus-bound : (b : ℕ) (t : Bool) (a : ℕ) → NotAbove t b true a → a ≤ b
+minus-bound b false a h = omega arith
+minus-bound b true a h = h
+
+-- what is between -y and y is within each bound of y
+pub between-within : (x y : Float) (a : ℕ) → le (neg y) x ≡ true → le x y ≡ true → Within y a → Within x a
+unfolding neg le
+between-within x nan a h g w = absurd w
+between-within x (inf t) a h g w = absurd w
+between-within nan (fin t n d) a h g w = absurd (false≢true g)
+between-within (inf true) (fin t n d) a h g w = absurd (false≢true h)
+between-within (inf false) (fin t n d) a h g w = absurd (false≢true g)
+between-within (fin false m e) (fin t n d) a h g w = fraction-within (m * up e) (down e) (n * up d) (down d) a (down-pos d) (plus-bound _ t _ (le-fact false _ t _ g)) w
+between-within (fin true m e) (fin t n d) a h g w = fraction-within (m * up e) (down e) (n * up d) (down d) a (down-pos d) (minus-bound _ (not t) _ (le-fact (not t) _ true _ h)) w
 
 -- ---- rounding
 
