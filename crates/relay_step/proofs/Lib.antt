@@ -4,3 +4,4 @@ pub mod Variables
 pub mod Passes
 pub mod Sends
 pub mod Legs
+pub mod Weights
