@@ -49,7 +49,7 @@ module _ (edges : ℕ) (g : Graph) (f : Long edges g) (t : Passes edges g) where
   cut = rw (f .check-var) (t .check-cut)
 
   -- the entries of a check are the mechanisms that they tell
-  check-row : (c : ℕ) → c < (g .checks) → row (g .checkOffset) c (g .checkVar) ≡ mechanismsOf (g .mechanisms) (ownIncidence g) c
+  pub check-row : (c : ℕ) → c < (g .checks) → row (g .checkOffset) c (g .checkVar) ≡ mechanismsOf (g .mechanisms) (ownIncidence g) c
   unfolding mechanismsOf ownIncidence
   check-row c h =
       let xs = row (g .checkOffset) c (g .checkVar) in

@@ -1,9 +1,9 @@
 -- Laws of the forms that definitions are made of: one element more of a fold, tests that all hold, and the length and the elements of a table, of a part,
 -- and of a list with a part replaced. (One step more of `turns`, `table` and `every`, at `suc n`, is how they compute.) Assumes nothing.
 use mathlib.Core.Path.{_≡_, refl, sym, ap, _∙_}
-use mathlib.Core.Bool.{Bool, true}
+use mathlib.Core.Bool.{Bool, true, false, true≢false}
 use mathlib.Core.List.{List, [], _∷_, _++_, map, foldl}
-use mathlib.Core.Logic.{_⊎_, inl, inr}
+use mathlib.Core.Logic.{_⊎_, inl, inr, ⊎-elim}
 use Prim.Native.Nat.{ℕ, zero, suc, _+_, _-_, _<_, _≤_}
 use native.Mathlib.Nat.{not-suc-le-zero, le-of-suc-le-suc}
 use native.Mathlib.Decide.{decLt}
@@ -11,7 +11,7 @@ use native.Mathlib.Omega.{arith}
 use lib.ListN.{length, getD, take, drop, set, length-append, length-drop, length-set, List·getD-append}
 use lib.Seq.{length-take-le, getD-take, getD-drop, getD-append-add, ext-getD, getD-set-same, getD-set-other}
 use borrow.Author.Count.{below-more}
-use Rattle.numbers.proofs.Cases.{equal-or-not, and-both}
+use Rattle.numbers.proofs.Cases.{either, equal-or-not, and-both}
 use Rattle.numbers.specs.Loops.{table, every, part, spliced}
 
 -- ---- a fold
@@ -34,6 +34,15 @@ every-at (suc n) p h i l = let w = and-both (every n p) (p n) h in below-more (�
 pub every-true : (n : ℕ) (p : ℕ → Bool) → ((i : ℕ) → i < n → p i ≡ true) → every n p ≡ true
 every-true zero p h = refl
 every-true (suc n) p h = rw (every-true n p (λ i l. h i (omega arith)), h n (omega arith))
+
+-- where not every one holds, there is one that fails
+pub every-false : (n : ℕ) (p : ℕ → Bool) → every n p ≡ false → (i : ℕ) × (i < n) × (p i ≡ false)
+every-false zero p h = absurd (true≢false h)
+every-false (suc n) p h =
+    ⊎-elim
+    (λ (a : every n p ≡ true). (n, omega arith, rw a at h))
+    (λ (a : every n p ≡ false). let w = every-false n p a in (w .0, omega (arith, w .1), w .2))
+    (either (every n p))
 
 -- ---- table
 

@@ -5,7 +5,7 @@ use mathlib.Core.Logic.{_⊎_, inl, inr, ⊎-elim}
 use Prim.Native.Nat.{ℕ, _+_, _*_, _<_, _≤_}
 use native.Mathlib.Nat.{mul-right-comm, mul-lt-mul-of-pos-right, mul-le-mul-right, lt-of-mul-lt-mul-right, mul-pos, eq-zero-or-pos}
 use native.Mathlib.Omega.{arith}
-use lib.Ieee.{Float, nan, inf, fin, up, down, below, level, lt, le, isNan}
+use lib.Ieee.{Float, nan, inf, fin, up, down, below, level, lt, eq, le, isNan}
 use lib.Ieee.Fits.{down-pos}
 use lib.Ieee.Positive.{first-pos}
 use lib.Dec.{eqb, ltb}
@@ -234,3 +234,12 @@ below-along (fin s m e) (fin t n d) (inf true) h k = absurd (false≢true k)
 below-along (fin s m e) (fin t n d) (inf false) h k = refl
 below-along (fin s m e) (fin t n d) (fin u c r) h k =
     below-then s t u (m * up e) (n * up d) (c * up r) (down e) (down d) (down r) (down-pos e) (down-pos d) (down-pos r) h (le-fact t _ u _ k)
+
+-- nor is one that equals another above it
+pub eq-le : (x y : Float) → eq x y ≡ true → le x y ≡ true
+unfolding le
+eq-le x y h = second-holds (lt x y) (eq x y) h
+
+-- of what is below another, the other is not at most it
+pub lt-not-le : (x y : Float) → lt x y ≡ true → le y x ≡ true → ⊥
+lt-not-le x y h k = let c = below-along x y x h k in true≢false (sym c ∙ lt-one-way x x c)

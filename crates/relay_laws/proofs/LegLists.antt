@@ -118,6 +118,7 @@ module _ (x : Shot) where
   -- it is the run after its legs
   pub record Finished (run : Run) : Type 0 where
     pub is : run ≡ runAfter x (run .executedLegs)
+    pub some : 1 ≤ run .executedLegs
     pub within : run .executedLegs ≤ many
 
   executed : (r : ℕ) → runAfter x r .executedLegs ≡ r
@@ -125,8 +126,8 @@ module _ (x : Shot) where
   executed zero = refl
   executed (suc r) = refl
 
-  after-finished : (r : ℕ) → r ≤ many → Finished (runAfter x r)
-  after-finished r h = record { is = ap (runAfter x) (sym (executed r)); within = omega (arith, executed r) }
+  after-finished : (r : ℕ) → 1 ≤ r → r ≤ many → Finished (runAfter x r)
+  after-finished r l h = record { is = ap (runAfter x) (sym (executed r)); some = omega (arith, executed r); within = omega (arith, executed r) }
 
   -- an end that came
   finished-is : (n r : ℕ) (e : Ended) → legsFrom byPlace x n (finished e) r ≡ e
@@ -145,13 +146,13 @@ module _ (x : Shot) where
   judged-finished n r Done true run h next e =
       let w = finished-is n (suc r) (decoded (runAfter x (suc r))) in
       let s : runAfter x (suc r) ≡ run = cc in
-      same-finished run (runAfter x (suc r)) s (after-finished (suc r) h)
+      same-finished run (runAfter x (suc r)) s (after-finished (suc r) (omega arith) h)
   judged-finished n r Done false run h next e = next e
 
   -- n legs from the leg r on
   legs-finished : (n r : ℕ) (run : Run) → r + n ≡ many → legsFrom byPlace x n (running (runAfter x r)) r ≡ decoded run → Finished run
   unfolding legsFrom afterLeg runAfter
-  legs-finished zero r run h e = let s : runAfter x r ≡ run = cc in same-finished run (runAfter x r) s (after-finished r (omega arith))
+  legs-finished zero r run h e = let s : runAfter x r ≡ run = cc in same-finished run (runAfter x r) s (after-finished r (omega arith) (omega arith))
   legs-finished (suc n) r run h e =
       let new = runAfter x (suc r) in
       judged-finished n r (posteriorFault (x .graph) (new .posterior)) (leb (x .settings .«stop_after_converged») (new .numConverged)) run (omega arith)

@@ -2,4 +2,7 @@
 pub mod Only
 pub mod OrderOfCall
 pub mod LegLists
+pub mod Parity
+pub mod Executed
+pub mod Best
 pub mod Theorems

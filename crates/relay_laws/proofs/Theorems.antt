@@ -1,16 +1,23 @@
--- What a reader may rely on of Relay's calls, beside the theorems of `relay`: demand 3 of the call itself, and what the leg lists of a decode say. Assumes nothing.
+-- What a reader may rely on of Relay's calls, beside the theorems of `relay`: demand 3 of the call itself, what the leg lists of a decode say, and that its answer is the best
+-- of the legs that they tell. Assumes nothing.
 use Prim.Native.Nat.{ℕ, _<_, _≤_}
-use mathlib.Core.Path.{_≡_, refl, sym, ap, _∙_}
-use mathlib.Core.Logic.{_↔_}
+use mathlib.Core.Path.{_≡_, refl, sym, ap, _∙_, subst}
+use mathlib.Core.Bool.{true}
+use mathlib.Core.Logic.{_↔_, ⊎-elim}
 use mathlib.Core.Option.{Option, none, some}
 use native.Mathlib.Omega.{arith}
-use lib.Ieee.{Float}
+use lib.Ieee.{Float, eq}
 use Rattle.graph_lists.specs.Messages.{byPlace}
 use Rattle.numbers.specs.Loops.{upto}
+use Rattle.numbers.proofs.Cases.{less-or-not}
+use Rattle.numbers.proofs.Order.{eq-le, lt-not-le}
 use Rattle.refusals.specs.declared.Refusal.the-variants.{OrderExchanged}
 use Rattle.refusals.specs.declared.Answer.{Answer}
 use Rattle.refusals.specs.declared.Answer.the-variants.{Done, Refused}
+use Rattle.refusals.proofs.Tests.{or-done}
+use Rattle.graph_lists.proofs.GraphTests.{graph-told}
 use Rattle.relay_settings.specs.declared.Schedule.the-variants.{CheckSerial}
+use Rattle.relay_settings.proofs.Told.{settings-told}
 use Rattle.relay_orders.specs.Order.{NamesOnce, FirstLate}
 use Rattle.relay_calls.specs.declared.Decoded.{Decoded}
 use Rattle.relay_calls.specs.declared.Decoded.the-variants as Decoded
@@ -21,8 +28,11 @@ use Rattle.relay_calls.specs.Decode.{Shot, Run, Ended, decoded, refused, decode
 use Rattle.relay_calls.specs.Calls.{DecodeLists, DecodeOutcome, decodeOutcome, decodeFault, answered, leftBy, afterLegs, afterDecodeTests, decodeInOrder, decode, withOrder, summaryOf}
 use Rattle.relay_laws.specs.Legs.{recordAt}
 use Rattle.relay_laws.specs.Orders.{OrderGood, refusedWith, OthersPass}
+use Rattle.relay_laws.specs.BestOfLegs.{Filed, filed, ConvergedAt, Least, BestOfLegs}
 use Rattle.relay_laws.proofs.OrderOfCall.{order-taken, exchange-placed}
 use Rattle.relay_laws.proofs.LegLists.{values-read, entry-over, Held, held-all, decode-finished}
+use Rattle.relay_laws.proofs.Executed.{holds-all}
+use Rattle.relay_laws.proofs.Best.{best-of-run}
 
 -- ---- demand 3 of the call
 
@@ -100,3 +110,64 @@ module _ (edges : ℕ) (x : Shot) (l : DecodeLists) where
   pub leg-records-back : summaryOf (decodeInOrder edges x l .answer) .refusal ≡ Done → LegsRead (decodeInOrder edges x l)
   unfolding decodeInOrder
   leg-records-back h = tests-read (decodeFault edges x l) h
+
+-- ---- the best of the legs
+
+module _ (edges : ℕ) (x : Shot) (l : DecodeLists) where
+  -- after a run
+  run-best : (run : Run) → decodeFault edges x l ≡ Done → decodeLegs byPlace x ≡ decoded run → BestOfLegs (filed x (answered run (run .bestWeight)) (leftBy edges x run l))
+  unfolding decodeFault
+  run-best run t e =
+      let g = or-done _ _ t in
+      let model = graph-told edges (x .prior) (x .graph) (g .0) in
+      let settings = settings-told (x .settings) (x .graph .mechanisms) (x .gammas) (or-done _ _ (g .1) .0) in
+      let f = decode-finished x run e in
+      let all = holds-all x (model .few .mechanisms-few) (model .priors-many) (model .priors-good) (settings .pre-some) (settings .leg-some) (run .executedLegs) (f .within) in
+      best-of-run edges x l run (model .is-graph) (f .some) (f .within) (rw (← f .is) at all)
+
+  -- however the legs end
+  ended-best : (e : Ended) → decodeFault edges x l ≡ Done → decodeLegs byPlace x ≡ e → summaryOf (afterLegs edges x e l .answer) .refusal ≡ Done
+      → BestOfLegs (filed x (afterLegs edges x e l .answer) (afterLegs edges x e l .left))
+  ended-best (decoded run) t q h = run-best run t q
+  ended-best (refused r) t q h = absurd (let z : _≡_ {A = ℕ} 0 1 = cc in omega arith)
+
+  -- whatever the tests say
+  tests-best : (a : Answer) → decodeFault edges x l ≡ a → summaryOf (afterDecodeTests a (afterLegs edges x (decodeLegs byPlace x) l) l .answer) .refusal ≡ Done
+      → BestOfLegs (filed x (afterDecodeTests a (afterLegs edges x (decodeLegs byPlace x) l) l .answer) (afterDecodeTests a (afterLegs edges x (decodeLegs byPlace x) l) l .left))
+  tests-best Done t h = ended-best (decodeLegs byPlace x) t refl h
+  tests-best (Refused r) t h = absurd (let z : _≡_ {A = ℕ} 0 1 = cc in omega arith)
+
+  -- of the call
+  call-best : summaryOf (decodeInOrder edges x l .answer) .refusal ≡ Done → BestOfLegs (filed x (decodeInOrder edges x l .answer) (decodeInOrder edges x l .left))
+  unfolding decodeInOrder
+  call-best h = tests-best (decodeFault edges x l) refl h
+
+  -- "Show over the recorded legs, graph and syndrome, not the run": whatever the contract of `decode_in_order` allows, if it is an answer, it is the best of the legs that it
+  -- leaves records of
+  pub best-of-legs : (a : Decoded) (left : DecodeLists) → decodeOutcome a left ≡ decodeInOrder edges x l → summaryOf a .refusal ≡ Done → BestOfLegs (filed x a left)
+  best-of-legs a left e h =
+      let s : decodeInOrder edges x l ≡ decodeOutcome a left = sym e in
+      subst (λ (o : DecodeOutcome). BestOfLegs (filed x (o .answer) (o .left))) s (call-best (ap (λ (o : DecodeOutcome). summaryOf (o .answer) .refusal) s ∙ h))
+
+-- and so of `decode`
+pub decode-best-of-legs : (edges : ℕ) (x : Shot) (l : DecodeLists) (a : Decoded) (left : DecodeLists) → decodeOutcome a left ≡ decode edges x l → summaryOf a .refusal ≡ Done
+    → BestOfLegs (filed x a left)
+unfolding decode
+decode-best-of-legs edges x l a left e h = best-of-legs edges (withOrder x (upto (x .graph .checks))) l a left e h
+
+-- "and that leg is the earliest of equal ones": of a converged leg of equal weight, by IEEE comparison, the index is no less
+pub earliest-of-equals : (f : Filed) (b : Least f) (r : ℕ) (w : Float) → ConvergedAt f r w → eq w (b .weight) ≡ true → b .leg ≤ r
+earliest-of-equals f b r w c e =
+    ⊎-elim (λ (h : r < b .leg). absurd (lt-not-le (b .weight) w (b .earliest r w h c) (eq-le w (b .weight) e))) (λ (h : b .leg ≤ r). h) (less-or-not r (b .leg))
+
+-- so a record tells which leg it is: there is no other
+pub least-once : (f : Filed) (b c : Least f) → b .leg ≡ c .leg
+least-once f b c = omega (arith, not-after b c, not-after c b)
+  where
+    not-after : (b c : Least f) → b .leg ≤ c .leg
+    not-after b c =
+        ⊎-elim
+        (λ (h : c .leg < b .leg).
+        absurd (lt-not-le (b .weight) (c .weight) (b .earliest (c .leg) (c .weight) h (c .converged)) (c .least (b .leg) (b .weight) (b .converged))))
+        (λ (h : b .leg ≤ c .leg). h)
+        (less-or-not (c .leg) (b .leg))
