@@ -9,14 +9,13 @@ use mathlib.Core.List.{List}
 use mathlib.Core.Logic.{_⊎_, inl, inr, ⊎-elim}
 use mathlib.Core.Option.{Option, none, some}
 use lib.Ieee.{Float, nan, lt, le}
-use lib.ListN.{length, getD, set, replicate, length-set, length-replicate, getD-replicate}
+use lib.ListN.{length, getD, replicate, length-set, length-replicate, getD-replicate}
 use lib.Seq.{ext-getD, getD-set-same, getD-set-other}
 use Rattle.numbers.specs.Floats.{zero⁺, isFinite}
 use Rattle.numbers.specs.Loops.{turns, part, spliced}
-use Rattle.numbers.proofs.Cases.{either, last-or-before, less-or-not}
+use Rattle.numbers.proofs.Cases.{last-or-before, less-or-not}
 use Rattle.numbers.proofs.Loops.{length-part, getD-part, length-spliced, spliced-in, spliced-out}
 use Rattle.numbers.proofs.Order.{lt-le, le-itself, not-below, below-along, finite-number}
-use Rattle.graph_lists.specs.Graph.{Graph}
 use Rattle.relay_step.specs.Leg.{Leg, satisfied, hardDecision, correctionWeight}
 use Rattle.relay_step.proofs.Weights.{hard-many}
 use Rattle.relay_calls.specs.Records.{valuesOf, recordOfLeg}

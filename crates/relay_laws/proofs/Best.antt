@@ -1,19 +1,19 @@
 -- What a run leaves, over the lists that were lent, is the best of its legs. Assumes nothing.
 use Prim.Native.Nat.{ℕ, suc, _+_, _-_, _*_, _<_, _≤_}
 use native.Mathlib.Omega.{arith}
-use mathlib.Core.Path.{_≡_, refl, sym, ap, _∙_, subst}
+use mathlib.Core.Path.{_≡_, refl, sym, ap, _∙_}
 use mathlib.Core.Bool.{Bool, true, false, true≢false, false≢true, cond}
 use mathlib.Core.List.{List}
 use mathlib.Core.Option.{Option, none, some}
-use lib.Ieee.{Float, nan, lt, le}
+use lib.Ieee.{Float, nan}
 use lib.ListN.{length, getD, drop, replicate, length-append, List·getD-append}
 use lib.Seq.{ext-getD}
 use Rattle.numbers.specs.Floats.{zero⁺}
-use Rattle.numbers.specs.Loops.{over, every}
+use Rattle.numbers.specs.Loops.{over}
 use Rattle.numbers.proofs.Loops.{length-part, getD-part}
 use Rattle.refusals.specs.declared.Answer.the-variants.{Done}
 use Rattle.graph_lists.specs.Model.{isGraph}
-use Rattle.relay_step.specs.Leg.{Leg, hardDecision, matches, satisfied}
+use Rattle.relay_step.specs.Leg.{Leg, satisfied}
 use Rattle.relay_step.proofs.Weights.{hard-bits, hard-many}
 use Rattle.relay_calls.specs.declared.LegRecord.{LegRecord}
 use Rattle.relay_calls.specs.declared.LegRecord.the-variants as LegRecord
@@ -21,7 +21,7 @@ use Rattle.relay_calls.specs.Records.{recordOfLeg}
 use Rattle.relay_calls.specs.Decode.{Shot, Run, correctionOf}
 use Rattle.relay_calls.specs.Calls.{DecodeLists, Summary, summary, summaryOf, answered, leftBy}
 use Rattle.relay_calls.proofs.BestSoFar.{rowIn, row-room, row-long, sumTo, sum-same, BestAt, BestOf, bitsOf, weightOf, Ran, Said, Unsaid, Last, Holds}
-use Rattle.relay_laws.specs.BestOfLegs.{Filed, filed, AreBits, Satisfies, Fails, legOf, iterationsOf, rowOf, ConvergedAt, Blank, Least, RowHolds, BestOfLegs}
+use Rattle.relay_laws.specs.BestOfLegs.{Filed, filed, AreBits, Satisfies, Fails, legOf, iterationsOf, rowOf, ConvergedAt, Blank, RowHolds, BestOfLegs}
 use Rattle.relay_laws.proofs.LegLists.{Entry, entry-over}
 use Rattle.relay_laws.proofs.Parity.{all-match, not-all}
 

@@ -13,10 +13,10 @@ use Rattle.graph_lists.specs.Messages.{Access, byPlace}
 use Rattle.graph_lists.specs.Model.{priorGood}
 use Rattle.relay_settings.specs.declared.Schedule.{Schedule}
 use Rattle.relay_settings.specs.declared.Schedule.the-variants.{Flooding, CheckSerial}
-use Rattle.relay_step.specs.Step.{State, state, updateCheck, updateVariable, computeBias, checkPass, variablePass, floodingIteration, serialCheck, serialPass, checkSerialIteration, iteration}
-use Rattle.relay_step.specs.Leg.{Leg, startLeg, runLeg, satisfied, hardDecision}
+use Rattle.relay_step.specs.Step.{State, updateCheck, updateVariable, computeBias, checkPass, variablePass, floodingIteration, serialCheck, serialPass, checkSerialIteration, iteration}
+use Rattle.relay_step.specs.Leg.{startLeg, runLeg, satisfied, hardDecision}
 use Rattle.relay_step.proofs.Weights.{hard-bits, weight-finite}
-use Rattle.relay_calls.specs.Decode.{Shot, Run, iterationLimit, stepOf, executedLeg}
+use Rattle.relay_calls.specs.Decode.{Shot, iterationLimit, stepOf, executedLeg}
 use Rattle.relay_calls.proofs.BestSoFar.{Ran, Holds, holds-none, holds-more}
 use Rattle.relay_laws.specs.Legs.{runAfter}
 
