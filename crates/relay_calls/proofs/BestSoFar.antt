@@ -19,7 +19,7 @@ use Rattle.numbers.proofs.Order.{lt-le, le-itself, not-below, below-along, fini
 use Rattle.relay_step.specs.Leg.{Leg, satisfied, hardDecision, correctionWeight}
 use Rattle.relay_step.proofs.Weights.{hard-many}
 use Rattle.relay_calls.specs.Records.{valuesOf, recordOfLeg}
-use Rattle.relay_calls.specs.Decode.{Shot, Run, startRun, isNoneOr, recorded}
+use Rattle.relay_calls.specs.Decode.{Shot, Run, startRun, isNoneOr, recorded, correctionOf}
 
 -- ---- a row of the flat list
 
@@ -228,12 +228,12 @@ module _ (x : Shot) where
     pub weight : getD (run .legWeight) k nan ≡ zero⁺
     pub row : rowIn mechanisms (run .rows) k ≡ replicate mechanisms 0
 
-  -- what the last hard decision is of
+  -- what the correction is of where no leg converged: the leg k, which is the last
   pub record Last (run : Run) (k : ℕ) : Type 0 where
     pub leg : Leg
     pub ran : Ran leg
     pub state : getD (run .legState) k 0 ≡ cond (leg .converged) 2 1
-    pub bits : run .hardBits ≡ bitsOf leg
+    pub bits : correctionOf run none ≡ bitsOf leg
 
   -- all of it after r legs
   pub record Holds (r : ℕ) (run : Run) : Type 0 where

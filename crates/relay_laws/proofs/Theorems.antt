@@ -1,8 +1,9 @@
 -- What a reader may rely on of Relay's calls, beside the theorems of `relay`: demand 3 of the call itself, what the leg lists of a decode say, and that its answer is the best
 -- of the legs that they tell. Assumes nothing.
-use Prim.Native.Nat.{ℕ, _<_, _≤_}
+use Prim.Native.Nat.{ℕ, zero, suc, _<_, _≤_}
 use mathlib.Core.Path.{_≡_, refl, sym, ap, _∙_, subst}
 use mathlib.Core.Bool.{true}
+use mathlib.Core.List.{List}
 use mathlib.Core.Logic.{_↔_, ⊎-elim}
 use mathlib.Core.Option.{Option, none, some}
 use native.Mathlib.Omega.{arith}
@@ -19,6 +20,7 @@ use Rattle.graph_lists.proofs.GraphTests.{graph-told}
 use Rattle.relay_settings.specs.declared.Schedule.the-variants.{CheckSerial}
 use Rattle.relay_settings.proofs.Told.{settings-told}
 use Rattle.relay_orders.specs.Order.{NamesOnce, FirstLate}
+use Rattle.relay_step.specs.Leg.{correctionWeight}
 use Rattle.relay_calls.specs.declared.Decoded.{Decoded}
 use Rattle.relay_calls.specs.declared.Decoded.the-variants as Decoded
 use Rattle.relay_calls.specs.declared.LegRecord.{LegRecord}
@@ -28,7 +30,8 @@ use Rattle.relay_calls.specs.Decode.{Shot, Run, Ended, decoded, refused, decode
 use Rattle.relay_calls.specs.Calls.{DecodeLists, DecodeOutcome, decodeOutcome, decodeFault, answered, leftBy, afterLegs, afterDecodeTests, decodeInOrder, decode, withOrder, summaryOf}
 use Rattle.relay_laws.specs.Legs.{recordAt}
 use Rattle.relay_laws.specs.Orders.{OrderGood, refusedWith, OthersPass}
-use Rattle.relay_laws.specs.BestOfLegs.{Filed, filed, ConvergedAt, Least, BestOfLegs}
+use Rattle.relay_calls.proofs.BestSoFar.{sumTo}
+use Rattle.relay_laws.specs.BestOfLegs.{Filed, filed, legOf, iterationsOf, ConvergedAt, Least, BestOfLegs}
 use Rattle.relay_laws.proofs.OrderOfCall.{order-taken, exchange-placed}
 use Rattle.relay_laws.proofs.LegLists.{values-read, entry-over, Held, held-all, decode-finished}
 use Rattle.relay_laws.proofs.Executed.{holds-all}
@@ -154,6 +157,20 @@ pub decode-best-of-legs : (edges : ℕ) (x : Shot) (l : DecodeLists) (a : Decode
     → BestOfLegs (filed x a left)
 unfolding decode
 decode-best-of-legs edges x l a left e h = best-of-legs edges (withOrder x (upto (x .graph .checks))) l a left e h
+
+-- each executed leg has run, so the total is no less than their count
+pub legs-at-most-total : (f : Filed) → BestOfLegs f → f .said .executedLegs ≤ f .said .totalIterations
+legs-at-most-total f b = omega (arith, b .total, counts (f .said .executedLegs) (λ r. iterationsOf (legOf f r)) (b .ran))
+  where
+    counts : (n : ℕ) (i : ℕ → ℕ) → ((k : ℕ) → k < n → 1 ≤ i k) → n ≤ sumTo n i
+    counts zero i h = omega arith
+    counts (suc n) i h = omega (arith, counts n i (λ k l. h k (omega arith)), h n (omega arith))
+
+-- the weight of an answer is that of its correction: a reader can compute it again from the correction alone
+pub weight-again : (f : Filed) → BestOfLegs f → f .said .converged ≡ true → f .said .weight ≡ some (correctionWeight (f .prior) (f .correction) (f .graph .mechanisms))
+weight-again f b c =
+    let l = b .least c in
+    l .answered ∙ ap some (b .rows-hold (l .leg) (l .weight) (l .converged) .again ∙ ap (λ (bits : List ℕ). correctionWeight (f .prior) bits (f .graph .mechanisms)) (l .row))
 
 -- "and that leg is the earliest of equal ones": of a converged leg of equal weight, by IEEE comparison, the index is no less
 pub earliest-of-equals : (f : Filed) (b : Least f) (r : ℕ) (w : Float) → ConvergedAt f r w → eq w (b .weight) ≡ true → b .leg ≤ r
