@@ -350,6 +350,8 @@ uint64_t chowderkite_check_settings(
  *   posterior     mechanisms: at the end of the last leg
  *   counts        converged (1 or 0), executed legs, total iterations
  *   weight        the correction's, positive zero if none converged
+ * What these results say of one another, so that a reader can hold a filed record to it, is docs/REFERENCE.md, "The best of
+ * the legs".
  * Work: gamma and bias, mechanisms long; c_to_v and v_to_c, edges long. What leg lists and rows have beyond their least
  * length is kept.
  *

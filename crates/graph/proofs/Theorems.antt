@@ -32,7 +32,7 @@ unfolding built unlessRefused
 built-lists a inc g h = rw h
 
 -- an accepted sparse model's lists are the graph of its incidences
-sparse-lists : (edges : ℕ) (priors : List Float) (off dets : List ℕ) (g : Graph) → buildSparse edges priors off dets g .answer ≡ Done
+pub sparse-lists : (edges : ℕ) (priors : List Float) (off dets : List ℕ) (g : Graph) → buildSparse edges priors off dets g .answer ≡ Done
     → buildSparse edges priors off dets g .lists ≡ graphOf (g .checks) (g .mechanisms) (among off dets)
 unfolding buildSparse
 sparse-lists edges priors off dets g h = built-lists _ (among off dets) g h

@@ -106,7 +106,7 @@ module _ (h : Heard) (a : Accepted h) (offset : ℕ) (p : List ℕ) (k : Heard) 
 -- ---- a shot goes on
 
 -- a payload that is there
-there : (o : Option (List ℕ)) → isThere o ≡ true → o ≡ some (thePayload o)
+pub there : (o : Option (List ℕ)) → isThere o ≡ true → o ≡ some (thePayload o)
 there none e = absurd (false≢true e)
 there (some p) e = refl
 

@@ -16,4 +16,5 @@ pub mod Ended
 pub mod Accepting
 pub mod Refusing
 pub mod Going
+pub mod Lines
 pub mod ShotsTheorems

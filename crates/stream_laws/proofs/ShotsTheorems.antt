@@ -3,6 +3,7 @@ use Prim.Native.Nat.{ℕ, _+_, _%_, _^_, _≤_}
 use mathlib.Core.Path.{_≡_, refl, sym, ap, _∙_}
 use mathlib.Core.Bool.{Bool, true, false, false≢true}
 use mathlib.Core.List.{List, [], _∷_, _++_, append-assoc, foldl-append}
+use mathlib.Core.Logic.{_⊎_}
 use mathlib.Core.Option.{some}
 use lib.ListN.{length, take}
 use Rattle.refusals.specs.declared.Refusal.{Refusal}
@@ -11,17 +12,20 @@ use Rattle.refusals.specs.Refusal.{numberOf}
 use Rattle.relay_calls.specs.declared.Decoded.the-variants as Decoded
 use Rattle.stream_grammar.specs.Stream.{AreBytes, Rec, AllSayable, stream, isComplete, judge, isOfShot}
 use Rattle.stream_reader.specs.Reading.{fresh, held, fed, payloadKept}
+use Rattle.stream_lines.specs.Lines.{refusedLine}
 use Rattle.stream_table.specs.Table.{modelFault, settingsAnswer}
 use Rattle.stream_session.specs.declared.Session.{Session}
 use Rattle.stream_session.specs.Shots.{Left, startSession, byteTaken, lastText, endText, textOf, sessionText}
 use Rattle.stream_session.specs.Pieces.{nextByte, pieceTaken, pieceText, restText}
-use Rattle.stream_session.specs.Text.{Heard, heard, nothingHeard, isThere, decodeOf, recordSaid, recordsText}
+use Rattle.stream_session.specs.Text.{Heard, heard, nothingHeard, isThere, thePayload, decodeOf, recordSaid, recordsText}
 use Rattle.stream_laws.proofs.Theorems.{Apart, told-apart, meets, ends-at, settings-let-through}
 use Rattle.stream_laws.proofs.Written.{metText, written-met}
 use Rattle.stream_laws.proofs.Ended.{met-told}
 use Rattle.stream_laws.proofs.Accepting.{kept-model, kept-said}
 use Rattle.stream_laws.proofs.Refusing.{shot-refused}
 use Rattle.stream_laws.proofs.Going.{Accepted, nothing-accepted, stays-accepted, shot-goes-on}
+use Rattle.stream_laws.specs.Lines.{LineHolds}
+use Rattle.stream_laws.proofs.Lines.{shot-line}
 
 -- "`shots` reads standard input": of records and what is left over it writes what the grammar and the table say, with each refusal's number and offset, each shot over the
 -- very payloads of the last model and the last settings accepted, where the lists that keep a payload and a model have 5,132 bytes, the longest within the room
@@ -87,6 +91,13 @@ pub no-shot-ends : Accepted nothingHeard
     → recordSaid h offset 3 p .next ≡ some (heard (h .model) (h .settings) ((h .shots + 1) % 2 ^ 64)))
 no-shot-ends =
     (nothing-accepted, λ h offset kind p k a e. stays-accepted h a offset p k kind e, λ h offset p a j. shot-goes-on h a offset p j)
+
+-- the archive's "least weight": over a model and settings that were accepted, a shot past 41 to 45 gets the line of a refusal, or one whose bits are the best of its decode's
+-- legs: they satisfy every check where the line says converged, and fail at least one where it does not
+pub line-holds : (h : Heard) (offset : ℕ) (p : List ℕ) → Accepted h → judge (isThere (h .model)) (isThere (h .settings)) 3 p ≡ Done
+    → LineHolds (h .shots) (thePayload (h .model)) (thePayload (h .settings)) p (recordSaid h offset 3 p .text)
+    ⊎ ((code : ℕ) × (recordSaid h offset 3 p .text ≡ refusedLine (h .shots) code))
+line-holds = shot-line
 
 -- ---- two results that a contract allows coincide
 

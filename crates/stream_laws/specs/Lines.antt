@@ -1,0 +1,65 @@
+-- What a line that `shots` writes of a shot implies, by the model and the syndrome that it is of. Definitions only. Assumes nothing.
+use Prim.Native.Nat.{ℕ, suc, _≤_}
+use mathlib.Core.Path.{_≡_}
+use mathlib.Core.Bool.{Bool, true, false}
+use mathlib.Core.List.{List}
+use mathlib.Core.Option.{Option}
+use lib.Ieee.{Float}
+use Rattle.refusals.specs.declared.Answer.the-variants.{Done}
+use Rattle.graph_lists.specs.Graph.{Graph, graphOf, among}
+use Rattle.relay_calls.specs.Calls.{summary}
+use Rattle.relay_laws.specs.BestOfLegs.{AreBits, Satisfies, Fails, BestOfLegs}
+use Rattle.stream_grammar.specs.Stream.{syndrome}
+use Rattle.stream_grammar.specs.Fields.{countsRead, modelRead, settingsRead}
+use Rattle.stream_lines.specs.Lines.{shotLine}
+use Rattle.stream_table.specs.Table.{modelRoom}
+
+-- the graph of a model's payload: its counts, and which checks each mechanism sets off
+abbrev pub modelGraph : List ℕ → Graph
+modelGraph model =
+    let c = countsRead model in
+    let l = modelRead model (modelRoom c) in
+    graphOf (c .checks) (c .mechanisms) (among (l .detectorOffsets) (l .detectors))
+
+-- its priors
+abbrev pub modelPriors : List ℕ → List Float
+modelPriors model = modelRead model (modelRoom (countsRead model)) .priors
+
+-- how many legs settings allow
+abbrev pub mostLegs : List ℕ → ℕ
+mostLegs settings = suc (settingsRead settings .«num_legs»)
+
+-- a text that says converged or not, total, legs and bits of the shot p, each a payload
+pub record LineHolds (shots : ℕ) (model settings p text : List ℕ) : Type 0 where
+  pub converged : Bool
+  pub total : ℕ
+  pub legs : ℕ
+  pub bits : List ℕ
+  pub says : text ≡ shotLine shots converged total legs bits
+  -- a bit for each mechanism. Converged, they satisfy every check; not converged, they fail at least one
+  pub are-bits : AreBits (modelGraph model .mechanisms) bits
+  pub satisfies : converged ≡ true → Satisfies (modelGraph model) (syndrome p) bits
+  pub fails : converged ≡ false → Fails (modelGraph model) (syndrome p) bits
+  -- some leg ran, no more than may, and each at least once
+  pub some-leg : 1 ≤ legs
+  pub legs-within : legs ≤ mostLegs settings
+  pub legs-ran : legs ≤ total
+  -- and there are a weight and leg lists, which the decode left and `shots` does not write, of which the bits are the best
+  pub weight : Option Float
+  pub legState : List ℕ
+  pub legIterations : List ℕ
+  pub legWeight : List Float
+  pub rows : List ℕ
+  pub best : BestOfLegs
+      (record {
+        graph = modelGraph model;
+        prior = modelPriors model;
+        syndrome = syndrome p;
+        legs = mostLegs settings;
+        said = summary Done converged legs total weight;
+        legState = legState;
+        legIterations = legIterations;
+        legWeight = legWeight;
+        rows = rows;
+        correction = bits;
+      })
