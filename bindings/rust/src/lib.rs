@@ -4,7 +4,8 @@
 //! Min-sum beliefs and Relay-BP, in the shape of PECOS's `pecos-bp`, over code that is proved equal to one definition over IEEE
 //! 754 binary64, bit for bit, on every input. This crate makes lists that fit, calls the proved code, and passes on what it
 //! answers: it computes and refuses nothing itself. Plain Rust, tested and not proved, are this passing on, how [`RelayState`]
-//! starts a leg, how [`GammaSource::drawn`] repeats a shot's draws, and how [`Shots`] gathers lines.
+//! starts a leg, how [`GammaSource::drawn`] repeats a shot's draws, how [`RelayOutcome::audit`] reads a record, and how [`Shots`]
+//! gathers lines.
 //!
 //! The reference, docs/REFERENCE.md, decides behaviour; the numbers below are its refusals.
 //!
@@ -66,6 +67,13 @@
 //! A bad input is answered by an [`Error`]: one number and, where the refusal has one, one place. Each call lists the numbers
 //! that it can give. Lists that were lent to a refused call are as they were, but for 30, which leaves zeroes in results.
 //!
+//! # Auditing a filed record
+//!
+//! It is proved of every decode what its record says of itself: that the correction is the one of least weight among the legs that
+//! converged, of the earlier one on ties, and has the parities of the syndrome; that weights are the sums over their corrections,
+//! and the total that of the iterations. [`RelayOutcome::audit`] holds a record to that, which was filed with its model and its
+//! syndrome, and tells the first line that does not hold. It needs no settings and no seed, and decodes nothing.
+//!
 //! # Coming from `pecos-bp`
 //!
 //! | There | Here |
@@ -93,6 +101,7 @@
 #![deny(missing_docs)]
 #![forbid(unsafe_code)]
 
+mod audit;
 mod draw;
 mod error;
 mod graph;
@@ -103,6 +112,7 @@ mod relay;
 mod shots;
 mod version;
 
+pub use audit::Broken;
 pub use error::{Error, Refusal};
 pub use graph::{BpGraph, GraphLists};
 pub use iteration::{iteration, RelayState};
