@@ -1,10 +1,12 @@
 //! Whole decodes against the Rust, every field and every bit; and each again in several orders of its checks, against the decode in
-//! index order, or against a plain test of the order.
+//! index order, or against a plain test of the order. What any of them leaves is held to the lines of `best`.
 
+use crate::best::{self, Asked};
 use crate::counts::Counts;
 use crate::damage::{damage_lists, nudge_length};
 use crate::given::{Given, model_of};
 use crate::rounds::{Part, Rate};
+use crate::spoils;
 use crate::steps::random_order;
 use crate::table::{
     MOST_COUNT, MOST_TURNS, test, wanted_alpha, wanted_lengths, wanted_lists, wanted_mechanisms,
@@ -42,7 +44,11 @@ pub const PARTS: &[Part] = &[
 
 fn small(case: u64, random: &mut SplitMix64, counts: &mut Counts) {
     let case = random_case(random, case as usize);
-    let names = ["decodes, small", "orders of small decodes"];
+    let names = [
+        "decodes, small",
+        "orders of small decodes",
+        "legs, best of small decodes",
+    ];
     compare(names, &case, random, counts);
 }
 
@@ -158,8 +164,8 @@ fn legs_read(left: &Decode, legs: usize) -> bool {
     })
 }
 
-/// The name of a decode's comparison, and that of its comparisons in other orders.
-pub type Names = [&'static str; 2];
+/// The name of a decode's comparison, that of its comparisons in other orders, and that of the lines of what they leave.
+pub type Names = [&'static str; 3];
 
 /// One decode both ways, and then in other orders.
 fn compare(names: Names, case: &DecodeCase, random: &mut SplitMix64, counts: &mut Counts) {
@@ -176,7 +182,7 @@ fn compare(names: Names, case: &DecodeCase, random: &mut SplitMix64, counts: &mu
 
 /// The same over a graph that was built, beside what the Rust answers.
 pub fn compare_over(
-    [name, orders]: Names,
+    [name, orders, lines]: Names,
     (given, built): (&Given, Answer),
     case: &DecodeCase,
     rust: &Result<Decoded, Refusal>,
@@ -207,6 +213,16 @@ pub fn compare_over(
         built == Ok(()) && answer == wanted && bits(&left) == wanted_bits && legs_read(&left, legs),
         || format!("{answer:?}, {left:?} for {rust:?}: {case:?}"),
     );
+    let asked = Asked {
+        detectors: &case.model.detectors,
+        priors: &given.priors,
+        syndrome: &case.syndrome,
+        legs,
+    };
+    if answer == Ok(()) && best::check(lines, asked, &left, counts) {
+        best::note(asked, &left, counts);
+        spoils::check(asked, &left, seed_of_spoils(case), counts);
+    }
     for _ in 0..ORDERS {
         let order = some_order(given, random);
         let refused = wanted_of_order(given, settings.serial, &order);
@@ -221,7 +237,16 @@ pub fn compare_over(
         counts.check(orders, refused, good, || {
             format!("{in_order:?} for {refused:?}, {wanted:?}: {order:?}, {case:?}")
         });
+        if in_order == Ok(()) {
+            best::check(lines, asked, &left, counts);
+        }
     }
+}
+
+/// Of the case, so that no case is changed by what is drawn for spoiling.
+fn seed_of_spoils(case: &DecodeCase) -> u64 {
+    let of_schedule = u64::from(case.settings.serial);
+    SplitMix64::new(!case.seed).draw().wrapping_add(of_schedule)
 }
 
 /// An order of the checks: any, or one that keeps the index order of checks that share a mechanism, or one that does not name each
@@ -290,7 +315,11 @@ const LARGE: [(usize, usize, usize, usize, usize); 4] = [
 
 fn large(case: u64, random: &mut SplitMix64, counts: &mut Counts) {
     let case = large_case(case, random);
-    let names = ["decodes, large", "orders of large decodes"];
+    let names = [
+        "decodes, large",
+        "orders of large decodes",
+        "legs, best of large decodes",
+    ];
     compare(names, &case, random, counts);
 }
 
@@ -508,4 +537,14 @@ fn damaged(_: u64, random: &mut SplitMix64, counts: &mut Counts) {
     counts.check("decodes, damaged", wanted, good && built == Ok(()), || {
         format!("{answer:?} for {wanted:?}: {settings:?}, {shot:?}, {given:?}")
     });
+    if (wanted, answer) == (Ok(()), Ok(())) {
+        // The damage may have made another graph of the model's.
+        let asked = Asked {
+            detectors: &best::detectors_of(given.size, &given.lists),
+            priors: &given.priors,
+            syndrome: &case.syndrome,
+            legs: settings.num_legs + 1,
+        };
+        best::check("legs, best of damaged decodes", asked, &left, counts);
+    }
 }

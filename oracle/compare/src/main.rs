@@ -2,6 +2,7 @@
 //! bits, where a NaN is a value that is compared as it is read (`numbers`, `streams`) with any NaN. The last line says 'N passed, M failed'.
 
 mod beliefs;
+mod best;
 mod chances;
 mod counts;
 mod damage;
@@ -14,6 +15,7 @@ mod priors;
 mod progress;
 mod records;
 mod rounds;
+mod spoils;
 mod steps;
 mod table;
 

@@ -561,6 +561,7 @@ fn decodes(case: u64, random: &mut SplitMix64, counts: &mut Counts) {
     let names = [
         "decodes of probabilities",
         "orders of decodes of probabilities",
+        "legs, best of decodes of probabilities",
     ];
     decode(names, case, random, counts);
 }
@@ -570,6 +571,7 @@ fn large_decodes(case: u64, random: &mut SplitMix64, counts: &mut Counts) {
     let names = [
         "large decodes of probabilities",
         "orders of large decodes of probabilities",
+        "legs, best of large decodes of probabilities",
     ];
     decode(names, case, random, counts);
 }
