@@ -208,3 +208,184 @@ impl Reading<'_> {
         })
     }
 }
+
+/// Lists made by hand, for the tests here and of the spoiling.
+#[cfg(test)]
+pub mod by_hand {
+    use super::Asked;
+    use proved::Decode;
+    use std::sync::LazyLock;
+
+    static DETECTORS: LazyLock<[Vec<u32>; 4]> =
+        LazyLock::new(|| [vec![0], vec![0, 1], vec![1], vec![0]]);
+
+    pub fn asked(legs: usize) -> Asked<'static> {
+        Asked {
+            detectors: &*DETECTORS,
+            priors: &[4.0, 1.0, 3.0, 5.0],
+            syndrome: &[1, 0],
+            legs,
+        }
+    }
+
+    /// Of a leg its state, iterations, weight and row.
+    pub type Leg = (u8, u32, f64, [u8; 4]);
+
+    /// The lists of some legs, and one leg of surplus.
+    pub fn left(legs: &[Leg], counts: [u64; 3], weight: f64, correction: [u8; 4]) -> Decode {
+        let mut legs = legs.to_vec();
+        legs.push((9, 9, 9.0, [9; 4]));
+        Decode {
+            leg_state: legs.iter().map(|leg| leg.0).collect(),
+            leg_steps: legs.iter().map(|leg| leg.1).collect(),
+            leg_weight: legs.iter().map(|leg| leg.2).collect(),
+            rows: legs.iter().flat_map(|leg| leg.3).collect(),
+            correction: correction.to_vec(),
+            counts,
+            weight: [weight],
+            ..Decode::default()
+        }
+    }
+
+    pub const HEAVY: [u8; 4] = [0, 0, 0, 1];
+    pub const BEST: [u8; 4] = [1, 0, 0, 0];
+    /// As heavy as the best one.
+    pub const TIE: [u8; 4] = [0, 1, 1, 0];
+
+    /// Five legs: leg 2 is the best, leg 3 as good, and leg 4 was not executed.
+    pub fn converged() -> Decode {
+        let legs = [
+            (1, 3, 0.0, [0; 4]),
+            (2, 2, 5.0, HEAVY),
+            (2, 1, 4.0, BEST),
+            (2, 2, 4.0, TIE),
+            (0, 0, 0.0, [0; 4]),
+        ];
+        left(&legs, [1, 4, 8], 4.0, BEST)
+    }
+
+    /// Two legs that ran out.
+    pub fn not_converged() -> Decode {
+        let legs = [(1, 3, 0.0, [0; 4]), (1, 2, 0.0, [0; 4])];
+        left(&legs, [0, 2, 5], 0.0, [0, 0, 1, 0])
+    }
+}
+
+#[cfg(test)]
+mod tests {
+    use super::by_hand::{BEST, HEAVY, TIE, asked, converged, left, not_converged};
+    use super::{Asked, first_broken};
+    use proved::Decode;
+
+    type Change = fn(&mut Decode);
+
+    #[test]
+    fn whole_lists_hold() {
+        assert_eq!(first_broken(asked(5), &converged()), None);
+        assert_eq!(first_broken(asked(2), &not_converged()), None);
+    }
+
+    #[test]
+    fn what_is_spoiled_is_told() {
+        let changes: &[(usize, Change)] = &[
+            (0, |left| left.correction[0] = 3),
+            (0, |left| left.rows[19] = 2),
+            (0, |left| left.rows.truncate(19)),
+            (0, |left| left.leg_weight.truncate(4)),
+            (0, |left| left.correction.push(0)),
+            (1, |left| left.counts[0] = 0),
+            (1, |left| left.counts[0] = 2),
+            (1, |left| left.counts[1] = 1),
+            (2, |left| left.correction = TIE.to_vec()),
+            (2, |left| left.correction = HEAVY.to_vec()),
+            (2, |left| left.weight = [5.0]),
+            (2, |left| left.weight = [4.0_f64.next_down()]),
+            (2, |left| left.weight = [f64::NAN]),
+            (2, |left| left.counts[1] = 2),
+            (2, |left| left.leg_weight[1] = 4.0),
+            (2, |left| left.leg_weight[1] = f64::INFINITY),
+            (2, |left| left.leg_weight[3] = f64::NAN),
+            (2, |left| left.leg_weight[3] = 4.0_f64.next_down()),
+            (2, |left| left.leg_state[2] = 1),
+            (4, |left| left.counts[1] = 3),
+            (4, |left| left.counts[1] = 5),
+            (4, |left| left.counts[1] = u64::MAX),
+            (4, |left| left.counts[2] = 9),
+            (4, |left| left.leg_steps[3] = 0),
+            (4, |left| left.leg_state[0] = 0),
+            (5, |left| left.leg_weight[3] = 4.0_f64.next_up()),
+            (5, |left| left.rows[7] = 0),
+            (5, |left| left.leg_state[3] = 1),
+            (5, |left| left.leg_weight[0] = -0.0),
+            (5, |left| left.rows[0] = 1),
+            (5, |left| left.leg_state[4] = 2),
+            (5, |left| left.leg_steps[4] = 1),
+            (5, |left| left.leg_weight[4] = -0.0),
+            (5, |left| left.rows[16] = 1),
+        ];
+        for (place, (line, change)) in changes.iter().enumerate() {
+            let mut left = converged();
+            change(&mut left);
+            let told = first_broken(asked(5), &left);
+            assert_eq!(told, Some(*line), "change {place}");
+        }
+        let changes: &[(usize, Change)] = &[
+            (1, |left| left.counts[0] = 1),
+            (3, |left| left.weight = [-0.0]),
+            (3, |left| left.correction = TIE.to_vec()),
+            (4, |left| left.counts = [0, 0, 0]),
+            (4, |left| left.counts = [0, 3, 14]),
+        ];
+        for (place, (line, change)) in changes.iter().enumerate() {
+            let mut left = not_converged();
+            change(&mut left);
+            let told = first_broken(asked(2), &left);
+            assert_eq!(told, Some(*line), "change {place}");
+        }
+    }
+
+    /// A later leg of the same row and weight may not be told from the best, and a surplus leg is not read.
+    #[test]
+    fn what_makes_no_difference() {
+        let changes: &[Change] = &[
+            |left| {
+                left.leg_weight[3] = 4.0;
+                left.rows.copy_within(8..12, 12);
+            },
+            |left| {
+                left.leg_state[5] = 2;
+                left.rows[20] = 0;
+            },
+            // Nobody can tell that leg 1 converged.
+            |left| {
+                left.leg_state[1] = 1;
+                left.leg_weight[1] = 0.0;
+                left.rows[7] = 0;
+            },
+        ];
+        for change in changes {
+            let mut left = converged();
+            change(&mut left);
+            assert_eq!(first_broken(asked(5), &left), None);
+        }
+    }
+
+    /// Two zeroes are one weight, and the answer's is that of the earlier leg.
+    #[test]
+    fn signs_of_zeroes() {
+        let of = |priors: &'static [f64], legs: [f64; 2], weight: f64| {
+            let legs = [(2, 1, legs[0], BEST), (2, 1, legs[1], TIE)];
+            let asked = Asked { priors, ..asked(2) };
+            first_broken(asked, &left(&legs, [1, 2, 2], weight, BEST))
+        };
+        let positive = &[0.0, -1.0, 1.0, 0.0];
+        assert_eq!(of(positive, [0.0, 0.0], 0.0), None);
+        assert_eq!(of(positive, [0.0, 0.0], -0.0), Some(2));
+        assert_eq!(of(positive, [0.0, -0.0], 0.0), Some(5));
+        assert_eq!(of(positive, [-0.0, 0.0], 0.0), Some(2));
+        let negative = &[-0.0; 4];
+        assert_eq!(of(negative, [-0.0, -0.0], -0.0), None);
+        assert_eq!(of(negative, [-0.0, -0.0], 0.0), Some(2));
+        assert_eq!(of(negative, [0.0, 0.0], 0.0), Some(5));
+    }
+}

@@ -367,3 +367,26 @@ fn no_bit(random: &mut SplitMix64, filed: &mut Filed) -> Option<Lines> {
     }
     Some(&[0])
 }
+
+#[cfg(test)]
+mod tests {
+    use super::{Filed, WAYS, spoiled};
+    use crate::best::by_hand::{asked, converged, not_converged};
+    use oracle::splitmix::SplitMix64;
+
+    #[test]
+    fn every_way_is_gone_and_told() {
+        let mut gone = [0; WAYS.len()];
+        for (legs, left) in [(5, converged()), (2, not_converged())] {
+            let whole = Filed::new(asked(legs), &left);
+            for seed in 0..20_000 {
+                let (way, filed, lines) = spoiled(&mut SplitMix64::new(seed), &whole);
+                let told = filed.told();
+                let is_told = told.is_some_and(|line| lines.contains(&line));
+                assert!(is_told, "{told:?} for {lines:?}, way {way}: {filed:?}");
+                gone[way] += 1;
+            }
+        }
+        assert!(gone.iter().all(|&times| times > 100), "{gone:?}");
+    }
+}
