@@ -40,6 +40,10 @@ pub const PARTS: &[Part] = &[
         rate: Rate::First(1),
         case: published,
     },
+    Part {
+        rate: Rate::Each(1),
+        case: of_two_minds,
+    },
 ];
 
 fn small(case: u64, random: &mut SplitMix64, counts: &mut Counts) {
@@ -48,6 +52,45 @@ fn small(case: u64, random: &mut SplitMix64, counts: &mut Counts) {
         "decodes, small",
         "orders of small decodes",
         "legs, best of small decodes",
+    ];
+    compare(names, &case, random, counts);
+}
+
+/// Legs that come to different corrections, often of the same weight: more mechanisms than checks, few priors, and a strong memory.
+fn of_two_minds(_: u64, random: &mut SplitMix64, counts: &mut Counts) {
+    let checks = random.between(2, 8);
+    let mechanisms = random.between(checks + 2, 3 * checks);
+    let size = Size {
+        checks,
+        mechanisms,
+        edges: 2 * mechanisms,
+    };
+    let mut model = model_of(size, random);
+    let chances = [0.1, random.pick(&[0.1, 0.2, 0.5, 0.6])];
+    for probability in &mut model.probabilities {
+        *probability = random.pick(&chances);
+    }
+    let (low, high) = random.pick(&[(-0.24, 0.66), (-1.0, 1.0), (-0.5, 1.5)]);
+    let case = DecodeCase {
+        syndrome: model.syndrome_of(&random.flags(mechanisms, 3)),
+        model,
+        settings: CaseSettings {
+            serial: random.once_in(2),
+            gamma0: random.pick(&[0.1, 0.5, 0.9]),
+            pre_iterations: random.between(1, 6),
+            num_legs: random.between(3, 12),
+            leg_iterations: random.between(2, 10),
+            low,
+            high,
+            stop: random.between(2, 6),
+            ..CaseSettings::default_point()
+        },
+        seed: random.draw(),
+    };
+    let names = [
+        "decodes, of two minds",
+        "orders of decodes of two minds",
+        "legs, best of decodes of two minds",
     ];
     compare(names, &case, random, counts);
 }
