@@ -6,7 +6,8 @@ use crate::rounds::{Part, Rate};
 use oracle::bits::same;
 use oracle::splitmix::SplitMix64;
 use proved::streams::{self as calls, Line, MAX_PAYLOAD};
-use streams::{expect, random};
+use streams::expect::{self, Asked};
+use streams::random;
 
 pub const PARTS: &[Part] = &[
     Part {
@@ -31,6 +32,45 @@ fn stream(_: u64, g: &mut SplitMix64, counts: &mut Counts) {
         )
     });
     counts.check("readers", Ok(()), meets(&stream), || format!("{stream:?}"));
+    let text = String::from_utf8_lossy(&found);
+    let lines: Vec<&str> = text.lines().collect();
+    for asked in &wanted.decoded {
+        // Each shot has a line, and nothing else has one before the last.
+        let line = lines.get(asked.number).copied().unwrap_or_default();
+        let good = is_implied(line, asked).unwrap_or(false);
+        counts.check("lines, what they imply", Ok(()), good, || {
+            format!("{line:?}: {asked:?}")
+        });
+    }
+}
+
+/// Whether the line of a shot that was decoded says what every decode implies: its bits have the parities of the syndrome exactly if it
+/// converged, a leg was executed and not more than there are, and each has run. None where it does not read as such a line.
+fn is_implied(line: &str, asked: &Asked) -> Option<bool> {
+    let mut words = line.split(' ');
+    let is_of_shot = words.next()? == "shot" && words.next()?.parse() == Ok(asked.number);
+    let converged = bit(words.next()?.as_bytes())?;
+    let total: u64 = words.next()?.parse().ok()?;
+    let legs: u64 = words.next()?.parse().ok()?;
+    let digits = words.next().unwrap_or_default().as_bytes();
+    let bits: Vec<bool> = digits.chunks(1).map(bit).collect::<Option<_>>()?;
+    let satisfies = asked.model.syndrome_of(&bits) == asked.syndrome;
+    Some(
+        is_of_shot
+            && words.next().is_none()
+            && bits.len() == asked.model.mechanisms.len()
+            && satisfies == converged
+            && (1..=u64::from(asked.legs) + 1).contains(&legs)
+            && legs <= total,
+    )
+}
+
+fn bit(digit: &[u8]) -> Option<bool> {
+    match digit {
+        b"0" => Some(false),
+        b"1" => Some(true),
+        _ => None,
+    }
 }
 
 /// What a session says of a stream.
@@ -182,4 +222,46 @@ fn lines(_: u64, g: &mut SplitMix64, counts: &mut Counts) {
     counts.check("lines", Ok(()), good, || {
         format!("{a} {b} {c} {converged} {bits:?}")
     });
+}
+
+#[cfg(test)]
+mod tests {
+    use super::is_implied;
+    use streams::expect;
+
+    /// The reference's example: G without relayed legs, and a shot of the syndrome 1 and 0.
+    #[test]
+    fn lines_of_g() {
+        let run = expect::run(include_bytes!("../../../examples/g.stream"));
+        let asked = &run.decoded[0];
+        for line in ["shot 0 1 2 1 100", "shot 0 1 9 1 011", "shot 0 0 1 1 000"] {
+            assert_eq!(is_implied(line, asked), Some(true), "{line}");
+        }
+        for line in [
+            "shot 1 1 2 1 100",
+            "shot 0 0 2 1 100",
+            "shot 0 1 2 1 000",
+            "shot 0 1 2 1 010",
+            "shot 0 1 0 1 100",
+            "shot 0 1 2 0 100",
+            "shot 0 1 2 2 100",
+            "shot 0 1 2 1 10",
+            "shot 0 1 2 1 1000",
+            "shot 0 1 2 1 100 ",
+            "shot 0 1 2 1",
+        ] {
+            assert_eq!(is_implied(line, asked), Some(false), "{line}");
+        }
+        for line in [
+            "",
+            "shot 0",
+            "shot 0 2 2 1 100",
+            "shot 0 1 x 1 100",
+            "shot 0 1 2 1 102",
+            "shot 0 refused 30",
+            "end 1",
+        ] {
+            assert_eq!(is_implied(line, asked), None, "{line}");
+        }
+    }
 }

@@ -14,10 +14,21 @@ pub struct Run {
     settings: Option<Settings>,
     /// What became of each shot: the number that refused it, or none.
     pub shots: Vec<Option<Code>>,
+    /// What was asked of each shot that was decoded.
+    pub decoded: Vec<Asked>,
     /// The number that ended the run, or none.
     pub stopped: Option<Code>,
     /// All that is written.
     pub text: String,
+}
+
+/// A shot that was decoded: its number, the syndrome, and the model and the relayed legs that held then.
+#[derive(Clone, Debug)]
+pub struct Asked {
+    pub number: usize,
+    pub syndrome: Vec<u8>,
+    pub model: Model,
+    pub legs: u32,
 }
 
 /// The run over a whole stream.
@@ -94,6 +105,14 @@ impl Run {
             Ok(decoded) => shot_line(number, decoded),
             Err(code) => format!("shot {number} refused {code}\n"),
         };
+        if answer.is_ok() {
+            self.decoded.push(Asked {
+                number,
+                syndrome: syndrome.to_vec(),
+                model: model.clone(),
+                legs: settings.legs,
+            });
+        }
         self.shots.push(answer.err());
         Ok(())
     }
