@@ -274,7 +274,7 @@ pub mod by_hand {
 #[cfg(test)]
 mod tests {
     use super::by_hand::{BEST, HEAVY, TIE, asked, converged, left, not_converged};
-    use super::{Asked, first_broken};
+    use super::{Asked, first_broken, weight_of};
     use proved::Decode;
 
     type Change = fn(&mut Decode);
@@ -312,9 +312,22 @@ mod tests {
             (4, |left| left.counts[1] = u64::MAX),
             (4, |left| left.counts[2] = 9),
             (4, |left| left.leg_steps[3] = 0),
+            (4, |left| {
+                left.leg_steps[3] = 0;
+                left.counts[2] = 6;
+            }),
             (4, |left| left.leg_state[0] = 0),
             (5, |left| left.leg_weight[3] = 4.0_f64.next_up()),
             (5, |left| left.rows[7] = 0),
+            // A row that weighs what it says, and fails.
+            (5, |left| {
+                left.rows[5] = 1;
+                left.leg_weight[1] = 6.0;
+            }),
+            (5, |left| {
+                left.counts[1] = 3;
+                left.counts[2] = 6;
+            }),
             (5, |left| left.leg_state[3] = 1),
             (5, |left| left.leg_weight[0] = -0.0),
             (5, |left| left.rows[0] = 1),
@@ -335,6 +348,11 @@ mod tests {
             (3, |left| left.correction = TIE.to_vec()),
             (4, |left| left.counts = [0, 0, 0]),
             (4, |left| left.counts = [0, 3, 14]),
+            // The third leg is surplus.
+            (4, |left| {
+                left.counts = [0, 3, 14];
+                left.leg_state[2] = 2;
+            }),
         ];
         for (place, (line, change)) in changes.iter().enumerate() {
             let mut left = not_converged();
@@ -368,6 +386,21 @@ mod tests {
             change(&mut left);
             assert_eq!(first_broken(asked(5), &left), None);
         }
+    }
+
+    /// In index order, from -0.0, and a bit that is not set counts.
+    #[test]
+    fn weights() {
+        let of = |bits: &[u8], priors: &[f64]| weight_of(bits, priors).to_bits();
+        let (positive, negative) = (0.0_f64.to_bits(), (-0.0_f64).to_bits());
+        assert_eq!(of(&[], &[]), negative);
+        assert_eq!(of(&[0], &[1.0]), positive);
+        assert_eq!(of(&[0, 1], &[-1.0, -0.0]), negative);
+        assert_eq!(
+            of(&[1; 3], &[0.1, 0.2, 0.3]),
+            (0.1_f64 + 0.2 + 0.3).to_bits()
+        );
+        assert_ne!(of(&[1; 3], &[0.1, 0.2, 0.3]), of(&[1; 3], &[0.3, 0.2, 0.1]));
     }
 
     /// Two zeroes are one weight, and the answer's is that of the earlier leg.

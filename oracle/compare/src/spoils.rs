@@ -21,7 +21,7 @@ type Lines = &'static [usize];
 /// Spoils a copy, where it can be spoiled so.
 type Way = fn(&mut SplitMix64, &mut Filed) -> Option<Lines>;
 
-const WAYS: [Way; 20] = [
+const WAYS: [Way; 22] = [
     another_row,
     another_leg,
     a_later_tie,
@@ -31,9 +31,11 @@ const WAYS: [Way; 20] = [
     a_bit_of_the_best,
     a_bit_of_both,
     a_bit_of_another,
+    a_bit_with_its_weight,
     the_total,
     a_legs_iterations,
     the_count_of_legs,
+    the_count_with_its_total,
     the_flag,
     a_state,
     a_leg_that_is_hidden,
@@ -238,14 +240,22 @@ fn the_total(random: &mut SplitMix64, filed: &mut Filed) -> Option<Lines> {
     Some(&[4])
 }
 
+/// More or less by one; or none, with a total that is right.
 fn a_legs_iterations(random: &mut SplitMix64, filed: &mut Filed) -> Option<Lines> {
     let leg = random.below(filed.executed);
     let steps = &mut filed.left.leg_steps[leg];
-    *steps = random.pick(&[0, *steps - 1, *steps + 1]);
+    match random.below(3) {
+        0 => *steps -= 1,
+        1 => *steps += 1,
+        _ => {
+            filed.left.counts[2] -= u64::from(*steps);
+            *steps = 0;
+        }
+    }
     Some(&[4])
 }
 
-/// Fewer legs may leave out the best, or all that converged; more have legs among them that have not run, or that there are not.
+/// Fewer legs may leave out the best, or all that converged. More have legs among them that have not run, or that there are not.
 fn the_count_of_legs(random: &mut SplitMix64, filed: &mut Filed) -> Option<Lines> {
     let executed = filed.executed as u64;
     let all = filed.asked.legs as u64;
@@ -258,6 +268,20 @@ fn the_count_of_legs(random: &mut SplitMix64, filed: &mut Filed) -> Option<Lines
     })
 }
 
+/// Fewer legs, and the total of those: then one that was left out has a record that it should not have, unless none is left.
+fn the_count_with_its_total(random: &mut SplitMix64, filed: &mut Filed) -> Option<Lines> {
+    let count = random.below(filed.executed);
+    let left_in = &filed.left.leg_steps[..count];
+    let total = left_in.iter().map(|&steps| u64::from(steps)).sum();
+    filed.left.counts = [filed.left.counts[0], count as u64, total];
+    Some(match (filed.found.first(), filed.best) {
+        (Some(&first), _) if first >= count => &[1],
+        (_, Some(best)) if best >= count => &[2],
+        _ if count == 0 => &[4],
+        _ => &[5],
+    })
+}
+
 /// A leg that ran out, in the state of one that was not executed, or in none.
 fn a_state(random: &mut SplitMix64, filed: &mut Filed) -> Option<Lines> {
     let leg = one_of(random, &filed.in_state(1))?;
@@ -267,25 +291,32 @@ fn a_state(random: &mut SplitMix64, filed: &mut Filed) -> Option<Lines> {
 
 // ---- the legs
 
-/// A bit of a leg's weight. Line 5 tells what line 2 lets through; and if the best leg has others of its weight, one of those may pass for it.
+/// Whether line 2 lets a weight through that a leg is given, other than the best.
+fn passes(filed: &Filed, leg: usize, weight: f64) -> bool {
+    let said = filed.left.weight[0];
+    let is_later = filed.best.is_some_and(|best| best < leg);
+    weight.is_finite() && (said < weight || is_later && said == weight)
+}
+
+/// A bit of a leg's weight, or none that is finite. If the best leg has others of its weight, one of those may pass for it.
 fn a_legs_weight(random: &mut SplitMix64, filed: &mut Filed) -> Option<Lines> {
     let leg = one_of(random, &filed.found)?;
-    let (best, said) = (filed.best?, filed.left.weight[0]);
+    let said = filed.left.weight[0];
     let alike = filed.found.iter().filter(|&&leg| filed.weight(leg) == said);
     let is_alone = alike.count() == 1;
-    // Rather one of the last bits, so that the weight stays near to what it was.
-    let bit = match random.below(2) {
-        0 => random.below(64),
-        _ => random.below(4),
+    // Rather one of the last bits, so that the weight stays near to what it was, or its sign.
+    let any = random.below(64);
+    let bit = random.pick(&[0, 1, 2, 3, 63, 63, any, any]);
+    let weight = match random.below(5) {
+        0 => random.pick(&[f64::INFINITY, f64::NEG_INFINITY, f64::NAN]),
+        _ => f64::from_bits(filed.weight(leg).to_bits() ^ 1 << bit),
     };
-    let weight = f64::from_bits(filed.weight(leg).to_bits() ^ 1 << bit);
     filed.left.leg_weight[leg] = weight;
-    let is_before = |limit: f64| weight < limit || leg < best && weight == limit;
-    Some(match leg == best {
+    Some(match Some(leg) == filed.best {
         true if is_alone => &[2],
         true => &[2, 5],
-        false if !weight.is_finite() || is_before(said) => &[2],
-        false => &[5],
+        false if passes(filed, leg, weight) => &[5],
+        false => &[2],
     })
 }
 
@@ -316,6 +347,20 @@ fn a_bit_of_another(random: &mut SplitMix64, filed: &mut Filed) -> Option<Lines>
     let is_silent = filed.asked.detectors[mechanism].is_empty()
         && weight.to_bits() == filed.weight(leg).to_bits();
     (!is_silent).then_some(&[5])
+}
+
+/// A bit of another row that a check hears, with the weight that the row has then.
+fn a_bit_with_its_weight(random: &mut SplitMix64, filed: &mut Filed) -> Option<Lines> {
+    let leg = filed.one_found(random, |leg| Some(leg) != filed.best)?;
+    let mechanism = filed.one_mechanism(random)?;
+    if filed.asked.detectors[mechanism].is_empty() {
+        return None;
+    }
+    filed.turn(leg, mechanism);
+    let weight = weight_of(filed.row(leg), filed.asked.priors);
+    filed.left.leg_weight[leg] = weight;
+    let lines: [Lines; 2] = [&[2], &[5]];
+    Some(lines[usize::from(passes(filed, leg, weight))])
 }
 
 /// A converged leg in the state of one that ran out, with a row or a weight that is not zero.
