@@ -1,4 +1,7 @@
 //! What an answered decode has left, spoiled in one way, of which the reader of `best` must tell the line: so it is seen not to be idle.
+//!
+//! What no reader can tell is not among the ways: a leg that converged, is not the best, and is marked as one that ran out, with zeroes for its
+//! row; and a bit of a correction that did not converge, where a check fails all the same.
 
 use crate::best::{Asked, first_broken, weight_of};
 use crate::counts::Counts;
@@ -115,10 +118,10 @@ impl<'a> Filed<'a> {
         self.left.leg_weight[leg]
     }
 
-    /// The legs of a state among some.
-    fn in_state(&self, state: u8) -> Vec<usize> {
-        let is_in = |leg: &usize| self.left.leg_state[*leg] == state;
-        (0..self.executed).filter(is_in).collect()
+    /// The legs that ran out.
+    fn ran_out(&self) -> Vec<usize> {
+        let has_run_out = |leg: &usize| self.left.leg_state[*leg] == 1;
+        (0..self.executed).filter(has_run_out).collect()
     }
 
     /// One of the converged legs, of those that are wanted.
@@ -284,7 +287,7 @@ fn the_count_with_its_total(random: &mut SplitMix64, filed: &mut Filed) -> Optio
 
 /// A leg that ran out, in the state of one that was not executed, or in none.
 fn a_state(random: &mut SplitMix64, filed: &mut Filed) -> Option<Lines> {
-    let leg = one_of(random, &filed.in_state(1))?;
+    let leg = one_of(random, &filed.ran_out())?;
     filed.left.leg_state[leg] = random.pick(&[0, 3, 255]);
     Some(&[4])
 }
@@ -383,7 +386,7 @@ fn not_zero(random: &mut SplitMix64, filed: &mut Filed, leg: usize) -> Option<Li
 }
 
 fn a_leg_that_ran_out(random: &mut SplitMix64, filed: &mut Filed) -> Option<Lines> {
-    let leg = one_of(random, &filed.in_state(1))?;
+    let leg = one_of(random, &filed.ran_out())?;
     not_zero(random, filed, leg)
 }
 
