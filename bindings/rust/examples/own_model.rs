@@ -66,6 +66,9 @@ fn main() -> Result<(), Error> {
         // The shot's number is its seed. With the model and the settings it makes the outcome repeatable, bit for bit.
         let outcome = decoder.decode(&syndrome, shot)?;
 
+        // Whoever has filed it can hold it, with its model and syndrome, to what is proved of every decode.
+        assert_eq!(outcome.audit(&graph, &syndrome), Ok(()));
+
         if outcome.converged {
             converged += 1;
             assert_eq!(syndrome_of(&graph, &outcome.correction), syndrome);
