@@ -93,7 +93,7 @@ pub record ConvergedAt (f : Filed) (r : ℕ) (weight : Float) : Type 0 where
   pub iterations : ℕ
   pub says : legOf f r ≡ LegRecord.Converged weight iterations
 
--- its row is zeroes, and so is its weight
+-- its row is zeroes, and its weight +0.0
 pub record Blank (f : Filed) (r : ℕ) : Type 0 where
   pub row : rowOf f r ≡ replicate (f .graph .mechanisms) 0
   pub weight : getD (f .legWeight) r nan ≡ zero⁺
@@ -117,6 +117,7 @@ pub record RowHolds (f : Filed) (r : ℕ) (weight : Float) : Type 0 where
   pub again : weight ≡ correctionWeight (f .prior) (rowOf f r) (f .graph .mechanisms)
   pub finite : isFinite weight ≡ true
 
+-- all five, of what is filed
 pub record BestOfLegs (f : Filed) : Type 0 where
   -- the correction has a bit for each mechanism
   pub bits : AreBits (f .graph .mechanisms) (f .correction)

@@ -29,7 +29,7 @@ modelPriors model = modelRead model (modelRoom (countsRead model)) .priors
 abbrev pub mostLegs : List ℕ → ℕ
 mostLegs settings = suc (settingsRead settings .«num_legs»)
 
--- a text that says converged or not, total, legs and bits of the shot p, each a payload
+-- a text that says converged or not, total, legs and bits of a shot, by the payloads of its model, of its settings and its own, p
 pub record LineHolds (shots : ℕ) (model settings p text : List ℕ) : Type 0 where
   pub converged : Bool
   pub total : ℕ
