@@ -17,8 +17,8 @@ use Rattle.relay_step.specs.Step.{State, updateCheck, updateVariable, computeBi
 use Rattle.relay_step.specs.Leg.{startLeg, runLeg, satisfied, hardDecision}
 use Rattle.relay_step.proofs.Weights.{hard-bits, weight-finite}
 use Rattle.relay_calls.specs.Decode.{Shot, iterationLimit, stepOf, executedLeg}
-use Rattle.relay_calls.proofs.BestSoFar.{Ran, Holds, holds-none, holds-more}
-use Rattle.relay_laws.specs.Legs.{runAfter}
+use Rattle.relay_calls.proofs.BestSoFar.{limit-some, Ran, Holds, holds-none, holds-more}
+use Rattle.relay_laws.specs.Legs.{runAfter, legAt}
 
 -- ---- a step leaves as many posteriors as it found
 
@@ -88,18 +88,12 @@ module _ (step : State → State) (test : List Float → Bool) where
 module _ (x : Shot) (few : x .graph .mechanisms ≤ 65536) (many : length (x .prior) ≡ x .graph .mechanisms)
     (good : (m : ℕ) → m < x .graph .mechanisms → priorGood (getD (x .prior) m nan) ≡ true)
     (pre : 0 < x .settings .«pre_iterations») (legs : 0 < x .settings .«num_legs» → 0 < x .settings .«leg_iterations») where
-  -- a leg may take some iteration
-  some-limit : (r : ℕ) → r ≤ x .settings .«num_legs» → 0 < iterationLimit (x .settings) r
-  unfolding iterationLimit
-  some-limit zero h = pre
-  some-limit (suc r) h = legs (omega arith)
-
   -- each leg
   leg-ran : (r : ℕ) (posterior : List Float) → r ≤ x .settings .«num_legs» → length posterior ≡ x .graph .mechanisms → Ran x (executedLeg byPlace x r posterior)
   unfolding executedLeg stepOf startLeg
   leg-ran r posterior h e =
       let l = executedLeg byPlace x r posterior in
-      let once = runs-once (stepOf byPlace x r) (satisfied (x .graph) (x .syndrome)) (iterationLimit (x .settings) r) (startLeg (x .graph) (x .prior) posterior) (some-limit r h) in
+      let once = runs-once (stepOf byPlace x r) (satisfied (x .graph) (x .syndrome)) (iterationLimit (x .settings) r) (startLeg (x .graph) (x .prior) posterior) (limit-some (x .settings) pre legs r h) in
       record {
         once = once .1;
         tested = once .0;
@@ -110,9 +104,9 @@ module _ (x : Shot) (few : x .graph .mechanisms ≤ 65536) (many : length (x .pr
       }
 
   -- the run after r legs
-  pub holds-all : (r : ℕ) → r ≤ suc (x .settings .«num_legs») → Holds x r (runAfter x r)
-  unfolding runAfter
-  holds-all zero h = holds-none x many
+  pub holds-all : (r : ℕ) → r ≤ suc (x .settings .«num_legs») → Holds x (legAt x) r (runAfter x r)
+  unfolding runAfter legAt
+  holds-all zero h = holds-none x (legAt x) many
   holds-all (suc r) h =
       let p = holds-all r (omega arith) in
-      holds-more x r (omega arith) (runAfter x r) p _ (leg-ran r (runAfter x r .posterior) (omega arith) (p .posterior))
+      holds-more x (legAt x) r (omega arith) (runAfter x r) p (leg-ran r (runAfter x r .posterior) (omega arith) (p .posterior))

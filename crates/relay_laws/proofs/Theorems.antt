@@ -1,11 +1,11 @@
 -- What a reader may rely on of Relay's calls, beside the theorems of `relay`: demand 3 of the call itself, what the leg lists of a decode say, and that its answer is the best
 -- of the legs that they tell. Assumes nothing.
 use Prim.Native.Nat.{ℕ, zero, suc, _<_, _≤_}
-use mathlib.Core.Path.{_≡_, refl, sym, ap, _∙_, subst}
+use mathlib.Core.Path.{_≡_, sym, ap, _∙_, subst}
 use mathlib.Core.Bool.{true}
 use mathlib.Core.List.{List}
 use mathlib.Core.Logic.{_↔_, ⊎-elim}
-use mathlib.Core.Option.{Option, none, some}
+use mathlib.Core.Option.{some}
 use native.Mathlib.Omega.{arith}
 use lib.Ieee.{Float, eq}
 use Rattle.graph_lists.specs.Messages.{byPlace}
@@ -13,8 +13,7 @@ use Rattle.numbers.specs.Loops.{upto}
 use Rattle.numbers.proofs.Cases.{less-or-not}
 use Rattle.numbers.proofs.Order.{eq-le, lt-not-le}
 use Rattle.refusals.specs.declared.Refusal.the-variants.{OrderExchanged}
-use Rattle.refusals.specs.declared.Answer.{Answer}
-use Rattle.refusals.specs.declared.Answer.the-variants.{Done, Refused}
+use Rattle.refusals.specs.declared.Answer.the-variants.{Done}
 use Rattle.refusals.proofs.Tests.{or-done}
 use Rattle.graph_lists.proofs.GraphTests.{graph-told}
 use Rattle.relay_settings.specs.declared.Schedule.the-variants.{CheckSerial}
@@ -26,14 +25,15 @@ use Rattle.relay_calls.specs.declared.Decoded.the-variants as Decoded
 use Rattle.relay_calls.specs.declared.LegRecord.{LegRecord}
 use Rattle.relay_calls.specs.declared.LegRecord.the-variants as LegRecord
 use Rattle.relay_calls.specs.Records.{valuesOf, recordOf, legRecord}
-use Rattle.relay_calls.specs.Decode.{Shot, Run, Ended, decoded, refused, decodeLegs}
-use Rattle.relay_calls.specs.Calls.{DecodeLists, DecodeOutcome, decodeOutcome, decodeFault, answered, leftBy, afterLegs, afterDecodeTests, decodeInOrder, decode, withOrder, summaryOf}
-use Rattle.relay_laws.specs.Legs.{recordAt}
+use Rattle.relay_calls.specs.Decode.{Shot, Run, decoded, decodeLegs}
+use Rattle.relay_calls.specs.Calls.{DecodeLists, DecodeOutcome, decodeOutcome, decodeFault, answered, leftBy, decodeInOrder, decode, withOrder, summaryOf}
+use Rattle.relay_laws.specs.Legs.{legAt, recordAt}
 use Rattle.relay_laws.specs.Orders.{OrderGood, refusedWith, OthersPass}
+use Rattle.relay_calls.proofs.LegEntries.{Held}
 use Rattle.relay_calls.proofs.BestSoFar.{sumTo}
 use Rattle.relay_laws.specs.BestOfLegs.{Filed, filed, legOf, iterationsOf, ConvergedAt, Least, BestOfLegs}
 use Rattle.relay_laws.proofs.OrderOfCall.{order-taken, exchange-placed}
-use Rattle.relay_laws.proofs.LegLists.{values-read, entry-over, Held, held-all, decode-finished}
+use Rattle.relay_laws.proofs.LegLists.{values-read, entry-over, held-all, decode-finished, run-behind, answered-legs}
 use Rattle.relay_laws.proofs.Executed.{holds-all}
 use Rattle.relay_laws.proofs.Best.{best-of-run}
 
@@ -63,11 +63,6 @@ decode-is-index-order edges x l a b p q h k = let e = h ∙ sym k in (ap (λ (o 
 pub values-back : (r : LegRecord) → recordOf (valuesOf r .legState) (valuesOf r .legIterations) (valuesOf r .legWeight) ≡ r
 values-back = values-read
 
--- how many legs an answer says
-answered-legs : (run : Run) (w : Option Float) → summaryOf (answered run w) .executedLegs ≡ run .executedLegs
-answered-legs run none = refl
-answered-legs run (some weight) = refl
-
 module _ (edges : ℕ) (x : Shot) (l : DecodeLists) where
   -- what the leg r is read as, after an outcome
   abbrev readAt : DecodeOutcome → ℕ → LegRecord
@@ -79,12 +74,12 @@ module _ (edges : ℕ) (x : Shot) (l : DecodeLists) where
     pub others : (r : ℕ) → summaryOf (o .answer) .executedLegs ≤ r → r ≤ x .settings .«num_legs» → readAt o r ≡ LegRecord.NotExecuted
 
   -- after a run
-  run-read : (run : Run) → decodeLegs byPlace x ≡ decoded run → LegsRead (afterLegs edges x (decoded run) l)
-  unfolding leftBy
+  run-read : (run : Run) → decodeLegs byPlace x ≡ decoded run → LegsRead (decodeOutcome (answered run (run .bestWeight)) (leftBy edges x run l))
+  unfolding leftBy recordAt
   run-read run e =
       let f = decode-finished x run e in
       let n = answered-legs run (run .bestWeight) in
-      let h : Held x (run .executedLegs) run = rw (← f .is) at (held-all x (run .executedLegs) (f .within)) in
+      let h : Held x (legAt x) (run .executedLegs) run = rw (← f .is) at (held-all x (run .executedLegs) (f .within)) in
       record {
         executed =
             λ r k.
@@ -98,21 +93,9 @@ module _ (edges : ℕ) (x : Shot) (l : DecodeLists) where
             (h .rest r (omega (arith, n)) (omega arith));
       }
 
-  -- however the legs end
-  ended-read : (e : Ended) → decodeLegs byPlace x ≡ e → summaryOf (afterLegs edges x e l .answer) .refusal ≡ Done → LegsRead (afterLegs edges x e l)
-  ended-read (decoded run) q h = run-read run q
-  ended-read (refused r) q h = absurd (let z : _≡_ {A = ℕ} 0 1 = cc in omega arith)
-
-  -- whatever the tests say
-  tests-read : (a : Answer) → summaryOf (afterDecodeTests a (afterLegs edges x (decodeLegs byPlace x) l) l .answer) .refusal ≡ Done
-      → LegsRead (afterDecodeTests a (afterLegs edges x (decodeLegs byPlace x) l) l)
-  tests-read Done h = ended-read (decodeLegs byPlace x) refl h
-  tests-read (Refused r) h = absurd (let z : _≡_ {A = ℕ} 0 1 = cc in omega arith)
-
   -- `leg_record` of the leg lists that an answered decode leaves gives back each executed leg's record, and of each leg that was not executed that it was not
   pub leg-records-back : summaryOf (decodeInOrder edges x l .answer) .refusal ≡ Done → LegsRead (decodeInOrder edges x l)
-  unfolding decodeInOrder
-  leg-records-back h = tests-read (decodeFault edges x l) h
+  leg-records-back h = let b = run-behind edges x l h in subst LegsRead (sym (b .outcome)) (run-read (b .run) (b .ended))
 
 -- ---- the best of the legs
 
@@ -126,31 +109,14 @@ module _ (edges : ℕ) (x : Shot) (l : DecodeLists) where
       let settings = settings-told (x .settings) (x .graph .mechanisms) (x .gammas) (or-done _ _ (g .1) .0) in
       let f = decode-finished x run e in
       let all = holds-all x (model .few .mechanisms-few) (model .priors-many) (model .priors-good) (settings .pre-some) (settings .leg-some) (run .executedLegs) (f .within) in
-      best-of-run edges x l run (model .is-graph) (f .some) (f .within) (rw (← f .is) at all)
-
-  -- however the legs end
-  ended-best : (e : Ended) → decodeFault edges x l ≡ Done → decodeLegs byPlace x ≡ e → summaryOf (afterLegs edges x e l .answer) .refusal ≡ Done
-      → BestOfLegs (filed x (afterLegs edges x e l .answer) (afterLegs edges x e l .left))
-  ended-best (decoded run) t q h = run-best run t q
-  ended-best (refused r) t q h = absurd (let z : _≡_ {A = ℕ} 0 1 = cc in omega arith)
-
-  -- whatever the tests say
-  tests-best : (a : Answer) → decodeFault edges x l ≡ a → summaryOf (afterDecodeTests a (afterLegs edges x (decodeLegs byPlace x) l) l .answer) .refusal ≡ Done
-      → BestOfLegs (filed x (afterDecodeTests a (afterLegs edges x (decodeLegs byPlace x) l) l .answer) (afterDecodeTests a (afterLegs edges x (decodeLegs byPlace x) l) l .left))
-  tests-best Done t h = ended-best (decodeLegs byPlace x) t refl h
-  tests-best (Refused r) t h = absurd (let z : _≡_ {A = ℕ} 0 1 = cc in omega arith)
-
-  -- of the call
-  call-best : summaryOf (decodeInOrder edges x l .answer) .refusal ≡ Done → BestOfLegs (filed x (decodeInOrder edges x l .answer) (decodeInOrder edges x l .left))
-  unfolding decodeInOrder
-  call-best h = tests-best (decodeFault edges x l) refl h
+      best-of-run edges x l run (legAt x) (model .is-graph) (f .some) (f .within) (rw (← f .is) at all)
 
   -- "Show over the recorded legs, graph and syndrome, not the run": whatever the contract of `decode_in_order` allows, if it is an answer, it is the best of the legs that it
   -- leaves records of
   pub best-of-legs : (a : Decoded) (left : DecodeLists) → decodeOutcome a left ≡ decodeInOrder edges x l → summaryOf a .refusal ≡ Done → BestOfLegs (filed x a left)
   best-of-legs a left e h =
-      let s : decodeInOrder edges x l ≡ decodeOutcome a left = sym e in
-      subst (λ (o : DecodeOutcome). BestOfLegs (filed x (o .answer) (o .left))) s (call-best (ap (λ (o : DecodeOutcome). summaryOf (o .answer) .refusal) s ∙ h))
+      let b = run-behind edges x l (ap (λ (o : DecodeOutcome). summaryOf (o .answer) .refusal) (sym e) ∙ h) in
+      subst (λ (o : DecodeOutcome). BestOfLegs (filed x (o .answer) (o .left))) (sym (b .outcome) ∙ sym e) (run-best (b .run) (b .passed) (b .ended))
 
 -- and so of `decode`
 pub decode-best-of-legs : (edges : ℕ) (x : Shot) (l : DecodeLists) (a : Decoded) (left : DecodeLists) → decodeOutcome a left ≡ decode edges x l → summaryOf a .refusal ≡ Done

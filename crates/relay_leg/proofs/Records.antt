@@ -5,7 +5,7 @@ use mathlib.Core.List.{List, [], _++_}
 use mathlib.Core.Logic.{inr}
 use mathlib.Core.Option.{Option}
 use Prim.Native.Nat.{ℕ, zero, suc, _+_, _-_, _*_, _<_, _≤_}
-use native.Mathlib.Nat.{mul-le-mul, mul-le-mul-right, suc-mul}
+use native.Mathlib.Nat.{mul-le-mul}
 use native.Mathlib.Omega.{arith}
 use lib.Ieee.{Float}
 use lib.ListN.{length, getD, take, drop, replicate, length-replicate, getD-replicate}
@@ -22,6 +22,7 @@ use Rattle.relay_step.specs.Leg.{Leg, leg, startLeg, hardDecision, matches, sat
 use Rattle.relay_calls.specs.Decode.{Shot, iterationLimit, stepOf, executedLeg}
 use Rattle.relay_record.specs.Kept.{shotOf, Reads, Kept, kept, bestAfter, corrected, keptWith, rowAfter, keptAfter, Blank}
 use Rattle.relay_step.proofs.Parts.{Stands, out, within, stands}
+use Rattle.relay_calls.proofs.BestSoFar.{row-room, limit-some}
 use Rattle.relay_record.proofs.Tallies.{Entered}
 
 -- ---- the limit
@@ -39,10 +40,8 @@ limit-relayed t (suc r) h = refl
 
 module _ (t : Settings) (flat : List Float) (syndrome : List ℕ) (prior : List Float) (cv co vm vo order : List ℕ) (reads : Reads t flat syndrome prior cv co vm vo order) where
   -- a leg has some iteration
-  pub limit-some : (r : ℕ) → r ≤ t .«num_legs» → 0 < iterationLimit t r
-  unfolding iterationLimit
-  limit-some zero h = reads .pre-some
-  limit-some (suc r) h = reads .leg-some (omega arith)
+  pub some-limit : (r : ℕ) → r ≤ t .«num_legs» → 0 < iterationLimit t r
+  some-limit = limit-some t (reads .pre-some) (reads .leg-some)
 
   -- and no more than may be
   pub limit-few : (r : ℕ) → iterationLimit t r ≤ 65535
@@ -57,8 +56,7 @@ module _ (t : Settings) (flat : List Float) (syndrome : List ℕ) (prior : List 
 
   -- a leg's row lies within the flat list of rows
   pub row-within : (rows : List ℕ) (r : ℕ) → length rows ≡ suc (t .«num_legs») * length prior → r ≤ t .«num_legs» → r * length prior + length prior ≤ length rows
-  row-within rows r e h =
-      omega (arith, e, mul-le-mul-right (length prior) h, suc-mul r (length prior), suc-mul (t .«num_legs») (length prior))
+  row-within rows r e h = omega (arith, e, row-room (length prior) (suc (t .«num_legs»)) r (omega arith))
 
   -- and ends where a number can
   pub row-small : (r : ℕ) → r ≤ t .«num_legs» → r * length prior + length prior < 18446744073709551616

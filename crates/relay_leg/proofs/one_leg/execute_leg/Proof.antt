@@ -4,7 +4,7 @@ use mathlib.Core.Path.{ap, _∙_}
 use native.Mathlib.Omega.{arith}
 use Rattle.relay_step.specs.Leg.{leg}
 use Rattle.relay_gammas.specs.Gammas.{gammaOf}
-use Rattle.relay_leg.proofs.Records.{limit-some, limit-few, sets-along, executed-is}
+use Rattle.relay_leg.proofs.Records.{some-limit, limit-few, sets-along, executed-is}
 use borrow.Author.Needs.{needs}
 use Rattle.relay_leg.proofs.one_leg.execute_leg.Statement.{statement}
 use Rattle.relay_leg.proofs.one_leg.execute_leg.Tie as tie
@@ -86,7 +86,7 @@ returns c =
     .before .before .before .before .before .start-leg .ensures) limit (e .0) in (
       x .0,
       (
-        e .1 (rw limit (limit-some _ _ _ _ _ _ _ _ _ (p .0) _ (p .1 .0))),
+        e .1 (rw limit (some-limit _ _ _ _ _ _ _ _ _ (p .0) _ (p .1 .0))),
         omega (arith, x .1, limit-few _ _ _ _ _ _ _ _ _ (p .0) (a .leg)),
       ),
     )
