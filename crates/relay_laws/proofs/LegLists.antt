@@ -1,4 +1,4 @@
--- The leg lists that a decode writes, leg by leg. Assumes nothing.
+-- The leg lists that a decode writes, and the run that is behind a decode which is answered. Assumes nothing.
 use Prim.Native.Nat.{ℕ, zero, suc, _+_, _<_, _≤_}
 use mathlib.Core.Path.{_≡_, refl, sym, ap, _∙_}
 use mathlib.Core.Bool.{Bool, true, false}
@@ -29,7 +29,7 @@ values-read (LegRecord.Converged weight iterations) = refl
 values-read (LegRecord.RanOut iterations) = refl
 values-read LegRecord.NotExecuted = refl
 
--- so that r is read there
+-- a record is read where its values stand in the lists
 pub entry-read : (ss is : List ℕ) (ws : List Float) (k : ℕ) (r : LegRecord) → k < length ss → k < length is → k < length ws → Entry ss is ws k r → legRecord ss is ws k ≡ r
 unfolding legRecord
 entry-read ss is ws k r a b c e =
