@@ -715,6 +715,40 @@ fn no_reader_can_tell_the_bits_of_a_failure() {
     assert!(turned > 1000, "{turned}");
 }
 
+/// A leg that ran out may have come to another leg's correction, unless that makes it the answer: it does where it stands before
+/// the best one and weighs as much. With the best one's correction the record says so of another leg, and holds all the same.
+#[test]
+fn no_reader_can_tell_that_a_leg_ran_out() {
+    let with_both = some(24, |filed| {
+        let legs = &filed.record.legs[..filed.record.executed_legs];
+        filed.record.converged && legs.iter().any(|leg| !leg.converged())
+    });
+    let mut ties = [0; 2];
+    for filed in with_both {
+        let (best, said) = (filed.best(), filed.record.weight.unwrap());
+        for leg in 0..filed.record.executed_legs {
+            let iterations = filed.record.legs[leg].iterations();
+            if filed.record.legs[leg].converged() {
+                continue;
+            }
+            for (_, weight, row) in filed.found() {
+                let told = filed.told(|record| {
+                    record.legs[leg] = Converged {
+                        weight,
+                        iterations,
+                        correction: row.to_vec(),
+                    }
+                });
+                let is_answer = leg < best && weight == said;
+                let is_other = is_answer && row != filed.record.correction;
+                assert_eq!(told, is_other.then_some(Broken::OtherCorrection { leg }));
+                ties[usize::from(is_other)] += u32::from(weight == said);
+            }
+        }
+    }
+    assert!(ties.iter().all(|&count| count > 40), "{ties:?}");
+}
+
 /// The total is known, and not whose its iterations are; and the posterior is not looked at.
 #[test]
 fn no_reader_can_tell_whose_iterations() {
