@@ -244,8 +244,8 @@ impl RelayOutcome {
     ///
     /// - That a leg has converged which is marked as one that ran out, if it is not the best: its correction is gone, and any leg
     ///   may run out.
-    /// - That a leg has run out which is marked as converged, with a correction that has every parity and with its weight, if that does
-    ///   not make it the best.
+    /// - That a leg has run out which is marked as converged, with a correction that has every parity and with its weight, if the
+    ///   record's correction and weight are still those of the best leg.
     /// - That a bit is turned in a correction that did not converge, if a check still fails: any bits that fail one may be the last
     ///   hard decision.
     ///
