@@ -22,7 +22,8 @@ use Rattle.relay_calls.specs.declared.Decoded.the-variants as Decoded
 use Rattle.relay_settings.specs.Settings.{alphaGood, settingsFault}
 use Rattle.relay_step.specs.Step.{State, state, iteration}
 use Rattle.relay_orders.specs.Order.{namesFault, exchangeFault}
-use Rattle.relay_calls.specs.Decode.{Shot, shot, Run, Ended, decoded, refused, decodeLegs, correctionOf}
+use Rattle.relay_stores.specs.Stores.{storesFault}
+use Rattle.relay_calls.specs.Decode.{Shot, shot, Run, Ended, decoded, refused, decodeLegs, decodeStores, correctionOf}
 
 -- 21 for one check: its byte is 0 or 1
 unfoldable pub byteFault : List ℕ → ℕ → Answer
@@ -173,22 +174,23 @@ decodeListsFit edges x l =
     && (eqb (length (l .gamma)) mechanisms
     && (eqb (length (l .bias)) mechanisms && (eqb (length (l .cToV)) edges && eqb (length (l .vToC)) edges))))))))
 
--- the tests of a decode behind those of the graph: 10 to 24
+-- the tests of a decode behind those of the graph: 10 to 24, and 29
 abbrev pub decodeRest : ℕ → Shot → DecodeLists → Answer
 decodeRest edges x l =
     orElse (settingsFault (x .settings) (x .graph .mechanisms) (x .gammas))
     (orElse (syndromeFault (x .graph .checks) (x .syndrome))
     (orElse (unless (decodeListsFit edges x l) LentListLength)
-    (orElse (namesFault (x .graph .checks) (x .order)) (exchangeFault (x .settings .schedule) (x .graph) (x .order)))))
+    (orElse (namesFault (x .graph .checks) (x .order))
+    (orElse (exchangeFault (x .settings .schedule) (x .graph) (x .order)) (storesFault (x .settings) (x .graph))))))
 
--- the tests of a decode: 1, 2, 4, 7, 10 to 24
+-- the tests of a decode: 1, 2, 4, 7, 10 to 24, 29
 unfoldable pub decodeFault : ℕ → Shot → DecodeLists → Answer
 decodeFault edges x l = orElse (graphFault edges (x .prior) (x .graph)) (decodeRest edges x l)
 
--- what a run answers
-abbrev pub answered : Run → Option Float → Decoded
-answered run none = Decoded.NotConverged (run .executedLegs) (run .totalIterations)
-answered run (some weight) = Decoded.Converged (run .executedLegs) (run .totalIterations) weight
+-- what a run that wrote so many messages answers
+abbrev pub answered : Run → ℕ → Option Float → Decoded
+answered run stores none = Decoded.NotConverged (run .executedLegs) (run .totalIterations) stores
+answered run stores (some weight) = Decoded.Converged (run .executedLegs) (run .totalIterations) stores weight
 
 -- the lists after a run: the legs' records over the front of theirs, whose surplus is kept, and zeroed work lists
 unfoldable pub leftBy : ℕ → Shot → Run → DecodeLists → DecodeLists
@@ -226,10 +228,10 @@ zeroed edges x l =
       vToC = replicate edges zero⁺;
     }
 
--- past the tests
-abbrev pub afterLegs : ℕ → Shot → Ended → DecodeLists → DecodeOutcome
-afterLegs edges x (decoded run) l = decodeOutcome (answered run (run .bestWeight)) (leftBy edges x run l)
-afterLegs edges x (refused r) l = decodeOutcome (Decoded.Refused r) (zeroed edges x l)
+-- past the tests: how the legs ended, and how many messages they wrote, of which a refusal says nothing
+abbrev pub afterLegs : ℕ → Shot → Ended → ℕ → DecodeLists → DecodeOutcome
+afterLegs edges x (decoded run) stores l = decodeOutcome (answered run stores (run .bestWeight)) (leftBy edges x run l)
+afterLegs edges x (refused r) stores l = decodeOutcome (Decoded.Refused r) (zeroed edges x l)
 
 -- a call that its tests refuse writes nothing
 abbrev pub afterDecodeTests : Answer → DecodeOutcome → DecodeLists → DecodeOutcome
@@ -238,7 +240,7 @@ afterDecodeTests (Refused r) o l = decodeOutcome (Decoded.Refused r) l
 
 -- a call whose tests answer `tested`, with a check's messages had so
 abbrev pub decodeBy : Access → Answer → ℕ → Shot → DecodeLists → DecodeOutcome
-decodeBy had tested edges x l = let o = afterLegs edges x (decodeLegs had x) l in afterDecodeTests tested o l
+decodeBy had tested edges x l = let o = afterLegs edges x (decodeLegs had x) (decodeStores had x) l in afterDecodeTests tested o l
 
 -- `decode_in_order`: the checks in the order that the shot has
 unfoldable pub decodeInOrder : ℕ → Shot → DecodeLists → DecodeOutcome
@@ -252,19 +254,21 @@ withOrder x order = shot (x .graph) (x .prior) (x .settings) (x .gammas) order (
 unfoldable pub decode : ℕ → Shot → DecodeLists → DecodeOutcome
 decode edges x l = decodeInOrder edges (withOrder x (upto (x .graph .checks))) l
 
--- the reference's words for an answer: the refusal, if there is one; converged or not; executed legs; total iterations; and the weight, if there is one
+-- the reference's words for an answer: the refusal, if there is one; converged or not; executed legs; total iterations; message stores; and the weight, if
+-- there is one
 pub record Summary : Type 0 where
   pub refusal : Answer
   pub converged : Bool
   pub executedLegs : ℕ
   pub totalIterations : ℕ
+  pub stores : ℕ
   pub weight : Option Float
 
-abbrev pub summary : Answer → Bool → ℕ → ℕ → Option Float → Summary
-summary a c n t w = record { refusal = a; converged = c; executedLegs = n; totalIterations = t; weight = w }
+abbrev pub summary : Answer → Bool → ℕ → ℕ → ℕ → Option Float → Summary
+summary a c n t m w = record { refusal = a; converged = c; executedLegs = n; totalIterations = t; stores = m; weight = w }
 
 -- what each answer says in them
 abbrev pub summaryOf : Decoded → Summary
-summaryOf (Decoded.Converged n t w) = summary Done true n t (some w)
-summaryOf (Decoded.NotConverged n t) = summary Done false n t none
-summaryOf (Decoded.Refused r) = summary (Refused r) false 0 0 none
+summaryOf (Decoded.Converged n t m w) = summary Done true n t m (some w)
+summaryOf (Decoded.NotConverged n t m) = summary Done false n t m none
+summaryOf (Decoded.Refused r) = summary (Refused r) false 0 0 0 none

@@ -6,7 +6,7 @@ use mathlib.Core.Option.{Option, none, some}
 use lib.Dec.{leb}
 use lib.Ieee.{Float, lt}
 use lib.ListN.{set, replicate}
-use Rattle.numbers.specs.Loops.{spliced}
+use Rattle.numbers.specs.Loops.{turns, spliced}
 use Rattle.refusals.specs.declared.Refusal.{Refusal}
 use Rattle.refusals.specs.declared.Answer.{Answer}
 use Rattle.refusals.specs.declared.Answer.the-variants.{Done, Refused}
@@ -15,6 +15,7 @@ use Rattle.graph_lists.specs.Messages.{Access, posteriorFault}
 use Rattle.relay_settings.specs.declared.Settings.{Settings}
 use Rattle.relay_step.specs.Step.{State, iteration}
 use Rattle.relay_step.specs.Leg.{Leg, startLeg, runLeg, satisfied, hardDecision, correctionWeight}
+use Rattle.relay_stores.specs.Stores.{Counted, counted, countedIteration}
 use Rattle.relay_gammas.specs.Gammas.{gammaOf}
 use Rattle.relay_calls.specs.declared.LegRecord.the-variants as LegRecord
 use Rattle.relay_calls.specs.Records.{valuesOf, recordOfLeg}
@@ -151,6 +152,35 @@ legsFrom had x (suc n) (finished e) r = e
 -- all legs, from leg zero
 unfoldable pub decodeLegs : Access → Shot → Ended
 decodeLegs had x = legsFrom had x (suc (x .settings .«num_legs»)) (running (startRun x)) 0
+
+-- ---- how many messages the iterations write
+
+-- one iteration of the leg r, with each store counted: its state is that of `stepOf`
+unfoldable pub countedStepOf : Access → Shot → ℕ → Counted → Counted
+countedStepOf had x r =
+    countedIteration (x .settings .schedule) had (x .graph) (x .settings .alpha) (x .syndrome) (x .prior)
+    (gammaOf (x .settings) (x .gammas) (x .graph .mechanisms) (x .seed) r)
+    (x .order)
+
+-- the first n iterations of the leg r, from the posterior that the legs before it left. The start of a leg is not counted
+unfoldable pub countedLeg : Access → Shot → ℕ → List Float → ℕ → Counted
+countedLeg had x r posterior n = turns n (λ k s. countedStepOf had x r s) (counted (startLeg (x .graph) (x .prior) posterior) 0)
+
+-- what the leg r writes: as many iterations as it took
+unfoldable pub legStores : Access → Shot → ℕ → List Float → ℕ
+legStores had x r posterior = countedLeg had x r posterior (executedLeg had x r posterior .iterations) .stores
+
+-- what n legs write, from the leg r on, and nothing past the end
+unfoldable pub storesFrom : Access → Shot → ℕ → Progress → ℕ → ℕ
+storesFrom had x zero p r = 0
+storesFrom had x (suc n) (running run) r = legStores had x r (run .posterior) + storesFrom had x n (afterLeg had x r run) (suc r)
+storesFrom had x (suc n) (finished e) r = 0
+
+-- what all legs write, from leg zero
+unfoldable pub decodeStores : Access → Shot → ℕ
+decodeStores had x = storesFrom had x (suc (x .settings .«num_legs»)) (running (startRun x)) 0
+
+-- ---- the answer's correction
 
 -- the least weighty correction, or without convergence the last hard decision
 abbrev pub correctionOf : Run → Option Float → List ℕ

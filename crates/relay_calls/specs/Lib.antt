@@ -2,3 +2,4 @@
 pub mod Records
 pub mod Decode
 pub mod Calls
+pub mod Formula

@@ -7,16 +7,19 @@ ghost use mathlib.Core.Path.{_≡_};
 ghost use Rattle.relay_calls.specs.Records.{recordOf};
 use refusals::Refusal;
 
-// What a decode answers. The corrections, the posterior and the legs' records are in the lent lists.
+// What a decode answers, with the number of messages that its iterations wrote. The corrections, the posterior and the legs' records are
+// in the lent lists.
 pub enum Decoded {
     Converged {
         executed_legs: usize,
         total_iterations: usize,
+        stores: u64,
         weight: f64,
     },
     NotConverged {
         executed_legs: usize,
         total_iterations: usize,
+        stores: u64,
     },
     Refused(Refusal),
 }

@@ -17,7 +17,6 @@ use Rattle.refusals.specs.declared.Answer.the-variants.{Done, Refused}
 use Rattle.refusals.specs.Tests.{isDone, unless, orElse}
 use Rattle.refusals.proofs.Tests.{done-is, or-first, or-second, or-done, unless-done}
 use Rattle.graph_lists.specs.Graph.{Graph, graph}
-use Rattle.graph_lists.specs.Messages.{byPlace}
 use Rattle.graph_lists.specs.Model.{graphFault}
 use Rattle.graph_lists.proofs.GraphTests.{graph-told}
 use Rattle.graph_lists.specs.Sound.{Offsets, Keys}
@@ -30,11 +29,15 @@ use Rattle.relay_settings.specs.declared.Settings.{Settings}
 use Rattle.relay_calls.specs.declared.Decoded.the-variants as Decoded
 use Rattle.relay_settings.specs.Settings.{settingsFault}
 use Rattle.relay_settings.proofs.Told.{settings-told}
+use Rattle.numbers.specs.Limits.{maxEdges}
 use Rattle.numbers.specs.Loops.{upto}
 use Rattle.relay_orders.specs.Order.{namesOnce, namesFault, exchangeFault}
 use Rattle.relay_calls.proofs.Named.{names-entries, index-passes}
-use Rattle.relay_calls.specs.Decode.{Shot, decodeLegs}
-use Rattle.relay_calls.specs.Calls.{syndromeFault, DecodeLists, DecodeOutcome, decodeOutcome, decodeListsFit, decodeFault, afterLegs, decodeInOrder, decode}
+use Rattle.relay_calls.proofs.LastTests.{or-joined, stores-last}
+use Rattle.relay_calls.proofs.LegStores.{taken-leaves}
+use Rattle.relay_calls.specs.Decode.{Shot}
+use Rattle.relay_calls.specs.Calls.{syndromeFault, DecodeLists, DecodeOutcome, decodeOutcome, decodeListsFit, decodeInOrder, decode}
+use Rattle.relay_calls.specs.Formula.{takenFault, takenLeaves}
 use Rattle.relay_record.specs.Kept.{Reads, PerShot, LegsFit, shotOf, shotFault}
 use Rattle.relay_decode.proofs.WholeGraph.{whole, legs-read-four}
 use Rattle.relay_decode.proofs.Shots.{along-order}
@@ -56,12 +59,6 @@ cells-small n m h k =
 
 -- ---- one test after another
 
--- tests are joined either way
-or-joined : (a b c : Answer) → orElse (orElse a b) c ≡ orElse a (orElse b c)
-unfolding orElse
-or-joined Done b c = refl
-or-joined (Refused r) b c = refl
-
 -- a test that refuses nothing adds nothing
 or-none : (a : Answer) → orElse a Done ≡ a
 unfolding orElse
@@ -69,10 +66,10 @@ or-none Done = refl
 or-none (Refused r) = refl
 
 module _ (edges : ℕ) (x : Shot) (l : DecodeLists) where
-  -- the tests of a decode are those of both calls, then 23 and 24
-  fault-joined : decodeFault edges x l
+  -- the tests before 29 are those of both calls, then 23 and 24
+  fault-joined : takenFault edges x l
       ≡ orElse (shotFault edges x l) (orElse (namesFault (x .graph .checks) (x .order)) (exchangeFault (x .settings .schedule) (x .graph) (x .order)))
-  unfolding decodeFault shotFault
+  unfolding takenFault shotFault
   fault-joined = sym (or-joined _ _ _ ∙ ap (orElse _) (or-joined _ _ _ ∙ ap (orElse _) (or-joined _ _ _)))
 
   module _ (records work : Bool) (er : records ≡ (leb (suc (x .settings .«num_legs»))
@@ -123,6 +120,7 @@ pub record Passed (edges checks mechanisms : ℕ) (t : Settings) (flat : List Fl
   pub checks-many : length syndrome ≡ checks
   pub mechanisms-many : length prior ≡ mechanisms
   pub checks-few : checks ≤ 65536
+  pub edges-few : length cv ≤ maxEdges
 
 module _ (edges checks mechanisms : ℕ) (t : Settings) (flat : List Float) (seed : ℕ) (syndrome : List ℕ) (prior : List Float) (cv co vc vm vo : List ℕ) where
   -- the shot, in any order
@@ -189,6 +187,7 @@ module _ (edges checks mechanisms : ℕ) (t : Settings) (flat : List Float) (see
           checks-many = many;
           mechanisms-many = p;
           checks-few = g .few .checks-few;
+          edges-few = omega (arith, g .long .check-var, g .few .edges-few);
         }
 
     -- ---- 23 and 24
@@ -203,13 +202,13 @@ module _ (edges checks mechanisms : ℕ) (t : Settings) (flat : List Float) (see
         (g .few .checks-few, (w .parts, record { small = λ k i. let q : getD cv k 0 < mechanisms = w .named .small k i in omega (arith, q, g .few .mechanisms-few) }))
 
     -- a shot that is refused before them
-    pub fault-before : (a : Answer) (b : Bool) → a ≡ shotFault edges (X []) l → b ≡ isDone a → not b ≡ true → a ≡ decodeFault edges (X order) l
+    pub fault-before : (a : Answer) (b : Bool) → a ≡ shotFault edges (X []) l → b ≡ isDone a → not b ≡ true → a ≡ takenFault edges (X order) l
     unfolding shotFault decodeListsFit
     fault-before a b e d h = e ∙ sym (fault-joined edges (X order) l ∙ or-first _ _ (ap isDone (sym e) ∙ sym d ∙ not-true b h))
 
     -- and one that is not
     pub fault-after : (a r : Answer) (b : Bool) → a ≡ shotFault edges (X []) l → b ≡ isDone a → not b ≡ false
-        → r ≡ orElse (namesFault checks order) (exchangeFault (t .schedule) (ofChecks checks cv co) order) → r ≡ decodeFault edges (X order) l
+        → r ≡ orElse (namesFault checks order) (exchangeFault (t .schedule) (ofChecks checks cv co) order) → r ≡ takenFault edges (X order) l
     unfolding shotFault decodeListsFit exchangeFault
     fault-after a r b e d h q =
         q ∙ ap (orElse (namesFault checks order)) (exchange-whole (t .schedule)) ∙ sym (fault-joined edges (X order) l ∙ or-second _ _ (sym e ∙ done-is a (sym d ∙ not-false b h)))
@@ -219,32 +218,31 @@ module _ (edges checks mechanisms : ℕ) (t : Settings) (flat : List Float) (see
         exchange-whole CheckSerial = refl
 
     -- the tests do not look at the seed
-    pub fault-seed : decodeFault edges (whole t flat 0 syndrome prior cv co vc vm vo order checks mechanisms) l ≡ decodeFault edges (X order) l
-    unfolding decodeFault decodeListsFit
+    pub fault-seed : takenFault edges (whole t flat 0 syndrome prior cv co vc vm vo order checks mechanisms) l ≡ takenFault edges (X order) l
+    unfolding takenFault decodeListsFit
     fault-seed = refl
 
     -- ---- the calls
 
-    -- refused by a test
-    pub in-order-refused : (a : Answer) (r : Refusal) → a ≡ decodeFault edges (X order) l → a ≡ Refused r → decodeOutcome (Decoded.Refused r) l ≡ decodeInOrder edges (X order) l
+    -- refused by a test before 29
+    pub in-order-refused : (a : Answer) (r : Refusal) → a ≡ takenFault edges (X order) l → a ≡ Refused r → decodeOutcome (Decoded.Refused r) l ≡ decodeInOrder edges (X order) l
     unfolding decodeInOrder
-    in-order-refused a r e d = rw (sym e ∙ d)
+    in-order-refused a r e d = let w : takenFault edges (X order) l ≡ Refused r = sym e ∙ d in rw (stores-last edges (X order) l ∙ or-first _ _ (ap isDone w) ∙ w)
 
     -- an order that is taken names checks
-    pub in-order-told : (a : Answer) → a ≡ decodeFault edges (X order) l → a ≡ Done → Passed edges checks mechanisms t flat syndrome prior cv co vm vo order l
-    unfolding decodeFault shotFault
+    pub in-order-told : (a : Answer) → a ≡ takenFault edges (X order) l → a ≡ Done → Passed edges checks mechanisms t flat syndrome prior cv co vm vo order l
+    unfolding shotFault
     in-order-told a e d =
         let w = or-done _ _ (sym (fault-joined edges (X order) l) ∙ sym e ∙ d) in
         passed (w .0) (names-entries checks order (or-done _ _ (w .1) .0))
 
-    -- let through: what the legs leave
-    pub in-order-ran : (a : Answer) (o : DecodeOutcome) → a ≡ decodeFault edges (X order) l → a ≡ Done
-        → o ≡ afterLegs (length cv) (shotOf t flat seed syndrome prior cv co vm vo order) (decodeLegs byPlace (shotOf t flat seed syndrome prior cv co vm vo order)) l
-        → o ≡ decodeInOrder edges (X order) l
-    unfolding decodeInOrder
+    -- let through: what 29 and the legs leave
+    pub in-order-ran : (a : Answer) (o : DecodeOutcome) → a ≡ takenFault edges (X order) l → a ≡ Done
+        → o ≡ takenLeaves (length cv) (shotOf t flat seed syndrome prior cv co vm vo order) l → o ≡ decodeInOrder edges (X order) l
     in-order-ran a o e d q =
         let w = in-order-told a e d in
-        rw (sym e ∙ d) (legs-read-four t flat seed syndrome prior cv co vc vm vo order edges (length cv) checks mechanisms l o (w .edges-many) (w .checks-many) (w .mechanisms-many) q)
+        legs-read-four t flat seed syndrome prior cv co vc vm vo order edges (length cv) checks mechanisms l o (w .edges-many) (w .checks-many) (w .mechanisms-many) q
+        ∙ taken-leaves edges (X order) l (sym e ∙ d)
 
   -- ---- in index order
 
@@ -255,7 +253,7 @@ module _ (edges checks mechanisms : ℕ) (t : Settings) (flat : List Float) (see
     shot-seed = refl
 
     -- the index order passes 23 and 24
-    index-fault : shotFault edges (X []) l ≡ decodeFault edges (X (upto checks)) l
+    index-fault : shotFault edges (X []) l ≡ takenFault edges (X (upto checks)) l
     unfolding shotFault decodeListsFit
     index-fault = sym (fault-joined edges (X (upto checks)) l ∙ ap (orElse _) (index-passes (t .schedule) (graph checks mechanisms cv co vc vm vo)) ∙ or-none _)
 
@@ -276,10 +274,9 @@ module _ (edges checks mechanisms : ℕ) (t : Settings) (flat : List Float) (see
     pub index-told : (a : Answer) → a ≡ shotFault edges (X []) l → a ≡ Done → Passed edges checks mechanisms t flat syndrome prior cv co vm vo (upto (length syndrome)) l
     index-told a e d = let w = index-told-at a e d in along (length syndrome) (w .checks-many) w
 
-    -- let through: what the legs leave
+    -- let through: what 29 and the legs leave
     pub index-ran : (a : Answer) (o : DecodeOutcome) → a ≡ shotFault edges (X []) l → a ≡ Done
-        → o ≡ afterLegs (length cv) (shotOf t flat seed syndrome prior cv co vm vo (upto (length syndrome))) (decodeLegs byPlace (shotOf t flat seed syndrome prior cv co vm vo (upto (length syndrome)))) l
-        → o ≡ decode edges (X []) l
+        → o ≡ takenLeaves (length cv) (shotOf t flat seed syndrome prior cv co vm vo (upto (length syndrome))) l → o ≡ decode edges (X []) l
     unfolding decode
     index-ran a o e d q =
         let w = index-told-at a e d in

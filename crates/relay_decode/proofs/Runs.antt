@@ -18,6 +18,8 @@ use Rattle.relay_calls.specs.declared.Decoded.{Decoded}
 use Rattle.relay_step.specs.Leg.{Leg, hardDecision, correctionWeight}
 use Rattle.relay_calls.specs.Decode.{Shot, Run, Ended, decoded, refused, Progress, running, finished, isNoneOr, executedLeg, startRun, recorded, legJudged, afterLeg, legsFrom, decodeLegs, correctionOf}
 use Rattle.relay_calls.specs.Calls.{answered}
+use Rattle.relay_calls.proofs.LegStores.{mostTo, most-more, executed-few, fits-within}
+use Rattle.relay_stores.specs.Stores.{mostIterations, maxStores}
 use Rattle.relay_record.specs.Kept.{Kept, kept, keptOf, corrected, keptWith, keptAfter, Blank, answerOf, isRefused, answerBy, Results, results, resultsOf, started}
 
 -- ---- what is kept of a run
@@ -49,9 +51,9 @@ abbrev listsOf : Kept → Results
 listsOf k = results (k .legState) (k .legIterations) (k .legWeight) (k .rows) (k .correction) (k .posterior)
 
 -- what a run that has ended answers
-answered-by : (run : Run) (best : Option Float) → answerBy Done best (run .executedLegs) (run .totalIterations) ≡ answered run best
-answered-by run none = refl
-answered-by run (some w) = refl
+answered-by : (run : Run) (stores : ℕ) (best : Option Float) → answerBy Done best (run .executedLegs) (run .totalIterations) stores ≡ answered run stores best
+answered-by run stores none = refl
+answered-by run stores (some w) = refl
 
 -- ---- the legs
 
@@ -86,21 +88,23 @@ module _ (x : Shot) where
     pub run : Run
     pub ahead : legsFrom byPlace x (many - r) (running run) r ≡ decodeLegs byPlace x
     pub is : keptOf run ≡ k
+    pub few : k .totalIterations ≤ mostTo (x .settings) r
 
   -- and after it, not yet judged
   pub record Turned (r : ℕ) (k : Kept) : Type 0 where
     pub run : Run
     pub ahead : legsFrom byPlace x (many - suc r) (legJudged (posteriorFault (x .graph) (k .posterior)) (leb (x .settings .«stop_after_converged») (k .numConverged)) run) (suc r) ≡ decodeLegs byPlace x
     pub is : keptOf run ≡ k
+    pub few : k .totalIterations ≤ mostTo (x .settings) (suc r)
 
-  -- what is answered at the end e, and left
-  abbrev Ends : Ended → Decoded → Kept → Type 0
-  Ends e d k = (d ≡ answerOf e) × (isRefused d ≡ false → listsOf k ≡ resultsOf x e)
+  -- what is answered at the end e, and left, where an iteration writes `each` messages
+  abbrev Ends : ℕ → Ended → Decoded → Kept → Type 0
+  Ends each e d k = (d ≡ answerOf each e) × (isRefused d ≡ false → listsOf k ≡ resultsOf x e)
 
   module _ (r : ℕ) (k′ : Kept) where
     -- the leg r
     pub turned : (k : Kept) → Reached r k → r < many → k′ ≡ keptAfter x k r (executedLeg byPlace x r (k .posterior)) → Turned r k′
-    unfolding legsFrom afterLeg
+    unfolding legsFrom afterLeg keptAfter keptWith
     turned k s h e =
         let l = executedLeg byPlace x r (s .run .posterior) in
         let new = recorded x (s .run) r l in
@@ -113,6 +117,7 @@ module _ (x : Shot) where
               ap (λ (z : Kept). legsFrom byPlace x (many - suc r) (legJudged (posteriorFault (x .graph) (z .posterior)) (leb (x .settings .«stop_after_converged») (z .numConverged)) new) (suc r)) (sym same)
               ∙ whole;
           is = same;
+          few = omega (arith, ap (λ (z : Kept). z .totalIterations) e, s .few, executed-few byPlace x r (k .posterior), most-more (x .settings) r);
         }
 
     module _ (s : Turned r k′) (a : Answer) (b : Bool) (e : a ≡ posteriorFault
@@ -126,7 +131,7 @@ module _ (x : Shot) where
 
       -- on to the next leg
       reached-on : b ≡ false → Reached (suc r) k′
-      reached-on h = record { run = s .run; ahead = ap (λ z. legsFrom byPlace x (many - suc r) z (suc r)) (sym (judged-on a _ (s .run) (sym d ∙ h))) ∙ ahead-by; is = s .is }
+      reached-on h = record { run = s .run; ahead = ap (λ z. legsFrom byPlace x (many - suc r) z (suc r)) (sym (judged-on a _ (s .run) (sym d ∙ h))) ∙ ahead-by; is = s .is; few = s .few }
 
       -- or no leg follows
       ended-at : b ≡ true → endOf a (s .run) ≡ decodeLegs byPlace x
@@ -136,14 +141,17 @@ module _ (x : Shot) where
           ∙ ahead-by
 
   -- what an end says of a run of which this is kept
-  ends-by : (a : Answer) (run : Run) (k : Kept) → keptOf run ≡ k → Ends (endOf a run) (answerBy a (k .best) (k .executedLegs) (k .totalIterations)) k
-  ends-by (Refused z) run k e = (refl, λ h. absurd (true≢false h))
-  ends-by Done run k e =
-      (ap (λ (z : Kept). answerBy Done (z .best) (z .executedLegs) (z .totalIterations)) (sym e) ∙ answered-by run (run .bestWeight), λ h. ap (λ (z : Kept). listsOf z) (sym e))
+  ends-by : (each : ℕ) (a : Answer) (run : Run) (k : Kept) → keptOf run ≡ k
+      → Ends each (endOf a run) (answerBy a (k .best) (k .executedLegs) (k .totalIterations) (k .totalIterations * each)) k
+  ends-by each (Refused z) run k e = (refl, λ h. absurd (true≢false h))
+  ends-by each Done run k e = (
+    ap (λ (z : Kept). answerBy Done (z .best) (z .executedLegs) (z .totalIterations) (z .totalIterations * each)) (sym e) ∙ answered-by run _ (run .bestWeight),
+    λ h. ap (λ (z : Kept). listsOf z) (sym e),
+  )
 
   -- the same, of an end that is the legs'
-  ends-as : (f e : Ended) (d c : Decoded) (k : Kept) → f ≡ e → c ≡ d → Ends f d k → Ends e c k
-  ends-as f e d c k p q h = rw (← p, q) h
+  ends-as : (each : ℕ) (f e : Ended) (d c : Decoded) (k : Kept) → f ≡ e → c ≡ d → Ends each f d k → Ends each e c k
+  ends-as each f e d c k p q h = rw (← p, q) h
 
   module _ (best : Option Float) (num total : ℕ) (ss is : List ℕ) (ws : List Float) (rows cor : List ℕ) (p : List Float) where
     -- the start
@@ -154,6 +162,7 @@ module _ (x : Shot) where
           run = startRun x;
           ahead = rw sub-zero;
           is = ap (λ (z : Results). kept none 0 0 0 (z .legState) (z .legIterations) (z .legWeight) (z .rows) (z .correction) (z .posterior)) (sym e);
+          few = omega arith;
         }
 
     -- a turn of the loop
@@ -163,25 +172,34 @@ module _ (x : Shot) where
     unfolding posteriorFault
     run-on r k s l e a b m f d h = rw add-one (reached-on r _ (turned r _ k s l e) a b (f ∙ ap (λ n. firstOf n (valueFault p)) m) d h)
 
+    -- what is written so far fits
+    pub run-fits : (r : ℕ) (k : Kept) → Reached r k → r < many → kept best num total (suc r) ss is ws rows cor p ≡ keptAfter x k r (executedLeg byPlace x r (k .posterior))
+        → (each : ℕ) → mostIterations (x .settings) * each ≤ maxStores → total * each ≤ maxStores
+    run-fits r k s l e each h = fits-within total (x .settings) (suc r) each l (turned r _ k s l e .few) h
+
+    -- and after all legs
+    pub all-fit : (r : ℕ) → Reached r (kept best num total r ss is ws rows cor p) → r ≤ many → (each : ℕ) → mostIterations (x .settings) * each ≤ maxStores → total * each ≤ maxStores
+    all-fit r s l each h = fits-within total (x .settings) r each l (s .few) h
+
     -- the way out after a leg
-    pub run-ended : (r : ℕ) (k : Kept) → Reached r k → r < many → kept best num total (suc r) ss is ws rows cor p ≡ keptAfter x k r (executedLeg byPlace x r (k .posterior))
+    pub run-ended : (each r : ℕ) (k : Kept) → Reached r k → r < many → kept best num total (suc r) ss is ws rows cor p ≡ keptAfter x k r (executedLeg byPlace x r (k .posterior))
         → (a : Answer) (b : Bool) (c : Decoded) → length p ≡ x .graph .mechanisms → a ≡ firstOf (length p) (valueFault p)
-        → b ≡ (not (isDone a) || leb (x .settings .«stop_after_converged») num) → b ≡ true → c ≡ answerBy a best (r + 1) total
-        → (c ≡ answerOf (decodeLegs byPlace x)) × (isRefused c ≡ false → results ss is ws rows cor p ≡ resultsOf x (decodeLegs byPlace x))
+        → b ≡ (not (isDone a) || leb (x .settings .«stop_after_converged») num) → b ≡ true → c ≡ answerBy a best (r + 1) total (total * each)
+        → (c ≡ answerOf each (decodeLegs byPlace x)) × (isRefused c ≡ false → results ss is ws rows cor p ≡ resultsOf x (decodeLegs byPlace x))
     unfolding posteriorFault
-    run-ended r k s l e a b c m f d h q =
+    run-ended each r k s l e a b c m f d h q =
         let t = turned r (kept best num total (suc r) ss is ws rows cor p) k s l e in
         let w = rw add-one at q in
-        ends-as _ _ _ c (kept best num total (suc r) ss is ws rows cor p) (ended-at r _ t a b (f ∙ ap (λ n. firstOf n (valueFault p)) m) d h) w (ends-by a (t .run) _ (t .is))
+        ends-as each _ _ _ c (kept best num total (suc r) ss is ws rows cor p) (ended-at r _ t a b (f ∙ ap (λ n. firstOf n (valueFault p)) m) d h) w (ends-by each a (t .run) _ (t .is))
 
     -- and after all of them
-    pub run-over : (r : ℕ) (c : Decoded) → Reached r (kept best num total r ss is ws rows cor p) → many ≤ r → c ≡ answerBy Done best r total
-        → (c ≡ answerOf (decodeLegs byPlace x)) × (isRefused c ≡ false → results ss is ws rows cor p ≡ resultsOf x (decodeLegs byPlace x))
+    pub run-over : (each r : ℕ) (c : Decoded) → Reached r (kept best num total r ss is ws rows cor p) → many ≤ r → c ≡ answerBy Done best r total (total * each)
+        → (c ≡ answerOf each (decodeLegs byPlace x)) × (isRefused c ≡ false → results ss is ws rows cor p ≡ resultsOf x (decodeLegs byPlace x))
     unfolding legsFrom
-    run-over r c s h q =
+    run-over each r c s h q =
         let none-left : many - r ≡ 0 = sub-eq-zero-of-le h in
         let end : decoded (s .run) ≡ decodeLegs byPlace x = ap (λ n. legsFrom byPlace x n (running (s .run)) r) (sym none-left) ∙ s .ahead in
-        ends-as _ _ _ c (kept best num total r ss is ws rows cor p) end q (ends-by Done (s .run) _ (s .is))
+        ends-as each _ _ _ c (kept best num total r ss is ws rows cor p) end q (ends-by each Done (s .run) _ (s .is))
 
 -- ---- the rows
 

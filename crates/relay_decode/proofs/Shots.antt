@@ -12,19 +12,19 @@ use lib.Ieee.{Float}
 use lib.ListN.{length, replicate, take, drop}
 use lib.Seq.{length-take-le}
 use borrow.Author.Tests.{not-true, not-false}
-use Rattle.graph_lists.specs.Messages.{byPlace}
 use Rattle.numbers.specs.Floats.{zero⁺}
 use Rattle.numbers.proofs.Cases.{either}
 use Rattle.relay_settings.specs.declared.Settings.{Settings}
 use Rattle.relay_calls.specs.declared.Decoded.{Decoded}
-use Rattle.relay_calls.specs.Decode.{Shot, Run, Ended, decoded, refused, decodeLegs, correctionOf}
+use Rattle.relay_calls.specs.Decode.{Shot, Run, Ended, decoded, refused, correctionOf}
 use Rattle.relay_calls.specs.Calls.{DecodeLists, DecodeOutcome, decodeOutcome, answered, leftBy, zeroed, afterLegs}
+use Rattle.relay_calls.specs.Formula.{storesIn, takenLeaves}
 use Rattle.relay_record.specs.Kept.{shotOf, Reads, answerOf, isRefused, Results, results, resultsOf, started}
 
 -- a run that has ended is not refused
-not-refused : (run : Run) (best : Option Float) → isRefused (answered run best) ≡ false
-not-refused run none = refl
-not-refused run (some w) = refl
+not-refused : (run : Run) (stores : ℕ) (best : Option Float) → isRefused (answered run stores best) ≡ false
+not-refused run stores none = refl
+not-refused run stores (some w) = refl
 
 -- nothing is refused: the results stay
 pub end-kept : (d : Decoded) (b : Bool) (z r : Results) → b ≡ isRefused d → not b ≡ true → r ≡ cond (isRefused d) z r
@@ -53,22 +53,22 @@ module _ (x : Shot) (ss is : List ℕ) (ws : List Float) (rows cor : List ℕ)
   starts-at ss′ is′ ws′ rows′ cor′ p′ z q = rw (z .0, z .1, z .2, z .3, z .4, q, hs, hi, hw, hr, hc)
 
   -- what the lists hold after the end
-  pub ends-at : (e : Ended) (d : Decoded) (r′ : Results) → length p ≡ x .graph .mechanisms → d ≡ answerOf e → (isRefused d ≡ false → results ss is ws rows cor p ≡ resultsOf x e)
+  pub ends-at : (each : ℕ) (e : Ended) (d : Decoded) (r′ : Results) → length p ≡ x .graph .mechanisms → d ≡ answerOf each e → (isRefused d ≡ false → results ss is ws rows cor p ≡ resultsOf x e)
       → r′ ≡ cond (isRefused d) (results (replicate (length ss) 0) (replicate (length is) 0) (replicate (length ws) zero⁺) (replicate (length rows) 0)
       (replicate (length cor) 0) (replicate (length p) zero⁺)) (results ss is ws rows cor p)
       → r′ ≡ resultsOf x e
-  ends-at e d r′ hp q f z = go e q (either (isRefused d)) f
+  ends-at each e d r′ hp q f z = go e q (either (isRefused d)) f
     where
-      go : (e : Ended) → d ≡ answerOf e → (isRefused d ≡ true) ⊎ (isRefused d ≡ false) → (isRefused d ≡ false → results ss is ws rows cor p ≡ resultsOf x e) → r′ ≡ resultsOf x e
+      go : (e : Ended) → d ≡ answerOf each e → (isRefused d ≡ true) ⊎ (isRefused d ≡ false) → (isRefused d ≡ false → results ss is ws rows cor p ≡ resultsOf x e) → r′ ≡ resultsOf x e
       go e q (inr h) f = z ∙ rw h (f h)
-      go (decoded run) q (inl h) f = absurd (false≢true (sym (not-refused run (run .bestWeight)) ∙ ap isRefused (sym q) ∙ h))
+      go (decoded run) q (inl h) f = absurd (false≢true (sym (not-refused run (storesIn each (decoded run)) (run .bestWeight)) ∙ ap isRefused (sym q) ∙ h))
       go (refused y) q (inl h) f = z ∙ rw (h, hs, hi, hw, hr, hc, hp)
 
 -- ---- the leg lists with their surplus
 
 module _ (x : Shot) (edges : ℕ) (l : DecodeLists) (ss is : List ℕ) (ws : List Float) (rows cor : List ℕ) (p gamma bias c v : List Float) (t1 t2 : List ℕ) (t3 : List Float) (t4 : List ℕ) where
   -- the answer, the result lists before their surplus, and the zeroed work lists are what the definition leaves
-  pub shot-is : (e : Ended) (d : Decoded) → d ≡ answerOf e → results ss is ws rows cor p ≡ resultsOf x e
+  pub shot-is : (each : ℕ) (e : Ended) (d : Decoded) → d ≡ answerOf each e → results ss is ws rows cor p ≡ resultsOf x e
       → (t1 ≡ drop (length ss) (l .legState)) × (t2 ≡ drop (length is) (l .legIterations)) × (t3 ≡ drop (length ws) (l .legWeight)) × (t4 ≡ drop (length rows) (l .rows))
       → (gamma ≡ replicate (x .graph .mechanisms) zero⁺) × (bias ≡ replicate (x .graph .mechanisms) zero⁺) × (c ≡ replicate edges zero⁺) × (v ≡ replicate edges zero⁺)
       → decodeOutcome d (record {
@@ -84,9 +84,9 @@ module _ (x : Shot) (edges : ℕ) (l : DecodeLists) (ss is : List ℕ) (ws : Lis
         cToV = c;
         vToC = v;
       })
-      ≡ afterLegs edges x e l
+      ≡ afterLegs edges x e (storesIn each e) l
   unfolding leftBy zeroed
-  shot-is (decoded run) d q h t w =
+  shot-is each (decoded run) d q h t w =
       let a1 : ss ≡ run .legState = ap (λ (z : Results). z .legState) h in
       let a2 : is ≡ run .legIterations = ap (λ (z : Results). z .legIterations) h in
       let a3 : ws ≡ run .legWeight = ap (λ (z : Results). z .legWeight) h in
@@ -94,7 +94,7 @@ module _ (x : Shot) (edges : ℕ) (l : DecodeLists) (ss is : List ℕ) (ws : Lis
       let a5 : cor ≡ correctionOf run (run .bestWeight) = ap (λ (z : Results). z .correction) h in
       let a6 : p ≡ run .posterior = ap (λ (z : Results). z .posterior) h in
       rw (q, t .0, t .1, t .2, t .3, w .0, w .1, w .2, w .3, a1, a2, a3, a4, a5, a6)
-  shot-is (refused y) d q h t w =
+  shot-is each (refused y) d q h t w =
       let n = suc (x .settings .«num_legs») in
       let m = x .graph .mechanisms in
       let a1 : ss ≡ replicate n 0 = ap (λ (z : Results). z .legState) h in
@@ -110,8 +110,7 @@ module _ (x : Shot) (edges : ℕ) (l : DecodeLists) (ss is : List ℕ) (ws : Lis
 module _ (t : Settings) (flat : List Float) (seed : ℕ) (syndrome : List ℕ) (prior : List Float) (cv co vm vo : List ℕ) where
   -- the same decode in an order that is the same
   pub along-order : (o o′ : List ℕ) (n : ℕ) (l : DecodeLists) (r : DecodeOutcome) → o ≡ o′
-      → r ≡ afterLegs n (shotOf t flat seed syndrome prior cv co vm vo o) (decodeLegs byPlace (shotOf t flat seed syndrome prior cv co vm vo o)) l
-      → r ≡ afterLegs n (shotOf t flat seed syndrome prior cv co vm vo o′) (decodeLegs byPlace (shotOf t flat seed syndrome prior cv co vm vo o′)) l
+      → r ≡ takenLeaves n (shotOf t flat seed syndrome prior cv co vm vo o) l → r ≡ takenLeaves n (shotOf t flat seed syndrome prior cv co vm vo o′) l
   along-order o o′ n l r e q = rw e at q
 
   -- and what it asks

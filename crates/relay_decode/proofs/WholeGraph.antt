@@ -2,17 +2,24 @@
 use mathlib.Core.Path.{_≡_, refl, ap, _∙_}
 use mathlib.Core.Bool.{false}
 use mathlib.Core.List.{List}
-use Prim.Native.Nat.{ℕ, suc}
+use Prim.Native.Nat.{ℕ, suc, _*_}
+use lib.Dec.{leb}
 use lib.Ieee.{Float}
 use lib.ListN.{length}
+use Rattle.refusals.specs.declared.Refusal.the-variants.{TooManyStores}
+use Rattle.refusals.specs.Tests.{unless}
 use Rattle.graph_lists.specs.Graph.{graph}
 use Rattle.graph_lists.specs.Messages.{byPlace, fromVariables, cleared, posteriorFault}
 use Rattle.graph_messages.specs.Needs.{walked}
+use Rattle.relay_settings.specs.declared.Schedule.{Schedule}
+use Rattle.relay_settings.specs.declared.Schedule.the-variants.{Flooding, CheckSerial}
 use Rattle.relay_settings.specs.declared.Settings.{Settings}
+use Rattle.relay_stores.specs.Stores.{degree, squaredDegrees, storesEach, mostIterations, maxStores, storesFault}
 use Rattle.relay_gammas.specs.Gammas.{gammaOf}
 use Rattle.relay_step.specs.Leg.{startLeg, runLeg, matches, satisfied}
 use Rattle.relay_calls.specs.Decode.{Shot, Run, Ended, decoded, refused, running, iterationLimit, stepOf, executedLeg, startRun, recorded, afterLeg, decodeLegs}
-use Rattle.relay_calls.specs.Calls.{DecodeLists, DecodeOutcome, leftBy, zeroed, afterLegs}
+use Rattle.relay_calls.specs.Calls.{DecodeLists, DecodeOutcome, leftBy, zeroed, afterLegs, afterDecodeTests}
+use Rattle.relay_calls.specs.Formula.{storesIn, legsLeave, takenLeaves}
 use Rattle.relay_calls.proofs.Calls.{same-step, legs-agree}
 use Rattle.relay_record.specs.Kept.{shotOf}
 
@@ -47,17 +54,34 @@ module _ (t : Settings) (flat : List Float) (seed : ℕ) (syndrome : List ℕ) (
     decode-whole = legs-agree byPlace byPlace (few checks mechanisms) (whole checks mechanisms) after-whole (suc (t .«num_legs»)) (running (startRun (few checks mechanisms))) 0
 
     -- and what they leave
-    left-whole : (edges : ℕ) (l : DecodeLists) (e : Ended) → afterLegs edges (few checks mechanisms) e l ≡ afterLegs edges (whole checks mechanisms) e l
+    left-whole : (edges stores : ℕ) (l : DecodeLists) (e : Ended) → afterLegs edges (few checks mechanisms) e stores l ≡ afterLegs edges (whole checks mechanisms) e stores l
     unfolding leftBy zeroed
-    left-whole edges l (decoded run) = refl
-    left-whole edges l (refused r) = refl
+    left-whole edges stores l (decoded run) = refl
+    left-whole edges stores l (refused r) = refl
 
-  -- what the legs leave, however the graph is counted
+    -- an iteration writes as many messages
+    each-whole : (schedule : Schedule) → storesEach schedule (walked checks mechanisms cv co vm vo) ≡ storesEach schedule (graph checks mechanisms cv co vc vm vo)
+    unfolding squaredDegrees degree
+    each-whole Flooding = refl
+    each-whole CheckSerial = refl
+
+    -- all legs, with what they wrote
+    legs-whole : (edges : ℕ) (l : DecodeLists) → legsLeave edges (few checks mechanisms) l ≡ legsLeave edges (whole checks mechanisms) l
+    legs-whole edges l =
+        ap (λ n. afterLegs edges (few checks mechanisms) (decodeLegs byPlace (few checks mechanisms)) (storesIn n (decodeLegs byPlace (few checks mechanisms))) l) (each-whole (t .schedule))
+        ∙ ap (λ e. afterLegs edges (few checks mechanisms) e (storesIn (storesEach (t .schedule) (graph checks mechanisms cv co vc vm vo)) e) l) decode-whole
+        ∙ left-whole edges _ l (decodeLegs byPlace (whole checks mechanisms))
+
+    -- and 29 before them
+    taken-whole : (edges : ℕ) (l : DecodeLists) → takenLeaves edges (few checks mechanisms) l ≡ takenLeaves edges (whole checks mechanisms) l
+    unfolding storesFault
+    taken-whole edges l =
+        ap (λ n. afterDecodeTests (unless (leb (mostIterations t * n) maxStores) TooManyStores) (legsLeave edges (few checks mechanisms) l) l) (each-whole (t .schedule))
+        ∙ ap (λ o. afterDecodeTests (storesFault t (graph checks mechanisms cv co vc vm vo)) o l) (legs-whole edges l)
+
+  -- what 29 and the legs leave, however the graph is counted
   pub legs-read-four : (edges n checks mechanisms : ℕ) (l : DecodeLists) (o : DecodeOutcome) → n ≡ edges → length syndrome ≡ checks → length prior ≡ mechanisms
-      → o ≡ afterLegs n (shotOf t flat seed syndrome prior cv co vm vo order) (decodeLegs byPlace (shotOf t flat seed syndrome prior cv co vm vo order)) l
-      → o ≡ afterLegs edges (whole checks mechanisms) (decodeLegs byPlace (whole checks mechanisms)) l
+      → o ≡ takenLeaves n (shotOf t flat seed syndrome prior cv co vm vo order) l → o ≡ takenLeaves edges (whole checks mechanisms) l
   legs-read-four edges n checks mechanisms l o p q s e =
-      let counted : afterLegs n (few (length syndrome) (length prior))
-      (decodeLegs byPlace (few (length syndrome) (length prior))) l ≡ afterLegs edges
-      (few checks mechanisms) (decodeLegs byPlace (few checks mechanisms)) l = rw (p, q, s) in
-      e ∙ counted ∙ ap (λ f. afterLegs edges (few checks mechanisms) f l) (decode-whole checks mechanisms) ∙ left-whole checks mechanisms edges l (decodeLegs byPlace (whole checks mechanisms))
+      let counted : takenLeaves n (few (length syndrome) (length prior)) l ≡ takenLeaves edges (few checks mechanisms) l = rw (p, q, s) in
+      e ∙ counted ∙ taken-whole checks mechanisms edges l

@@ -2,14 +2,13 @@
 ghost use mathlib.Core.Path.{_≡_};
 ghost use Prim.Native.Nat.{suc, _≤_};
 ghost use lib.ListN.{length};
-ghost use Rattle.graph_lists.specs.Messages.{byPlace};
-ghost use Rattle.numbers.specs.Limits.{maxChecks};
+ghost use Rattle.numbers.specs.Limits.{maxChecks, maxEdges};
 ghost use Rattle.numbers.specs.Loops.{upto};
-ghost use Rattle.relay_calls.specs.Decode.{decodeLegs};
-ghost use Rattle.relay_calls.specs.Calls.{decodeOutcome, afterLegs, decodeLists};
+ghost use Rattle.relay_calls.specs.Calls.{decodeOutcome, decodeLists};
+ghost use Rattle.relay_calls.specs.Formula.{takenLeaves};
 ghost use Rattle.relay_record.specs.Kept.{shotOf, Reads, LegsFit, PerShot};
 ghost use Rattle.graph_messages.specs.Needs.{PerEdge};
-use crate::all_legs::decode_fronts;
+use crate::all_legs::decode_taken;
 use graph_lists::indices::number;
 use numbers::limits::MAX_CHECKS;
 use relay_calls::Decoded;
@@ -46,6 +45,7 @@ fn decode_counting(
         LegsFit (suc (t .«num_legs»)) (length (now priors)) (now «leg_state») (now «leg_iterations») (now «leg_weight») (now rows) ⌝ }
     requires { ⌜ PerShot (length (now priors)) (now correction) (now posterior) (now gamma) (now bias) ⌝ }
     requires { ⌜ PerEdge (length (now «check_var»)) (now «c_to_v») (now «v_to_c») ⌝ }
+    requires { ⌜ length (now «check_var») ≤ maxEdges ⌝ }
     ensures outcome { λ r.
         let x = shotOf t (now (gammas .entry)) seed (now (syndrome .entry)) (now (priors .entry)) (now («check_var» .entry))
         (now («check_offset» .entry)) (now («var_message» .entry)) (now («var_offset» .entry))
@@ -53,15 +53,14 @@ fn decode_counting(
         let before = decodeLists (now («leg_state» .entry)) (now («leg_iterations» .entry)) (now («leg_weight» .entry)) (now (rows .entry))
         (now (correction .entry)) (now (posterior .entry)) (now (gamma .entry)) (now (bias .entry)) (now («c_to_v» .entry))
         (now («v_to_c» .entry)) in
-        let end = decodeLegs byPlace x in
         let after = decodeLists (now («leg_state» .exit)) (now («leg_iterations» .exit)) (now («leg_weight» .exit)) (now (rows .exit))
         (now (correction .exit)) (now (posterior .exit)) (now (gamma .exit)) (now (bias .exit)) (now («c_to_v» .exit))
         (now («v_to_c» .exit)) in
-        ⌜ decodeOutcome r after ≡ afterLegs (length (now («check_var» .entry))) x end before ⌝ }
+        ⌜ decodeOutcome r after ≡ takenLeaves (length (now («check_var» .entry))) x before ⌝ }
     ensures order { λ _. ⌜ now (order .exit) ≡ upto (length (now (order .entry))) ⌝ }
 {
     number(order);
-    decode_fronts(
+    decode_taken(
         t,
         gammas,
         seed,
@@ -115,6 +114,7 @@ pub fn decode_counted(
         LegsFit (suc (t .«num_legs»)) (length (now priors)) (now «leg_state») (now «leg_iterations») (now «leg_weight») (now rows) ⌝ }
     requires { ⌜ PerShot (length (now priors)) (now correction) (now posterior) (now gamma) (now bias) ⌝ }
     requires { ⌜ PerEdge (length (now «check_var»)) (now «c_to_v») (now «v_to_c») ⌝ }
+    requires { ⌜ length (now «check_var») ≤ maxEdges ⌝ }
     ensures { λ r.
         let x = shotOf t (now (gammas .entry)) seed (now (syndrome .entry)) (now (priors .entry)) (now («check_var» .entry))
         (now («check_offset» .entry)) (now («var_message» .entry)) (now («var_offset» .entry))
@@ -122,11 +122,10 @@ pub fn decode_counted(
         let before = decodeLists (now («leg_state» .entry)) (now («leg_iterations» .entry)) (now («leg_weight» .entry)) (now (rows .entry))
         (now (correction .entry)) (now (posterior .entry)) (now (gamma .entry)) (now (bias .entry)) (now («c_to_v» .entry))
         (now («v_to_c» .entry)) in
-        let end = decodeLegs byPlace x in
         let after = decodeLists (now («leg_state» .exit)) (now («leg_iterations» .exit)) (now («leg_weight» .exit)) (now (rows .exit))
         (now (correction .exit)) (now (posterior .exit)) (now (gamma .exit)) (now (bias .exit)) (now («c_to_v» .exit))
         (now («v_to_c» .exit)) in
-        ⌜ decodeOutcome r after ≡ afterLegs (length (now («check_var» .entry))) x end before ⌝ }
+        ⌜ decodeOutcome r after ≡ takenLeaves (length (now («check_var» .entry))) x before ⌝ }
 {
     let checks = syndrome.len();
     if checks <= 1024 {

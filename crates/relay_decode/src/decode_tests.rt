@@ -11,7 +11,8 @@ ghost use Rattle.graph_lists.specs.Graph.{graph};
 ghost use Rattle.graph_lists.specs.Sound.{Offsets, Keys};
 ghost use Rattle.graph_messages.specs.Needs.{ofChecks};
 ghost use Rattle.relay_orders.specs.Order.{namesFault, exchangeFault};
-ghost use Rattle.relay_calls.specs.Calls.{decodeFault, decodeLists};
+ghost use Rattle.relay_calls.specs.Calls.{decodeLists};
+ghost use Rattle.relay_calls.specs.Formula.{takenFault};
 ghost use Rattle.relay_record.specs.Kept.{shotFault};
 ghost use Rattle.relay_calls.specs.Decode.{shot};
 use refusals::Answer;
@@ -189,8 +190,8 @@ fn order_fault(
     exchange_fault(schedule, checks, check_var, check_offset, order)
 }
 
-// The tests of `decode_in_order`: 1, 2, 4, 7, 10 to 24.
-pub fn decode_fault(
+// The tests of `decode_in_order` before 29: 1, 2, 4, 7, 10 to 24.
+pub fn taken_fault(
     size: graph::Size,
     priors: &[f64],
     check_var: &[u32],
@@ -220,7 +221,7 @@ pub fn decode_fault(
         let before = decodeLists (now («leg_state» .entry)) (now («leg_iterations» .entry)) (now («leg_weight» .entry)) (now (rows .entry))
         (now (correction .entry)) (now (posterior .entry)) (now (gamma .entry)) (now (bias .entry)) (now («c_to_v» .entry))
         (now («v_to_c» .entry)) in
-        ⌜ r ≡ decodeFault (size .edges) x before ⌝ }
+        ⌜ r ≡ takenFault (size .edges) x before ⌝ }
 {
     let schedule = t.schedule;
     let a = shot_fault(

@@ -26,6 +26,7 @@ use Rattle.relay_step.specs.Leg.{Leg, hardDecision, correctionWeight}
 use Rattle.relay_calls.specs.Records.{valuesOf, recordOfLeg}
 use Rattle.relay_calls.specs.Decode.{Shot, Run, Ended, decoded, refused, isNoneOr, correctionOf}
 use Rattle.relay_calls.specs.Calls.{DecodeLists, syndromeFault, decodeListsFit, answered}
+use Rattle.relay_calls.specs.Formula.{storesIn}
 
 -- a shot by the lists that its legs read: four of the five graph lists
 abbrev pub shotOf : Settings → List Float → ℕ → List ℕ → List Float → List ℕ → List ℕ → List ℕ → List ℕ → List ℕ → Shot
@@ -155,22 +156,22 @@ pub record Blank (n : ℕ) (rows : List ℕ) : Type 0 where
 
 -- ---- after the legs
 
--- the answer
-abbrev pub answerOf : Ended → Decoded
-answerOf (decoded run) = answered run (run .bestWeight)
-answerOf (refused r) = Decoded.Refused r
+-- the answer, where an iteration writes `each` messages
+abbrev pub answerOf : ℕ → Ended → Decoded
+answerOf each (decoded run) = answered run (storesIn each (decoded run)) (run .bestWeight)
+answerOf each (refused r) = Decoded.Refused r
 
 -- whether it is a refusal
 abbrev pub isRefused : Decoded → Bool
-isRefused (Decoded.Converged n t w) = false
-isRefused (Decoded.NotConverged n t) = false
+isRefused (Decoded.Converged n t m w) = false
+isRefused (Decoded.NotConverged n t m) = false
 isRefused (Decoded.Refused r) = true
 
 -- what the code answers, from a test's answer and what it kept
-abbrev pub answerBy : Answer → Option Float → ℕ → ℕ → Decoded
-answerBy (Refused r) best executed total = Decoded.Refused r
-answerBy Done none executed total = Decoded.NotConverged executed total
-answerBy Done (some weight) executed total = Decoded.Converged executed total weight
+abbrev pub answerBy : Answer → Option Float → ℕ → ℕ → ℕ → Decoded
+answerBy (Refused r) best executed total stores = Decoded.Refused r
+answerBy Done none executed total stores = Decoded.NotConverged executed total stores
+answerBy Done (some weight) executed total stores = Decoded.Converged executed total stores weight
 
 -- the result lists, of num_legs + 1 legs
 pub record Results : Type 0 where

@@ -10,6 +10,7 @@ ghost use Rattle.numbers.specs.Limits.{maxCount};
 ghost use Rattle.refusals.specs.declared.Answer.the-variants.{Done};
 ghost use Rattle.refusals.specs.Tests.{isDone};
 ghost use Rattle.relay_step.specs.Leg.{correctionWeight};
+ghost use Rattle.relay_stores.specs.Stores.{maxStores};
 ghost use Rattle.relay_calls.specs.Records.{valuesOf, recordOfLeg};
 ghost use Rattle.relay_calls.specs.Decode.{isNoneOr};
 ghost use Rattle.relay_record.specs.Kept.{bestOf, bestAfter, corrected, answerBy};
@@ -184,25 +185,31 @@ pub fn record_leg(
     }
 }
 
-// What a run answers: its counts, with the weight where a leg converged.
+// What a run answers: its counts, with the weight where a leg converged. `each` is how many messages an iteration writes.
 pub fn answer_run(
     found: bool,
     weight: f64,
     executed_legs: usize,
     total_iterations: usize,
+    each: u64,
 ) -> Decoded
-    ensures { λ r. ⌜ r ≡ answerBy Done (bestOf found weight) «executed_legs» «total_iterations» ⌝ }
+    requires { ⌜ «total_iterations» * each ≤ maxStores ⌝ }
+    ensures { λ r. ⌜
+        r ≡ answerBy Done (bestOf found weight) «executed_legs» «total_iterations» («total_iterations» * each) ⌝ }
 {
+    let stores = total_iterations as u64 * each;
     if found {
         return Decoded::Converged {
             executed_legs: executed_legs,
             total_iterations: total_iterations,
+            stores: stores,
             weight: weight,
         };
     }
     Decoded::NotConverged {
         executed_legs: executed_legs,
         total_iterations: total_iterations,
+        stores: stores,
     }
 }
 
@@ -213,12 +220,15 @@ pub fn answer(
     weight: f64,
     executed_legs: usize,
     total_iterations: usize,
+    each: u64,
 ) -> Decoded
-    ensures { λ r. ⌜ r ≡ answerBy a (bestOf found weight) «executed_legs» «total_iterations» ⌝ }
+    requires { ⌜ «total_iterations» * each ≤ maxStores ⌝ }
+    ensures { λ r. ⌜
+        r ≡ answerBy a (bestOf found weight) «executed_legs» «total_iterations» («total_iterations» * each) ⌝ }
 {
     match a {
         Answer::Refused(r) => Decoded::Refused(r),
-        Answer::Done => answer_run(found, weight, executed_legs, total_iterations),
+        Answer::Done => answer_run(found, weight, executed_legs, total_iterations, each),
     }
 }
 

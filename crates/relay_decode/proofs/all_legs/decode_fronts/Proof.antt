@@ -160,7 +160,7 @@ returns c =
     })
     (x .last .1 .1 .1 .1 .1 .1 .1 .1 .1 .1 .0) (x .last .1 .1 .1 .1 .1 .1 .1 .1 .1 .1 .1 .0)
     (x .last .1 .1 .1 .1 .1 .1 .1 .1 .1 .1 .1 .1 .0) (x .last .1 .1 .1 .1 .1 .1 .1 .1 .1 .1 .1 .1 .1 .0) _ _ _ _ _ _ _ _ _ _
-    (decodeLegs byPlace (shotOf (a .t) (a .gammas .now) (a .seed) (a .syndrome .now)
+    (a .each) (decodeLegs byPlace (shotOf (a .t) (a .gammas .now) (a .seed) (a .syndrome .now)
     (a .priors .now) (a .check-var .now) (a .check-offset .now) (a .var-message .now)
     (a .var-offset .now) (a .order .now))) _ (x .ensures .0) (x .ensures .1 .0) (
       front-tail (n + 1) (a .leg-state .now) (x .last .1 .1 .1 .1 .1 .1 .1 .1 .1 .1 .0)

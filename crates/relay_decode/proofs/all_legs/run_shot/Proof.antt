@@ -42,12 +42,15 @@ run-legs-requires c κs =
         (
           record { bits = z .kept .1 .1 .1 .1 .0 ∙ n .bits; posteriors = y .kept .1 .0 ∙ n .posteriors; gammas = n .gammas; biases = n .biases },
           (
-            p .1 .1 .1,
-            starts-at (shotOf (a .t) (a .gammas .now) (a .seed) (a .syndrome .now)
+            p .1 .1 .1 .0,
+            (
+              p .1 .1 .1 .1,
+              starts-at (shotOf (a .t) (a .gammas .now) (a .seed) (a .syndrome .now)
                 (a .priors .now) (a .check-var .now) (a .check-offset .now)
                 (a .var-message .now) (a .var-offset .now) (a .order .now))
                 (a .leg-state .now) (a .leg-iterations .now) (a .leg-weight .now)
                 (a .rows .now) (a .correction .now) (a .posterior .now) (m .of-states) (m .of-iterations) (m .of-weights) (m .of-rows) (n .bits) _ _ _ _ _ _ (z .ensures) (y .ensures),
+            ),
           ),
         ),
       ),
@@ -187,7 +190,7 @@ returns c =
             (x .kept .1 .1 .1 .1 .1 .1 .1 .1 .1 .1 .1 .1 .0 ∙ z .kept .1 .1 .0 ∙ p .1 .0 .of-weights)
             (x .kept .1 .1 .1 .1 .1 .1 .1 .1 .1 .1 .1 .1 .1 .0 ∙ z .kept .1 .1 .1 .0 ∙ p .1 .0 .of-rows)
             (x .kept .1 .1 .1 .1 .1 .1 .1 .1 .1 .1 .1 .1 .1 .1 .0 ∙ z .kept .1 .1 .1 .1 .0 ∙ p .1 .1 .0 .bits)
-            (decodeLegs byPlace (shotOf (a .t) (a .gammas .now) (a .seed) (a .syndrome .now)
+            (a .each) (decodeLegs byPlace (shotOf (a .t) (a .gammas .now) (a .seed) (a .syndrome .now)
             (a .priors .now) (a .check-var .now) (a .check-offset .now)
             (a .var-message .now) (a .var-offset .now) (a .order .now)))
             (x .result) _ (x .kept .1 .1 .1 .1 .1 .1 .1 .1 .1 .1 .1 .1 .1 .1 .1 .0 ∙ y .kept .1 .0 ∙ p .1 .1 .0 .posteriors)
@@ -197,9 +200,9 @@ returns c =
           w .1 ∙ ap
               (λ i. replicate i zero⁺) (x .kept .1 .1 .1 .1 .1 .1 .1 .1 .1 .1 .1 .1 .1 .1 .1 .1 .1 .0 ∙ p .1 .1 .0 .biases),
           w .2 ∙ ap
-              (λ i. replicate i zero⁺) (x .kept .1 .1 .1 .1 .1 .1 .1 .1 .1 .1 .1 .1 .1 .1 .1 .1 .1 .1 .0 ∙ p .1 .1 .1 .to-variables),
+              (λ i. replicate i zero⁺) (x .kept .1 .1 .1 .1 .1 .1 .1 .1 .1 .1 .1 .1 .1 .1 .1 .1 .1 .1 .0 ∙ p .1 .1 .1 .0 .to-variables),
           w .3 ∙ ap
-              (λ i. replicate i zero⁺) (x .kept .1 .1 .1 .1 .1 .1 .1 .1 .1 .1 .1 .1 .1 .1 .1 .1 .1 .1 .1 .0 ∙ p .1 .1 .1 .to-checks),
+              (λ i. replicate i zero⁺) (x .kept .1 .1 .1 .1 .1 .1 .1 .1 .1 .1 .1 .1 .1 .1 .1 .1 .1 .1 .1 .0 ∙ p .1 .1 .1 .0 .to-checks),
         ),
       ),
     )

@@ -1,9 +1,9 @@
--- `relay_decode::decode_tests::decode_fault` meets its contract. The tests of both calls, then 23 and 24; these see no more of the graph than its checks.
+-- `relay_decode::decode_tests::taken_fault` meets its contract. The tests of both calls, then 23 and 24; these see no more of the graph than its checks.
 -- Assumes nothing.
 use Rattle.relay_decode.proofs.Faults.{order-asks, fault-before, fault-after}
 use borrow.Author.Needs.{needs}
-use Rattle.relay_decode.proofs.decode_tests.decode_fault.Statement.{statement}
-use Rattle.relay_decode.proofs.decode_tests.decode_fault.Tie as tie
+use Rattle.relay_decode.proofs.decode_tests.taken_fault.Statement.{statement}
+use Rattle.relay_decode.proofs.decode_tests.taken_fault.Tie as tie
 
 shot-fault-requires : tie.Need-shot-fault-requires
 shot-fault-requires c κs = search needs
@@ -68,7 +68,7 @@ returns-2 c = let a = c .before .before .before .before .before .before .before 
     })
     _ _ _ (c .before .before .before .shot-fault .ensures) (c .before .before .is-done .ensures) (c .before .if1 .left) (c .order-fault .ensures)
 
-pub decode-fault-spec : {M : Type 1} → statement M
-decode-fault-spec =
+pub taken-fault-spec : {M : Type 1} → statement M
+taken-fault-spec =
     tie.close
     (tie.spec shot-fault-requires is-done-requires returns order-fault-requires returns-2)
