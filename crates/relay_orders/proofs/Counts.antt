@@ -1,4 +1,4 @@
--- Laws of `count`, and that the test `namesOnce` says what the record `NamesOnce` says. Assumes nothing.
+-- Laws of `count`, sums that go by it, and that the test `namesOnce` says what the record `NamesOnce` says. Assumes nothing.
 use Prim.Native.Nat.{ℕ, zero, suc, _+_, _*_, _<_, _≤_}
 use mathlib.Core.Path.{_≡_, refl, sym, _∙_, ap}
 use mathlib.Core.Bool.{Bool, true, false, _&&_, cond}
@@ -80,10 +80,6 @@ sumOver w (x ∷ xs) = w x + sumOver w xs
 abbrev pub sumTo : (ℕ → ℕ) → ℕ → List ℕ → ℕ
 sumTo w n xs = sumBelow n (λ k. count k xs * w k)
 
--- as many as there are
-abbrev one : ℕ → ℕ
-one k = 1
-
 module _ (w : ℕ → ℕ) where
   -- a name from n on adds nothing
   sum-out : (n x : ℕ) (xs : List ℕ) → n ≤ x → sumTo w n (x ∷ xs) ≡ sumTo w n xs
@@ -115,7 +111,11 @@ module _ (w : ℕ → ℕ) where
   sum-once zero xs h = refl
   sum-once (suc n) xs h = rw (sum-once n xs (λ k l. h k (omega arith)), h n (omega arith)) (omega arith)
 
--- ---- the sum of the counts
+-- ---- the sum of the counts: each name weighs 1
+
+-- that weight
+abbrev one : ℕ → ℕ
+one k = 1
 
 -- over a list it is its length
 pub over-one : (xs : List ℕ) → sumOver one xs ≡ length xs
