@@ -1,5 +1,5 @@
--- Laws of `count`, and that the test `namesOnce` says what the record `NamesOnce` says. Assumes nothing.
-use Prim.Native.Nat.{ℕ, zero, suc, _+_, _<_, _≤_}
+-- Laws of `count`, sums that go by it, and that the test `namesOnce` says what the record `NamesOnce` says. Assumes nothing.
+use Prim.Native.Nat.{ℕ, zero, suc, _+_, _*_, _<_, _≤_}
 use mathlib.Core.Path.{_≡_, refl, sym, _∙_, ap}
 use mathlib.Core.Bool.{Bool, true, false, _&&_, cond}
 use mathlib.Core.List.{List, [], _∷_, _++_}
@@ -11,7 +11,7 @@ use lib.ListN.{length}
 use borrow.Author.Tests.{eqb-true, eq-eqb, ne-eqb}
 use Rattle.relay_orders.specs.Order.{count, once, NamesOnce, namesOnce}
 use Rattle.relay_orders.proofs.All.{All, nil, cons}
-use Rattle.numbers.specs.Loops.{every}
+use Rattle.numbers.specs.Loops.{turns, every}
 use Rattle.numbers.proofs.Cases.{and-both}
 use Rattle.numbers.proofs.Loops.{every-at, every-true}
 
@@ -65,69 +65,97 @@ unfolding count
 found k [] m h = absurd (omega arith)
 found k (x ∷ xs) m h = found-first k x xs m (eqb x k) refl h (λ e. found k xs m e)
 
--- ---- the sum of the counts
+-- ---- sums
 
--- of the names below n
-pub sumTo : ℕ → List ℕ → ℕ
-sumTo zero xs = 0
-sumTo (suc n) xs = sumTo n xs + count n xs
+-- w 0 + w 1 + .. + w (n - 1)
+abbrev pub sumBelow : ℕ → (ℕ → ℕ) → ℕ
+sumBelow n w = turns n (λ k sum. sum + w k) 0
 
--- a name from n on adds nothing
-sum-out : (n x : ℕ) (xs : List ℕ) → n ≤ x → sumTo n (x ∷ xs) ≡ sumTo n xs
-unfolding sumTo
-sum-out zero x xs h = refl
-sum-out (suc n) x xs h = rw (sum-out n x xs (omega arith), count-other n x xs (λ e. omega arith))
+-- w of each of a list
+abbrev pub sumOver : (ℕ → ℕ) → List ℕ → ℕ
+sumOver w [] = 0
+sumOver w (x ∷ xs) = w x + sumOver w xs
 
--- a name below n adds one
-sum-in : (n x : ℕ) (xs : List ℕ) → x < n → sumTo n (x ∷ xs) ≡ suc (sumTo n xs)
-unfolding sumTo
-sum-in zero x xs h = absurd (omega arith)
-sum-in (suc n) x xs h = go (ℕ-discrete x n) (λ l. sum-in n x xs l)
-  where
-    go : Dec (x ≡ n) → (x < n → sumTo n (x ∷ xs) ≡ suc (sumTo n xs)) → sumTo n (x ∷ xs) + count n (x ∷ xs) ≡ suc (sumTo n xs + count n xs)
-    go (yes e) rec = let c : count n (x ∷ xs) ≡ suc (count n xs) = rw e (count-same n xs) in omega (arith, sum-out n x xs (omega arith))
-    go (no e) rec = omega (arith, rec (omega arith), count-other n x xs e)
+-- of the names below n, each as often as it stands there
+abbrev pub sumTo : (ℕ → ℕ) → ℕ → List ℕ → ℕ
+sumTo w n xs = sumBelow n (λ k. count k xs * w k)
 
--- of no names
-sum-nil : (n : ℕ) → sumTo n [] ≡ 0
-unfolding sumTo count
-sum-nil zero = refl
-sum-nil (suc n) = rw (sum-nil n)
+module _ (w : ℕ → ℕ) where
+  -- a name from n on adds nothing
+  sum-out : (n x : ℕ) (xs : List ℕ) → n ≤ x → sumTo w n (x ∷ xs) ≡ sumTo w n xs
+  sum-out zero x xs h = refl
+  sum-out (suc n) x xs h = rw (sum-out n x xs (omega arith), count-other n x xs (λ e. omega arith))
+
+  -- a name below n adds its own
+  sum-in : (n x : ℕ) (xs : List ℕ) → x < n → sumTo w n (x ∷ xs) ≡ w x + sumTo w n xs
+  sum-in zero x xs h = absurd (omega arith)
+  sum-in (suc n) x xs h = go (ℕ-discrete x n) (λ l. sum-in n x xs l)
+    where
+      go : Dec (x ≡ n) → (x < n → sumTo w n (x ∷ xs) ≡ w x + sumTo w n xs) → sumTo w n (x ∷ xs) + count n (x ∷ xs) * w n ≡ w x + (sumTo w n xs + count n xs * w n)
+      go (yes e) rec = rw (sum-out n x xs (omega arith), e, count-same) (omega arith)
+      go (no e) rec = rw (rec (omega arith), count-other n x xs e) (omega arith)
+
+  -- of no names
+  sum-nil : (n : ℕ) → sumTo w n [] ≡ 0
+  unfolding count
+  sum-nil zero = refl
+  sum-nil (suc n) = rw (sum-nil n) (omega arith)
+
+  -- where all names are below n, the sum is that over the list
+  pub sum-over : (n : ℕ) {xs : List ℕ} → All (λ k. k < n) xs → sumTo w n xs ≡ sumOver w xs
+  sum-over n nil = sum-nil n
+  sum-over n (cons {x = x} {xs = xs} h t) = sum-in n x xs h ∙ ap (λ k. w x + k) (sum-over n t)
+
+  -- each once: the sum is that of all below n
+  pub sum-once : (n : ℕ) (xs : List ℕ) → ((k : ℕ) → k < n → count k xs ≡ 1) → sumTo w n xs ≡ sumBelow n w
+  sum-once zero xs h = refl
+  sum-once (suc n) xs h = rw (sum-once n xs (λ k l. h k (omega arith)), h n (omega arith)) (omega arith)
+
+-- ---- the sum of the counts: each name weighs 1
+
+-- that weight
+abbrev one : ℕ → ℕ
+one k = 1
+
+-- over a list it is its length
+pub over-one : (xs : List ℕ) → sumOver one xs ≡ length xs
+over-one [] = refl
+over-one (x ∷ xs) = omega (arith, over-one xs)
+
+-- below n it is n
+below-one : (n : ℕ) → sumBelow n one ≡ n
+below-one zero = refl
+below-one (suc n) = omega (arith, below-one n)
 
 -- where all names are below n, the sum is the number of names
-pub sum-length : (n : ℕ) {xs : List ℕ} → All (λ k. k < n) xs → sumTo n xs ≡ length xs
-sum-length n nil = sum-nil n
-sum-length n (cons {x = x} {xs = xs} h t) = sum-in n x xs h ∙ ap suc (sum-length n t)
+pub sum-length : (n : ℕ) {xs : List ℕ} → All (λ k. k < n) xs → sumTo one n xs ≡ length xs
+sum-length n {xs} h = sum-over one n h ∙ over-one xs
 
 -- a name from n on takes a place that none below n has
-pub sum-beyond : (n k : ℕ) (xs : List ℕ) → n ≤ k → sumTo n xs + count k xs ≤ length xs
+pub sum-beyond : (n k : ℕ) (xs : List ℕ) → n ≤ k → sumTo one n xs + count k xs ≤ length xs
 unfolding count
-sum-beyond n k [] h = omega (arith, sum-nil n)
+sum-beyond n k [] h = omega (arith, sum-nil one n)
 sum-beyond n k (x ∷ xs) h = go (decLt x n) (sum-beyond n k xs h)
   where
     le : (b : Bool) (m : ℕ) → cond b (suc m) m ≤ suc m
     le true m = omega arith
     le false m = omega arith
 
-    go : Dec (x < n) → sumTo n xs + count k xs ≤ length xs → sumTo n (x ∷ xs) + count k (x ∷ xs) ≤ suc (length xs)
-    go (yes l) rec = omega (arith, sum-in n x xs l, count-other k x xs (λ e. omega arith))
-    go (no l) rec = omega (arith, sum-out n x xs (omega arith), le (eqb x k) (count k xs))
+    go : Dec (x < n) → sumTo one n xs + count k xs ≤ length xs → sumTo one n (x ∷ xs) + count k (x ∷ xs) ≤ suc (length xs)
+    go (yes l) rec = omega (arith, sum-in one n x xs l, count-other k x xs (λ e. omega arith))
+    go (no l) rec = omega (arith, sum-out one n x xs (omega arith), le (eqb x k) (count k xs))
 
 -- each once: the sum is n
-pub sum-ones : (n : ℕ) (xs : List ℕ) → ((k : ℕ) → k < n → count k xs ≡ 1) → sumTo n xs ≡ n
-unfolding sumTo
-sum-ones zero xs h = refl
-sum-ones (suc n) xs h = omega (arith, sum-ones n xs (λ k l. h k (omega arith)), h n (omega arith))
+pub sum-ones : (n : ℕ) (xs : List ℕ) → ((k : ℕ) → k < n → count k xs ≡ 1) → sumTo one n xs ≡ n
+sum-ones n xs h = sum-once one n xs h ∙ below-one n
 
 -- none twice: the sum is at most n
-sum-le : (n : ℕ) (xs : List ℕ) → ((k : ℕ) → k < n → count k xs ≤ 1) → sumTo n xs ≤ n
-unfolding sumTo
+sum-le : (n : ℕ) (xs : List ℕ) → ((k : ℕ) → k < n → count k xs ≤ 1) → sumTo one n xs ≤ n
 sum-le zero xs h = omega arith
 sum-le (suc n) xs h = omega (arith, sum-le n xs (λ k l. h k (omega arith)), h n (omega arith))
 
 -- none twice, and n of them: each once
-pub ones : (n : ℕ) (xs : List ℕ) → ((k : ℕ) → k < n → count k xs ≤ 1) → sumTo n xs ≡ n → (k : ℕ) → k < n → count k xs ≡ 1
-unfolding sumTo
+pub ones : (n : ℕ) (xs : List ℕ) → ((k : ℕ) → k < n → count k xs ≤ 1) → sumTo one n xs ≡ n → (k : ℕ) → k < n → count k xs ≡ 1
 ones zero xs h e k l = absurd (omega arith)
 ones (suc n) xs h e k l =
     let s = sum-le n xs (λ j m. h j (omega arith)) in

@@ -32,7 +32,7 @@ pub record Seen (checks : ℕ) (order : List ℕ) (i : ℕ) (seen : List ℕ) : 
   pub counts : (k : ℕ) → k < 65536 → getD seen k 0 ≡ count k (take i order)
 
 -- one name more
-count-take : (k : ℕ) (order : List ℕ) (i : ℕ) → i < length order → count k (take (suc i) order) ≡ count k (getD order i 0 ∷ take i order)
+pub count-take : (k : ℕ) (order : List ℕ) (i : ℕ) → i < length order → count k (take (suc i) order) ≡ count k (getD order i 0 ∷ take i order)
 count-take k order i h =
     ap (count k) (take-suc order i 0 h) ∙ count-insert k (getD order i 0) (take i order) [] ∙ ap (λ u. count k (getD order i 0 ∷ u)) (append-nil (take i order))
 
