@@ -19,7 +19,8 @@ use Rattle.relay_orders.proofs.All.{All, all-map}
 use Rattle.relay_orders.proofs.Counts.{names-below}
 use Rattle.relay_calls.specs.Decode.{Shot, Run, running, iterationLimit, stepOf, executedLeg, startRun, recorded, afterLeg, decodeLegs}
 use Rattle.relay_calls.proofs.Calls.{legs-agree}
-use Rattle.relay.proofs.Exchange.{Sized, length-sent, keep-check, keep-serial}
+use Rattle.relay_step.proofs.Lengths.{length-sent}
+use Rattle.relay.proofs.Exchange.{Sized, keep-check, keep-serial}
 use Rattle.relay.proofs.SameOutcome.{keep-iteration, leg-same, start-sized}
 use Rattle.graph_layouts.proofs.Lists.{own, update-agrees}
 use Rattle.graph_layouts.proofs.Loops.{folds-agree}

@@ -1,25 +1,26 @@
 -- The steps of a Relay iteration change places where they touch no list at a common place. Assumes nothing.
 use Prim.Native.Nat.{ℕ, suc, _+_, _-_, _<_, _≤_}
 use mathlib.Core.Path.{_≡_, refl, sym, _∙_, ap}
-use mathlib.Core.Bool.{Bool, false, not}
+use mathlib.Core.Bool.{false, not}
 use mathlib.Core.List.{List, [], _∷_, foldl}
 use native.Mathlib.Omega.{arith}
 use lib.Dec.{eqb}
 use lib.Ieee.{Float, nan}
-use lib.ListN.{length, getD, set, length-set}
+use lib.ListN.{length, getD, set}
 use lib.Seq.{set-comm}
 use borrow.Author.Tests.{eqb-false}
 use Rattle.numbers.specs.Floats.{_+ᶠ_, _-ᶠ_, zero⁻}
 use Rattle.numbers.specs.Loops.{part, row, spliced}
-use Rattle.numbers.proofs.Loops.{length-table, Outside, length-part, getD-part, length-spliced, spliced-out}
+use Rattle.numbers.proofs.Loops.{Outside, length-part, getD-part, length-spliced, spliced-out}
 use Rattle.graph_lists.specs.Lists.{has}
 use Rattle.graph_lists.specs.Graph.{Graph, checkEntries, varEntries}
 use Rattle.graph_lists.specs.Messages.{byPlace, total}
 use Rattle.graph_lists.proofs.Sound.{Sound}
 use Rattle.graph_lists.proofs.Cuts.{offsets-rise, row-end}
-use Rattle.relay_step.specs.Step.{State, state, sentTo, checkMessages, updateCheck, written, updateVariable, serialCheck}
+use Rattle.relay_step.specs.Step.{State, state, checkMessages, updateCheck, written, updateVariable, serialCheck}
 use Rattle.relay_orders.specs.Order.{shares}
 use Rattle.relay_orders.proofs.All.{All, nil, cons, all-map, all-places, all-at, all-head, all-tail, any-none, or-left, or-right}
+use Rattle.relay_step.proofs.Lengths.{length-sent, written-length}
 use Rattle.relay_step.proofs.Parts.{Stands, out, within, stands, part-set, spliced-swap}
 
 -- ---- what the graph and the state are like
@@ -35,12 +36,6 @@ pub record Sized (g : Graph) (s : State) : Type 0 where
   pub back : length (s .vToC) ≡ length (g .checkVar)
 
 -- ---- lists of messages
-
--- writing keeps the length
-written-length : (p : Float) (cToV l : List Float) (ms : List ℕ) → length (written p cToV l ms) ≡ length l
-unfolding written
-written-length p cToV l [] = refl
-written-length p cToV l (m ∷ ms) = written-length p cToV (set l m (p -ᶠ getD cToV m nan)) ms ∙ length-set l m (p -ᶠ getD cToV m nan)
 
 -- a store elsewhere may come before or after
 written-set : (p : Float) (cToV l : List Float) (m : ℕ) (x : Float) {ms : List ℕ} → All (λ k. m ≡ k → ⊥) ms
@@ -88,11 +83,6 @@ unfolding written
 part-written a e p cToV l h nil = refl
 part-written a e p cToV l h (cons {x = m} {xs = ms} o t) =
     part-written a e p cToV (set l m (p -ᶠ getD cToV m nan)) h t ∙ part-set a e l m (p -ᶠ getD cToV m nan) h o
-
--- a check sends as many messages as it has
-pub length-sent : (alpha : Float) (odd : Bool) (vs : List ℕ) (xs : List Float) → length (checkMessages alpha odd vs xs) ≡ length xs
-unfolding checkMessages sentTo
-length-sent alpha odd vs xs = length-table (length xs) _
 
 -- ---- folds of steps
 

@@ -12,11 +12,12 @@ use lib.Ieee.{Float, lt, le}
 use lib.ListN.{length, replicate, length-replicate, getD-replicate}
 use lib.Seq.{ext-getD}
 use Rattle.numbers.specs.Floats.{isFinite}
-use Rattle.numbers.specs.Loops.{turns, part, spliced}
+use Rattle.numbers.specs.Loops.{part, spliced}
 use Rattle.numbers.proofs.Cases.{last-or-before, less-or-not}
 use Rattle.numbers.proofs.Loops.{length-part, getD-part, length-spliced, spliced-in, spliced-out}
 use Rattle.numbers.proofs.Order.{lt-le, le-itself, not-below, below-along, finite-number}
 use Rattle.relay_settings.specs.declared.Settings.{Settings}
+use Rattle.relay_orders.proofs.Counts.{sumBelow}
 use Rattle.relay_step.specs.Leg.{Leg, satisfied}
 use Rattle.relay_step.proofs.Weights.{hard-many}
 use Rattle.relay_calls.specs.Decode.{Shot, iterationLimit, Run, startRun, isNoneOr, recorded, correctionOf}
@@ -79,16 +80,6 @@ module _ (m many r : ℕ) (rows bits : List ℕ) (long : length rows ≡ many * 
     where
       apart : (j : ℕ) → j < m → (k * m + j < r * m) ⊎ (r * m + m ≤ k * m + j)
       apart j l = ⊎-elim (λ b. inl (omega (arith, row-room m r k b))) (λ b. inr (omega (arith, row-room m k r (omega arith)))) (less-or-not k r)
-
--- ---- a sum
-
--- of f 0 .. f (r - 1)
-abbrev pub sumTo : ℕ → (ℕ → ℕ) → ℕ
-sumTo r f = turns r (λ k n. n + f k) 0
-
-pub sum-same : (r : ℕ) (f g : ℕ → ℕ) → ((k : ℕ) → k < r → f k ≡ g k) → sumTo r f ≡ sumTo r g
-sum-same zero f g h = refl
-sum-same (suc r) f g h = omega (arith, sum-same r f g (λ k l. h k (omega arith)), h r (omega arith))
 
 -- ---- a leg
 
@@ -198,7 +189,7 @@ module _ (x : Shot) (legs : ℕ → Leg) where
     pub ran : (k : ℕ) → k < r → Ran x (legs k)
     pub row : (k : ℕ) → k < r → rowIn (x .graph .mechanisms) (run .rows) k ≡ rowFor (legs k)
     pub blank : (k : ℕ) → r ≤ k → k < many x → rowIn (x .graph .mechanisms) (run .rows) k ≡ replicate (x .graph .mechanisms) 0
-    pub total : run .totalIterations ≡ sumTo r (λ k. legs k .iterations)
+    pub total : run .totalIterations ≡ sumBelow r (λ k. legs k .iterations)
     pub best : BestOf r (run .bestWeight) (run .bestCorrection)
     pub last : (k : ℕ) → r ≡ suc k → correctionOf run none ≡ bitsOf x (legs k)
 

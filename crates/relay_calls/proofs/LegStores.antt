@@ -5,17 +5,18 @@ use native.Mathlib.Omega.{arith}
 use mathlib.Core.Path.{_≡_, refl, sym, ap, _∙_}
 use mathlib.Core.Bool.{Bool, true, false, false≢true}
 use mathlib.Core.List.{List}
+use lib.Dec.{leb}
 use lib.Ieee.{Float}
 use lib.ListN.{length, length-map}
 use Rattle.refusals.specs.declared.Answer.{Answer}
 use Rattle.refusals.specs.declared.Answer.the-variants.{Done, Refused}
-use Rattle.refusals.specs.Tests.{orElse}
 use Rattle.refusals.proofs.Tests.{or-done, or-second}
-use Rattle.graph_lists.specs.Messages.{Access, byPlace, fromVariables}
+use Rattle.graph_lists.specs.Messages.{Access, byPlace, fromVariables, posteriorFault}
 use Rattle.graph_lists.proofs.GraphTests.{graph-told}
 use Rattle.graph_lists.proofs.Sound.{Sound, passes-sound}
 use Rattle.relay_settings.specs.declared.Settings.{Settings}
 use Rattle.relay_orders.specs.Order.{NamesOnce}
+use Rattle.relay_gammas.specs.Gammas.{gammaOf}
 use Rattle.relay_step.specs.Step.{State}
 use Rattle.relay_step.specs.Leg.{startLeg, runLeg, satisfied}
 use Rattle.relay_stores.specs.Stores.{storesEach, mostIterations, maxStores, storesFault}
@@ -29,7 +30,7 @@ use Rattle.relay_calls.proofs.LastTests.{stores-last}
 -- ---- how many iterations
 
 -- a leg takes no more than it may
-leg-few : (step : State → State) (test : List Float → Bool) (n : ℕ) (ok : Bool) (k : ℕ) (s : State) → runLeg step test n ok k s .iterations ≤ n + k
+pub leg-few : (step : State → State) (test : List Float → Bool) (n : ℕ) (ok : Bool) (k : ℕ) (s : State) → runLeg step test n ok k s .iterations ≤ n + k
 leg-few step test zero ok k s = omega arith
 leg-few step test (suc n) true k s = omega arith
 leg-few step test (suc n) false k s = omega (arith, leg-few step test n (test (step s .posterior)) (suc k) (step s))
@@ -54,11 +55,13 @@ most-more t (suc r) = omega arith
 -- so no decode takes more than the formula of 29 has
 most-all : (t : Settings) (r : ℕ) → r ≤ suc (t .«num_legs») → mostTo t r ≤ mostIterations t
 most-all t zero h = omega arith
-most-all t (suc r) h = omega (arith, mul-le-mul-right (t .«leg_iterations») {n = r} {m = t .«num_legs»} (omega arith))
+most-all t (suc r) h = let l : r ≤ t .«num_legs» = omega arith in omega (arith, mul-le-mul-right (t .«leg_iterations») l)
 
 -- and where 29 passes, what r legs write fits
 pub fits-within : (total : ℕ) (t : Settings) (r each : ℕ) → r ≤ suc (t .«num_legs») → total ≤ mostTo t r → mostIterations t * each ≤ maxStores → total * each ≤ maxStores
-fits-within total t r each h e f = omega (arith, f, mul-le-mul-right each {n = total} {m = mostIterations t} (omega (arith, e, most-all t r h)))
+fits-within total t r each h e f =
+    let l : total ≤ mostIterations t = omega (arith, e, most-all t r h) in
+    omega (arith, f, mul-le-mul-right each l)
 
 -- ---- how many messages
 
@@ -89,9 +92,14 @@ module _ (had : Access) (x : Shot) (sound : Sound (x .graph)) (full : Full had (
   leg-counts r posterior zero = (omega arith, simp length-map)
   leg-counts r posterior (suc n) =
       let w = leg-counts r posterior n in
-      let t = countedLeg had x r posterior n in (
-        omega (arith, iteration-stores (x .settings .schedule) had (x .graph) sound full (x .order) names _ _ _ _ t (w .1), w .0),
-        iteration-keeps (x .settings .schedule) had (x .graph) _ _ _ _ (x .order) t ∙ w .1,
+      let t = countedLeg had x r posterior n in
+      let gamma = gammaOf (x .settings) (x .gammas) (x .graph .mechanisms) (x .seed) r in (
+        omega (
+          arith,
+          iteration-stores (x .settings .schedule) had (x .graph) sound full (x .order) names (x .settings .alpha) (x .syndrome) (x .prior) gamma t (w .1),
+          w .0,
+        ),
+        iteration-keeps (x .settings .schedule) had (x .graph) (x .settings .alpha) (x .syndrome) (x .prior) gamma (x .order) t ∙ w .1,
       )
 
   -- a leg
@@ -120,7 +128,9 @@ module _ (had : Access) (x : Shot) (sound : Sound (x .graph)) (full : Full had (
   legs-write (suc n) (finished e) r out h = rw h (omega arith)
   legs-write (suc n) (running run) r out h =
       let l = executedLeg had x r (run .posterior) in
-      let t : totalOf (afterLeg had x r run) ≡ run .totalIterations + l .iterations = judged-total _ _ (recorded x run r l) out n (suc r) h in
+      let after = recorded x run r l in
+      let t : totalOf (afterLeg had x r run) ≡ run .totalIterations + l .iterations =
+      judged-total (posteriorFault (x .graph) (after .posterior)) (leb (x .settings .«stop_after_converged») (after .numConverged)) after out n (suc r) h in
       omega (arith, legs-write n (afterLeg had x r run) (suc r) out h, ap (λ k. k * each) t, leg-writes r (run .posterior))
 
   -- all legs

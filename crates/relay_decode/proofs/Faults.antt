@@ -120,7 +120,7 @@ pub record Passed (edges checks mechanisms : ℕ) (t : Settings) (flat : List Fl
   pub checks-many : length syndrome ≡ checks
   pub mechanisms-many : length prior ≡ mechanisms
   pub checks-few : checks ≤ 65536
-  pub edges-few : length cv ≤ maxEdges
+  pub edges-few : (length cv ≤ maxEdges) × (length vm ≤ maxEdges)
 
 module _ (edges checks mechanisms : ℕ) (t : Settings) (flat : List Float) (seed : ℕ) (syndrome : List ℕ) (prior : List Float) (cv co vc vm vo : List ℕ) where
   -- the shot, in any order
@@ -187,7 +187,7 @@ module _ (edges checks mechanisms : ℕ) (t : Settings) (flat : List Float) (see
           checks-many = many;
           mechanisms-many = p;
           checks-few = g .few .checks-few;
-          edges-few = omega (arith, g .long .check-var, g .few .edges-few);
+          edges-few = (omega (arith, g .long .check-var, g .few .edges-few), omega (arith, g .long .var-message, g .few .edges-few));
         }
 
     -- ---- 23 and 24

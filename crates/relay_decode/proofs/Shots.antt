@@ -1,24 +1,34 @@
 -- A decode past its tests, as the code has it: the lists that are zeroed, and the leg lists with their surplus. Assumes nothing.
 use mathlib.Core.Path.{_≡_, refl, sym, ap, _∙_}
 use mathlib.Core.Bool.{Bool, true, false, not, cond, false≢true}
-use mathlib.Core.List.{List, _++_}
+use mathlib.Core.List.{List, [], _++_}
 use mathlib.Core.Logic.{_⊎_, inl, inr}
 use mathlib.Core.Option.{Option, none, some}
 use Prim.Native.Nat.{ℕ, suc, _+_, _-_, _*_, _≤_}
 use native.Mathlib.Nat.{sub-zero}
 use native.Mathlib.Numerals.{add-one}
 use native.Mathlib.Omega.{arith}
+use lib.Dec.{leb}
 use lib.Ieee.{Float}
 use lib.ListN.{length, replicate, take, drop}
 use lib.Seq.{length-take-le}
-use borrow.Author.Tests.{not-true, not-false}
+use borrow.Author.Tests.{not-true, not-false, leb-true}
 use Rattle.numbers.specs.Floats.{zero⁺}
 use Rattle.numbers.proofs.Cases.{either}
+use Rattle.refusals.specs.declared.Refusal.the-variants.{TooManyStores}
+use Rattle.refusals.specs.declared.Answer.the-variants.{Done, Refused}
+use Rattle.refusals.specs.Tests.{unless}
+use Rattle.graph_lists.specs.Messages.{byPlace}
+use Rattle.graph_messages.specs.Needs.{walked}
+use Rattle.relay_settings.specs.declared.Schedule.{Schedule}
+use Rattle.relay_settings.specs.declared.Schedule.the-variants.{Flooding, CheckSerial}
 use Rattle.relay_settings.specs.declared.Settings.{Settings}
+use Rattle.relay_stores.specs.Stores.{degree, squaredDegrees, storesEach, mostIterations, maxStores, storesFault}
 use Rattle.relay_calls.specs.declared.Decoded.{Decoded}
-use Rattle.relay_calls.specs.Decode.{Shot, Run, Ended, decoded, refused, correctionOf}
-use Rattle.relay_calls.specs.Calls.{DecodeLists, DecodeOutcome, decodeOutcome, answered, leftBy, zeroed, afterLegs}
-use Rattle.relay_calls.specs.Formula.{storesIn, takenLeaves}
+use Rattle.relay_calls.specs.declared.Decoded.the-variants as Decoded
+use Rattle.relay_calls.specs.Decode.{Shot, Run, Ended, decoded, refused, decodeLegs, correctionOf}
+use Rattle.relay_calls.specs.Calls.{DecodeLists, DecodeOutcome, decodeOutcome, answered, leftBy, zeroed, afterLegs, afterDecodeTests}
+use Rattle.relay_calls.specs.Formula.{storesIn, legsLeave, takenLeaves}
 use Rattle.relay_record.specs.Kept.{shotOf, Reads, answerOf, isRefused, Results, results, resultsOf, started}
 
 -- a run that has ended is not refused
@@ -104,6 +114,39 @@ module _ (x : Shot) (edges : ℕ) (l : DecodeLists) (ss is : List ℕ) (ws : Lis
       let a5 : cor ≡ replicate m 0 = ap (λ (z : Results). z .correction) h in
       let a6 : p ≡ replicate m zero⁺ = ap (λ (z : Results). z .posterior) h in
       rw (q, t .0, t .1, t .2, t .3, w .0, w .1, w .2, w .3, a1, a2, a3, a4, a5, a6)
+
+-- ---- 29
+
+-- what an iteration writes, as it is reckoned from the lists alone
+pub each-is : (checks mechanisms : ℕ) (cv co vm vo : List ℕ) (schedule : Schedule) (each : ℕ) → each ≡ storesEach schedule (walked 0 mechanisms cv [] vm vo)
+    → each ≡ storesEach schedule (walked checks mechanisms cv co vm vo)
+unfolding squaredDegrees degree
+each-is checks mechanisms cv co vm vo Flooding each e = e
+each-is checks mechanisms cv co vm vo CheckSerial each e = e
+
+module _ (x : Shot) (edges : ℕ) (l : DecodeLists) (each : ℕ) (fit : Bool) (is : each ≡ storesEach (x .settings .schedule) (x .graph))
+    (e : fit ≡ leb (mostIterations (x .settings) * each) maxStores) where
+  -- what the test said, of the formula
+  said : fit ≡ leb (mostIterations (x .settings) * storesEach (x .settings .schedule) (x .graph)) maxStores
+  said = e ∙ ap (λ n. leb (mostIterations (x .settings) * n) maxStores) is
+
+  -- refused
+  pub taken-refused : not fit ≡ true → decodeOutcome (Decoded.Refused TooManyStores) l ≡ takenLeaves edges x l
+  unfolding storesFault unless
+  taken-refused h = let b = sym said ∙ not-true fit h in ap (λ f. afterDecodeTests (cond f Done (Refused TooManyStores)) (legsLeave edges x l) l) (sym b)
+
+  -- or what the legs leave
+  pub taken-ran : (o : DecodeOutcome) → not fit ≡ false → o ≡ afterLegs edges x (decodeLegs byPlace x) (storesIn each (decodeLegs byPlace x)) l → o ≡ takenLeaves edges x l
+  unfolding storesFault unless
+  taken-ran o h q =
+      let b = sym said ∙ not-false fit h in
+      q
+      ∙ ap (λ n. afterLegs edges x (decodeLegs byPlace x) (storesIn n (decodeLegs byPlace x)) l) is
+      ∙ ap (λ f. afterDecodeTests (cond f Done (Refused TooManyStores)) (legsLeave edges x l) l) (sym b)
+
+  -- whose stores then fit
+  pub taken-fits : not fit ≡ false → mostIterations (x .settings) * each ≤ maxStores
+  taken-fits h = leb-true _ _ (sym e ∙ not-false fit h)
 
 -- ---- an order that was counted up
 

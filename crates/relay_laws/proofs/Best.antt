@@ -20,7 +20,9 @@ use Rattle.relay_calls.specs.Records.{valuesOf, recordOfLeg}
 use Rattle.relay_calls.specs.Decode.{Shot, Run, correctionOf}
 use Rattle.relay_calls.specs.Calls.{DecodeLists, Summary, summary, summaryOf, answered, leftBy}
 use Rattle.relay_calls.proofs.LegEntries.{Entry, many, bitsOf, weightOf, recordFor}
-use Rattle.relay_calls.proofs.BestSoFar.{rowIn, row-room, row-long, sumTo, sum-same, BestAt, BestOf, Holds}
+use Rattle.relay_orders.proofs.Counts.{sumBelow}
+use Rattle.relay_stores.proofs.Sums.{sum-same}
+use Rattle.relay_calls.proofs.BestSoFar.{rowIn, row-room, row-long, BestAt, BestOf, Holds}
 use Rattle.relay_laws.specs.BestOfLegs.{Filed, filed, AreBits, Satisfies, Fails, legOf, iterationsOf, rowOf, ConvergedAt, Blank, RowHolds, BestOfLegs}
 use Rattle.relay_laws.proofs.LegLists.{entry-over, answered-legs}
 use Rattle.relay_laws.proofs.Parity.{all-match, not-all}
@@ -135,12 +137,12 @@ module _ (x : Shot) (is : isGraph (x .graph) ≡ true) (l : DecodeLists) (run : 
     iterations-said k h = ap iterationsOf (leg-said k h) ∙ iterations-of (legs k .converged) (weightOf x (legs k)) (legs k .iterations)
 
     -- 4
-    total-said : said .totalIterations ≡ run .totalIterations → said .totalIterations ≡ sumTo (said .executedLegs) (λ k. iterationsOf (legOf f k))
+    total-said : said .totalIterations ≡ run .totalIterations → said .totalIterations ≡ sumBelow (said .executedLegs) (λ k. iterationsOf (legOf f k))
     total-said e =
         e
         ∙ p .total
         ∙ sum-same n (λ k. legs k .iterations) (λ k. iterationsOf (legOf f k)) (λ k h. sym (iterations-said k h))
-        ∙ ap (λ (k : ℕ). sumTo k (λ k. iterationsOf (legOf f k))) (sym counted)
+        ∙ ap (λ (k : ℕ). sumBelow k (λ k. iterationsOf (legOf f k))) (sym counted)
 
     each-ran : (k : ℕ) → k < said .executedLegs → 1 ≤ iterationsOf (legOf f k)
     each-ran k h = let i : k < n = omega (arith, counted) in omega (arith, iterations-said k i, p .ran k i .once)

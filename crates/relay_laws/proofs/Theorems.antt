@@ -30,7 +30,7 @@ use Rattle.relay_calls.specs.Calls.{DecodeLists, DecodeOutcome, decodeOutcome, 
 use Rattle.relay_laws.specs.Legs.{legAt, recordAt}
 use Rattle.relay_laws.specs.Orders.{OrderGood, refusedWith, OthersPass}
 use Rattle.relay_calls.proofs.LegEntries.{Held}
-use Rattle.relay_calls.proofs.BestSoFar.{sumTo}
+use Rattle.relay_orders.proofs.Counts.{sumBelow}
 use Rattle.relay_laws.specs.BestOfLegs.{Filed, filed, legOf, iterationsOf, ConvergedAt, Least, BestOfLegs}
 use Rattle.relay_laws.proofs.OrderOfCall.{order-taken, exchange-placed}
 use Rattle.relay_laws.proofs.LegLists.{values-read, entry-over, held-all, decode-finished, run-behind, answered-legs}
@@ -128,7 +128,7 @@ decode-best-of-legs edges x l a left e h = best-of-legs edges (withOrder x (upto
 pub legs-at-most-total : (f : Filed) → BestOfLegs f → f .said .executedLegs ≤ f .said .totalIterations
 legs-at-most-total f b = omega (arith, b .total, counts (f .said .executedLegs) (λ r. iterationsOf (legOf f r)) (b .ran))
   where
-    counts : (n : ℕ) (i : ℕ → ℕ) → ((k : ℕ) → k < n → 1 ≤ i k) → n ≤ sumTo n i
+    counts : (n : ℕ) (i : ℕ → ℕ) → ((k : ℕ) → k < n → 1 ≤ i k) → n ≤ sumBelow n i
     counts zero i h = omega arith
     counts (suc n) i h = omega (arith, counts n i (λ k l. h k (omega arith)), h n (omega arith))
 

@@ -23,6 +23,7 @@ use Rattle.relay_calls.specs.Decode.{Shot, iterationLimit, stepOf, executedLeg}
 use Rattle.relay_record.specs.Kept.{shotOf, Reads, Kept, kept, bestAfter, corrected, keptWith, rowAfter, keptAfter, Blank}
 use Rattle.relay_step.proofs.Parts.{Stands, out, within, stands}
 use Rattle.relay_calls.proofs.BestSoFar.{row-room, limit-some}
+use Rattle.relay_calls.proofs.LegStores.{leg-few}
 use Rattle.relay_record.proofs.Tallies.{Entered}
 
 -- ---- the limit
@@ -63,12 +64,6 @@ module _ (t : Settings) (flat : List Float) (syndrome : List ℕ) (prior : List 
   row-small r h =
       let small : r * length prior ≤ 65535 * 65536 = mul-le-mul {n₂ = 65535} {m₂ = 65536} (omega (arith, reads .legs-few)) (reads .mechanisms-few) in
       omega (arith, small, reads .mechanisms-few)
-
--- a leg takes no more iterations than its limit
-pub leg-few : (step : State → State) (test : List Float → Bool) (n : ℕ) (ok : Bool) (k : ℕ) (s : State) → runLeg step test n ok k s .iterations ≤ n + k
-leg-few step test zero ok k s = omega arith
-leg-few step test (suc n) true k s = omega arith
-leg-few step test (suc n) false k s = omega (arith, leg-few step test n (test (step s .posterior)) (suc k) (step s))
 
 -- ---- the leg as executed
 

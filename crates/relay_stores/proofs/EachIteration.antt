@@ -1,21 +1,21 @@
 -- One iteration writes as many messages as the formula says, in any order that names each check once, and it keeps how many there are. Assumes nothing.
 use Prim.Native.Nat.{ℕ, zero, suc, _+_, _*_, _<_}
 use mathlib.Core.Path.{_≡_, refl, sym, ap, _∙_}
-use mathlib.Core.Bool.{Bool}
 use mathlib.Core.List.{List, [], _∷_, foldl}
 use native.Mathlib.Omega.{arith}
 use lib.Ieee.{Float, nan}
-use lib.ListN.{length, getD, set, length-set}
+use lib.ListN.{length, getD}
 use Rattle.numbers.specs.Floats.{_-ᶠ_}
 use Rattle.numbers.specs.Loops.{turns}
-use Rattle.numbers.proofs.Loops.{length-table, length-part}
+use Rattle.numbers.proofs.Loops.{length-part}
 use Rattle.graph_lists.specs.Graph.{Graph, checkEntries, varEntries}
 use Rattle.graph_lists.specs.Messages.{Access, byPlace}
 use Rattle.graph_lists.proofs.Cuts.{row-end}
 use Rattle.graph_lists.proofs.Sound.{Sound}
 use Rattle.relay_settings.specs.declared.Schedule.{Schedule}
 use Rattle.relay_settings.specs.declared.Schedule.the-variants.{Flooding, CheckSerial}
-use Rattle.relay_step.specs.Step.{sentTo, checkMessages, written, computeBias}
+use Rattle.relay_step.specs.Step.{computeBias}
+use Rattle.relay_step.proofs.Lengths.{length-sent, written-length}
 use Rattle.relay_orders.specs.Order.{count, NamesOnce}
 use Rattle.relay_orders.proofs.All.{All, nil, cons, all-map, all-always, all-places}
 use Rattle.relay_orders.proofs.Counts.{sumBelow, sumOver, sum-over, over-one, names-below}
@@ -69,18 +69,7 @@ turns-stores f w h (suc n) s = omega (arith, turns-stores f w h n s, h (turns n 
 
 -- ---- one step
 
--- a check sends as many messages as it has
-length-sent : (alpha : Float) (odd : Bool) (vs : List ℕ) (xs : List Float) → length (checkMessages alpha odd vs xs) ≡ length xs
-unfolding checkMessages sentTo
-length-sent alpha odd vs xs = length-table (length xs) _
-
--- writing keeps the length
-written-length : (p : Float) (cToV l : List Float) (ms : List ℕ) → length (written p cToV l ms) ≡ length l
-unfolding written
-written-length p cToV l [] = refl
-written-length p cToV l (m ∷ ms) = written-length p cToV (set l m (p -ᶠ getD cToV m nan)) ms ∙ length-set l m (p -ᶠ getD cToV m nan)
-
--- and each entry is one store
+-- each entry that a variable writes is one store
 written-stores : (p : Float) (cToV : List Float) (ms : List ℕ) (s : Stored) → countedWritten p cToV s ms .stores ≡ s .stores + length ms
 unfolding countedWritten store
 written-stores p cToV [] s = omega arith

@@ -2,7 +2,7 @@
 use Prim.Native.Nat.{_≤_, _+_, _-_, _*_}
 use mathlib.Core.Path.{_≡_, refl}
 use native.Mathlib.Omega.{arith}
-use lib.ListN.{length, getD}
+use lib.ListN.{getD}
 use Rattle.graph_messages.specs.Needs.{ofVariables}
 use Rattle.relay_stores.proofs.Squares.{squaresTo, start-first, end-within, squares-turn, squares-within, squared-few, squares-done}
 use Rattle.relay_stores.proofs.squared_degrees.Statement.{statement}

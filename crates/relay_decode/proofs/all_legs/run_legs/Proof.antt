@@ -8,7 +8,7 @@ use native.Mathlib.Omega.{arith}
 use lib.ListN.{length}
 use Rattle.relay_record.specs.Kept.{shotOf, bestOf, kept, Results, Blank}
 use borrow.Author.Needs.{needs}
-use Rattle.relay_decode.proofs.Runs.{Reached, reached-start, run-on, run-ended, run-over, blank-start, blank-along}
+use Rattle.relay_decode.proofs.Runs.{Reached, reached-start, run-on, run-fits, all-fit, run-ended, run-over, blank-start, blank-along}
 use Rattle.relay_decode.proofs.all_legs.run_legs.Statement.{statement}
 use Rattle.relay_decode.proofs.all_legs.run_legs.Tie as tie
 
@@ -103,7 +103,11 @@ ends-requires : tie.Need-ends-requires Inv-loop μ-loop
 ends-requires c κs = search needs
 
 answer-requires : tie.Need-answer-requires Inv-loop μ-loop
-answer-requires c κs = search needs
+answer-requires c κs =
+    let s = c .before .before .before .before .before .before .before .before .before .before .before .before .before .before .before .before .before .before .before .before .before .before .before .before .before .before .before .before .before .before .before .before .before .before .before .before .before .before .before .before .before .before .before .before .before .before .before .before .before .before .before .before .before .before .before in
+    let a = s .args in
+    let l = c .before .before .before .before .before .before .before .before .before .before .before .before .before .before .before .before .before .before .before .before .before .before .before .before .before .before .before .before .before .before .before .before .before .before .before .before .loop in
+    run-fits (shotOf (a .t) (a .gammas .now) (a .seed) (a .syndrome .now) (a .priors .now) (a .check-var .now) (a .check-offset .now) (a .var-message .now) (a .var-offset .now) (a .order .now)) _ _ _ _ _ _ _ _ _ (l .leg) (kept (bestOf (l .tally .found) (l .tally .weight)) (l .tally .«num_converged») (l .tally .«total_iterations») (l .leg) (l .leg-state) (l .leg-iterations) (l .leg-weight) (l .rows) (l .correction) (l .posterior)) (l .inv .11) (omega (arith, c .before .before .before .before .before .before .before .before .before .before .before .before .before .before .before .before .before .before .before .before .before .before .before .before .before .before .before .before .before .before .before .before .before .before .before .loop-test .taken)) (c .before .before .before .before .before .before .before .before .before .before .before .before .before .before .before .before .before .before .before .before .before .before .before .before .next-leg .ensures .0) (a .each) (s .pre .1 .1 .1 .1 .0)
 
 same-length : tie.Need-same-length Inv-loop μ-loop
 same-length c = c .before .before .before .before .before .before .before .before .before .before .before .before .before .before .before .before .before
@@ -236,7 +240,11 @@ loop-again c =
     )
 
 answer-run-requires : tie.Need-answer-run-requires Inv-loop μ-loop
-answer-run-requires c κs = search needs
+answer-run-requires c κs =
+    let s = c .before .before .before .before .before .before .before .before .before .before .before .before .before .before .before .before .before .before .before .before in
+    let a = s .args in
+    let l = c .before .loop in
+    all-fit (shotOf (a .t) (a .gammas .now) (a .seed) (a .syndrome .now) (a .priors .now) (a .check-var .now) (a .check-offset .now) (a .var-message .now) (a .var-offset .now) (a .order .now)) _ _ _ _ _ _ _ _ _ (l .leg) (l .inv .11) (l .inv .0) (a .each) (s .pre .1 .1 .1 .1 .0)
 
 same-length-11 : tie.Need-same-length-11 Inv-loop μ-loop
 same-length-11 c = c .before .before .loop .inv .1
