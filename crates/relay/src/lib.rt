@@ -151,7 +151,7 @@ pub fn decode_in_order(
         (now («v_to_c» .exit)) in
         ⌜ decodeOutcome r after ≡ decodeInOrder (size .edges) x before ⌝ }
 {
-    let a = relay_decode::decode_tests::decode_fault(
+    let a = relay_decode::decode_tests::taken_fault(
         size,
         priors,
         check_var,
@@ -176,7 +176,7 @@ pub fn decode_in_order(
     );
     match a {
         Answer::Refused(r) => Decoded::Refused(r),
-        Answer::Done => relay_decode::all_legs::decode_fronts(
+        Answer::Done => relay_decode::all_legs::decode_taken(
             settings,
             gammas,
             seed,

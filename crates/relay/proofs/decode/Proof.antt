@@ -56,7 +56,7 @@ decode-counted-requires c κs =
       vToC = a .v-to-c .now;
     }))
     (c .before .before .before .before .before .before .before .before .before .before .enum-told .given .1) in
-    (omega (arith, w .checks-many, w .checks-few), (w .reads, (w .legs-fit, (w .work-fits, w .messages-fit))))
+    (omega (arith, w .checks-many, w .checks-few), (w .reads, (w .legs-fit, (w .work-fits, (w .messages-fit, w .edges-few)))))
 
 same-length : tie.Need-same-length
 same-length c = refl

@@ -6,8 +6,8 @@ use borrow.Author.Needs.{needs}
 use Rattle.relay.proofs.decode_in_order.Statement.{statement}
 use Rattle.relay.proofs.decode_in_order.Tie as tie
 
-decode-fault-requires : tie.Need-decode-fault-requires
-decode-fault-requires c κs = search needs
+taken-fault-requires : tie.Need-taken-fault-requires
+taken-fault-requires c κs = search needs
 
 enum-known-a : tie.Need-enum-known-a
 enum-known-a c = search needs
@@ -15,8 +15,8 @@ enum-known-a c = search needs
 enum-told : tie.Need-enum-told
 enum-told c = search needs
 
-decode-fronts-requires : tie.Need-decode-fronts-requires
-decode-fronts-requires c κs =
+decode-taken-requires : tie.Need-decode-taken-requires
+decode-taken-requires c κs =
     let a = c .before .before .before .before .before .before .before .before .before .before .before .before .before .before .before .before .before
     .before .before .before .before .before .before .before .before .before .before .before .before .before .before .before .before .before .before
     .before .before .before .before .before .before .before .args in
@@ -35,7 +35,7 @@ decode-fronts-requires c κs =
       cToV = a .c-to-v .now;
       vToC = a .v-to-c .now;
     }) _
-    (c .before .before .before .before .before .before .before .before .before .before .before .before .decode-fault .ensures ∙ fault-seed (a .size .edges)
+    (c .before .before .before .before .before .before .before .before .before .before .before .before .taken-fault .ensures ∙ fault-seed (a .size .edges)
     (a .size .checks) (a .size .mechanisms) (a .settings)
     (a .gammas .now) (a .seed) (a .syndrome .now) (a .priors .now)
     (a .check-var .now) (a .check-offset .now) (a .var-check .now) (a .var-message .now) (a .var-offset .now) (a .order .now)
@@ -53,7 +53,7 @@ decode-fronts-requires c κs =
       vToC = a .v-to-c .now;
     }))
     (c .before .before .before .before .before .before .before .before .before .before .enum-told .given .1) in
-    (w .reads, (w .legs-fit, (w .work-fits, w .messages-fit)))
+    (w .reads, (w .legs-fit, (w .work-fits, (w .messages-fit, w .edges-few))))
 
 same-length : tie.Need-same-length
 same-length c = refl
@@ -103,7 +103,7 @@ returns c =
       bias = a .bias .now;
       cToV = a .c-to-v .now;
       vToC = a .v-to-c .now;
-    }) _ _ (c .before .before .before .decode-fault .ensures ∙ fault-seed
+    }) _ _ (c .before .before .before .taken-fault .ensures ∙ fault-seed
     (a .size .edges) (a .size .checks) (a .size .mechanisms) (a .settings)
     (a .gammas .now) (a .seed) (a .syndrome .now) (a .priors .now)
     (a .check-var .now) (a .check-offset .now) (a .var-check .now) (a .var-message .now) (a .var-offset .now) (a .order .now)
@@ -124,43 +124,43 @@ returns c =
 
 same-length-11 : tie.Need-same-length-11
 same-length-11 c = c .before .before .before .before .before .before .before .before .before .before .before .before .before .before .before
-    .before .before .before .before .before .decode-fronts .kept .1 .1 .1 .1 .1 .1 .1 .1 .1 .1 .0
+    .before .before .before .before .before .decode-taken .kept .1 .1 .1 .1 .1 .1 .1 .1 .1 .1 .0
 
 same-length-12 : tie.Need-same-length-12
 same-length-12 c = c .before .before .before .before .before .before .before .before .before .before .before .before .before .before .before
-    .before .before .before .before .before .decode-fronts .kept .1 .1 .1 .1 .1 .1 .1 .1 .1 .1 .1 .0
+    .before .before .before .before .before .decode-taken .kept .1 .1 .1 .1 .1 .1 .1 .1 .1 .1 .1 .0
 
 same-length-13 : tie.Need-same-length-13
 same-length-13 c = c .before .before .before .before .before .before .before .before .before .before .before .before .before .before .before
-    .before .before .before .before .before .decode-fronts .kept .1 .1 .1 .1 .1 .1 .1 .1 .1 .1 .1 .1 .0
+    .before .before .before .before .before .decode-taken .kept .1 .1 .1 .1 .1 .1 .1 .1 .1 .1 .1 .1 .0
 
 same-length-14 : tie.Need-same-length-14
 same-length-14 c = c .before .before .before .before .before .before .before .before .before .before .before .before .before .before .before
-    .before .before .before .before .before .decode-fronts .kept .1 .1 .1 .1 .1 .1 .1 .1 .1 .1 .1 .1 .1 .0
+    .before .before .before .before .before .decode-taken .kept .1 .1 .1 .1 .1 .1 .1 .1 .1 .1 .1 .1 .1 .0
 
 same-length-15 : tie.Need-same-length-15
 same-length-15 c = c .before .before .before .before .before .before .before .before .before .before .before .before .before .before .before
-    .before .before .before .before .before .decode-fronts .kept .1 .1 .1 .1 .1 .1 .1 .1 .1 .1 .1 .1 .1 .1 .0
+    .before .before .before .before .before .decode-taken .kept .1 .1 .1 .1 .1 .1 .1 .1 .1 .1 .1 .1 .1 .1 .0
 
 same-length-16 : tie.Need-same-length-16
 same-length-16 c = c .before .before .before .before .before .before .before .before .before .before .before .before .before .before .before
-    .before .before .before .before .before .decode-fronts .kept .1 .1 .1 .1 .1 .1 .1 .1 .1 .1 .1 .1 .1 .1 .1 .0
+    .before .before .before .before .before .decode-taken .kept .1 .1 .1 .1 .1 .1 .1 .1 .1 .1 .1 .1 .1 .1 .1 .0
 
 same-length-17 : tie.Need-same-length-17
 same-length-17 c = c .before .before .before .before .before .before .before .before .before .before .before .before .before .before .before
-    .before .before .before .before .before .decode-fronts .kept .1 .1 .1 .1 .1 .1 .1 .1 .1 .1 .1 .1 .1 .1 .1 .1 .0
+    .before .before .before .before .before .decode-taken .kept .1 .1 .1 .1 .1 .1 .1 .1 .1 .1 .1 .1 .1 .1 .1 .1 .0
 
 same-length-18 : tie.Need-same-length-18
 same-length-18 c = c .before .before .before .before .before .before .before .before .before .before .before .before .before .before .before
-    .before .before .before .before .before .decode-fronts .kept .1 .1 .1 .1 .1 .1 .1 .1 .1 .1 .1 .1 .1 .1 .1 .1 .1 .0
+    .before .before .before .before .before .decode-taken .kept .1 .1 .1 .1 .1 .1 .1 .1 .1 .1 .1 .1 .1 .1 .1 .1 .1 .0
 
 same-length-19 : tie.Need-same-length-19
 same-length-19 c = c .before .before .before .before .before .before .before .before .before .before .before .before .before .before .before
-    .before .before .before .before .before .decode-fronts .kept .1 .1 .1 .1 .1 .1 .1 .1 .1 .1 .1 .1 .1 .1 .1 .1 .1 .1 .0
+    .before .before .before .before .before .decode-taken .kept .1 .1 .1 .1 .1 .1 .1 .1 .1 .1 .1 .1 .1 .1 .1 .1 .1 .1 .0
 
 same-length-20 : tie.Need-same-length-20
 same-length-20 c = c .before .before .before .before .before .before .before .before .before .before .before .before .before .before .before
-    .before .before .before .before .before .decode-fronts .kept .1 .1 .1 .1 .1 .1 .1 .1 .1 .1 .1 .1 .1 .1 .1 .1 .1 .1 .1 .0
+    .before .before .before .before .before .decode-taken .kept .1 .1 .1 .1 .1 .1 .1 .1 .1 .1 .1 .1 .1 .1 .1 .1 .1 .1 .1 .0
 
 returns-2 : tie.Need-returns-2
 returns-2 c =
@@ -185,7 +185,7 @@ returns-2 c =
       vToC = a .v-to-c .now;
     }) _ _ (c .before .before .before .before .before .before .before .before .before .before .before .before .before .before .before
     .before .before .before .before .before .before .before .before .before .before .before .before .before .before .before .before .before .before
-    .decode-fault .ensures ∙ fault-seed (a .size .edges) (a .size .checks) (a .size .mechanisms) (a .settings) (a .gammas .now) (a .seed) (a .syndrome .now)
+    .taken-fault .ensures ∙ fault-seed (a .size .edges) (a .size .checks) (a .size .mechanisms) (a .settings) (a .gammas .now) (a .seed) (a .syndrome .now)
     (a .priors .now) (a .check-var .now)
     (a .check-offset .now) (a .var-check .now) (a .var-message .now)
     (a .var-offset .now) (a .order .now) (record {
@@ -202,16 +202,16 @@ returns-2 c =
     })) (c .before .before .before .before .before .before .before .before .before .before .before .before .before .before .before
     .before .before .before .before .before .before .before .before .before .before .before .before .before .before .before .before .enum-told .given .1)
     (c .before .before .before .before .before .before .before .before .before .before .before .before .before .before .before .before .before .before
-    .before .before .decode-fronts .ensures)
+    .before .before .decode-taken .ensures)
 
 pub decode-in-order-spec : {M : Type 1} → statement M
 decode-in-order-spec =
     tie.close
     (tie.spec
-    decode-fault-requires
+    taken-fault-requires
     enum-known-a
     enum-told
-    decode-fronts-requires
+    decode-taken-requires
     same-length
     same-length-2
     same-length-3
