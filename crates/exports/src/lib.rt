@@ -392,7 +392,7 @@ pub extern "C" fn chowderkite_decode(
     bias: &mut [f64],
     c_to_v: &mut [f64],
     v_to_c: &mut [f64],
-    counts: &mut [u64; 3],
+    counts: &mut [u64; 4],
     weight: &mut [f64; 1],
 ) -> u64
     ensures { λ r. ⌜ (
@@ -494,7 +494,7 @@ pub extern "C" fn chowderkite_decode_in_order(
     bias: &mut [f64],
     c_to_v: &mut [f64],
     v_to_c: &mut [f64],
-    counts: &mut [u64; 3],
+    counts: &mut [u64; 4],
     weight: &mut [f64; 1],
 ) -> u64
     ensures { λ r. ⌜ (

@@ -85,7 +85,7 @@ pub fn decode_in_order(
     bias: &mut [f64],
     c_to_v: &mut [f64],
     v_to_c: &mut [f64],
-    counts: &mut [u64; 3],
+    counts: &mut [u64; 4],
     weight: &mut [f64; 1],
 ) -> u64
     ensures { λ r. ⌜ (
@@ -191,7 +191,7 @@ pub fn decode(
     bias: &mut [f64],
     c_to_v: &mut [f64],
     v_to_c: &mut [f64],
-    counts: &mut [u64; 3],
+    counts: &mut [u64; 4],
     weight: &mut [f64; 1],
 ) -> u64
     ensures { λ r. ⌜ (

@@ -22,7 +22,7 @@ use Rattle.relay_calls.specs.declared.Decoded.the-variants as Decoded
 
 -- the version of the exported calls: raised whenever a call, a list or a code changes its meaning
 abbrev pub version : ℕ
-version = 2
+version = 3
 
 -- ---- answers
 
@@ -95,18 +95,19 @@ countsIn t = t .«pre_iterations» ∷ (t .«num_legs» ∷ (t .«leg_iterations
 
 -- a decode's answer as a code
 abbrev pub decodedCode : Decoded → ℕ
-decodedCode (Decoded.Converged n t w) = 0
-decodedCode (Decoded.NotConverged n t) = 0
+decodedCode (Decoded.Converged n t m w) = 0
+decodedCode (Decoded.NotConverged n t m) = 0
 decodedCode (Decoded.Refused r) = codeOf (Refused r)
 
--- beside it three counts: converged (1 or 0), executed legs, total iterations. Refusal 30 zeroes them, as it does all results, and any other writes nothing
+-- beside it four counts: converged (1 or 0), executed legs, total iterations, message stores. Refusal 30 zeroes them, as it does all results, and any other
+-- writes nothing
 abbrev pub decodedCounts : Decoded → List ℕ → List ℕ
-decodedCounts (Decoded.Converged n t w) old = 1 ∷ (n ∷ (t ∷ []))
-decodedCounts (Decoded.NotConverged n t) old = 0 ∷ (n ∷ (t ∷ []))
-decodedCounts (Decoded.Refused r) old = cond (eqb (numberOf r) 30) (0 ∷ (0 ∷ (0 ∷ []))) old
+decodedCounts (Decoded.Converged n t m w) old = 1 ∷ (n ∷ (t ∷ (m ∷ [])))
+decodedCounts (Decoded.NotConverged n t m) old = 0 ∷ (n ∷ (t ∷ (m ∷ [])))
+decodedCounts (Decoded.Refused r) old = cond (eqb (numberOf r) 30) (0 ∷ (0 ∷ (0 ∷ (0 ∷ [])))) old
 
 -- and the weight, positive zero where there is none
 abbrev pub decodedWeight : Decoded → List Float → List Float
-decodedWeight (Decoded.Converged n t w) old = w ∷ []
-decodedWeight (Decoded.NotConverged n t) old = zero⁺ ∷ []
+decodedWeight (Decoded.Converged n t m w) old = w ∷ []
+decodedWeight (Decoded.NotConverged n t m) old = zero⁺ ∷ []
 decodedWeight (Decoded.Refused r) old = cond (eqb (numberOf r) 30) (zero⁺ ∷ []) old

@@ -18,13 +18,13 @@ use relay_settings::Schedule;
 use relay_settings::Settings;
 
 // A refusal's code; 30 zeroes the counts and the weight.
-fn tell_refusal(r: Refusal, counts: &mut [u64; 3], weight: &mut [f64; 1]) -> u64
+fn tell_refusal(r: Refusal, counts: &mut [u64; 4], weight: &mut [f64; 1]) -> u64
     ensures code { λ c. ⌜ c ≡ codeOf (Refused r) ⌝ }
-    ensures counts { λ _. ⌜ now (counts .exit) ≡ cond (eqb (numberOf r) 30) (0 ∷ (0 ∷ (0 ∷ []))) (now (counts .entry)) ⌝ }
+    ensures counts { λ _. ⌜ now (counts .exit) ≡ cond (eqb (numberOf r) 30) (0 ∷ (0 ∷ (0 ∷ (0 ∷ [])))) (now (counts .entry)) ⌝ }
     ensures weight { λ _. ⌜ now (weight .exit) ≡ cond (eqb (numberOf r) 30) (zero⁺ ∷ []) (now (weight .entry)) ⌝ }
 {
     if number_of(r) == 30 {
-        *counts = [0, 0, 0];
+        *counts = [0, 0, 0, 0];
         *weight = [0.0];
         return code(Answer::Refused(r));
     }
@@ -32,7 +32,7 @@ fn tell_refusal(r: Refusal, counts: &mut [u64; 3], weight: &mut [f64; 1]) -> u64
 }
 
 // A decode's code, counts and weight.
-pub fn tell(decoded: Decoded, counts: &mut [u64; 3], weight: &mut [f64; 1]) -> u64
+pub fn tell(decoded: Decoded, counts: &mut [u64; 4], weight: &mut [f64; 1]) -> u64
     ensures code { λ c. ⌜ c ≡ decodedCode decoded ⌝ }
     ensures counts { λ _. ⌜ now (counts .exit) ≡ decodedCounts decoded (now (counts .entry)) ⌝ }
     ensures weight { λ _. ⌜ now (weight .exit) ≡ decodedWeight decoded (now (weight .entry)) ⌝ }
@@ -41,17 +41,19 @@ pub fn tell(decoded: Decoded, counts: &mut [u64; 3], weight: &mut [f64; 1]) -> u
         Decoded::Converged {
             executed_legs,
             total_iterations,
+            stores,
             weight: w,
         } => {
-            *counts = [1, executed_legs as u64, total_iterations as u64];
+            *counts = [1, executed_legs as u64, total_iterations as u64, stores];
             *weight = [w];
             0
         }
         Decoded::NotConverged {
             executed_legs,
             total_iterations,
+            stores,
         } => {
-            *counts = [0, executed_legs as u64, total_iterations as u64];
+            *counts = [0, executed_legs as u64, total_iterations as u64, stores];
             *weight = [0.0];
             0
         }
