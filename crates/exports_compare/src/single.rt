@@ -1,10 +1,13 @@
 // Calls over single numbers: a bool passes as 1 or 0, and of a draw its value and the next state by themselves.
 ghost use mathlib.Core.Path.{_≡_};
 ghost use mathlib.Core.Bool.{false};
+ghost use Prim.Native.Nat.{_*_};
+ghost use lib.Dec.{leb};
 ghost use lib.Ieee.{inf};
 ghost use Rattle.numbers.specs.Floats.{abs, isFinite, isNegative, messageSign};
 ghost use Rattle.numbers.specs.Draw.{product, advanced, mixed, unit as unitOf, gamma as gammaOf};
 ghost use Rattle.relay_settings.specs.Settings.{alphaGood};
+ghost use Rattle.relay_stores.specs.Stores.{maxStores};
 ghost use Rattle.exports_values.specs.Codes.{bitOf};
 use exports_values::answers::bit;
 use numbers::SplitMix64;
@@ -98,4 +101,12 @@ pub extern "C" fn chowderkite_alpha_good(alpha: f64) -> u8
     ensures { λ r. ⌜ r ≡ bitOf (alphaGood alpha) ⌝ }
 {
     bit(refusals_tests::finite_positive(alpha))
+}
+
+// Test 29 alone, of so many iterations that write so many messages each: 1 if it is passed.
+#[no_mangle]
+pub extern "C" fn chowderkite_stores_fit(iterations: u64, each: u64) -> u8
+    ensures { λ r. ⌜ r ≡ bitOf (leb (iterations * each) maxStores) ⌝ }
+{
+    bit(relay_stores::product_fits(iterations, each))
 }

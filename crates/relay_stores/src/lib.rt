@@ -1,4 +1,5 @@
-// Inner: how many messages the iterations of a decode write, by the formula, and test 29: `relay_record` and `relay_decode` alone call it.
+// Inner: how many messages the iterations of a decode write, by the formula, and test 29: `relay_decode` alone calls it, and
+// the comparison.
 ghost use mathlib.Core.Path.{_≡_};
 ghost use mathlib.Core.List.{[]};
 ghost use Prim.Native.Nat.{_*_, _≤_};
@@ -59,8 +60,8 @@ fn most_iterations(t: Settings) -> u64
     (t.pre_iterations + t.num_legs * t.leg_iterations) as u64
 }
 
-// Whether a product is at most 2^64 - 1, which it may be above.
-fn product_fits(n: u64, each: u64) -> bool
+// Test 29 of so many iterations: whether the product is at most 2^64 - 1, which it may be above.
+pub fn product_fits(n: u64, each: u64) -> bool
     ensures { λ r. ⌜ r ≡ leb (n * each) maxStores ⌝ }
 {
     if each == 0 {
