@@ -15,6 +15,12 @@ unfolding orElse
 or-joined Done b c = refl
 or-joined (Refused r) b c = refl
 
+-- a test that refuses nothing adds nothing
+pub or-none : (a : Answer) → orElse a Done ≡ a
+unfolding orElse
+or-none Done = refl
+or-none (Refused r) = refl
+
 -- the tests of a decode are those before 29, and 29
 pub stores-last : (edges : ℕ) (x : Shot) (l : DecodeLists) → decodeFault edges x l ≡ orElse (takenFault edges x l) (storesFault (x .settings) (x .graph))
 unfolding decodeFault takenFault

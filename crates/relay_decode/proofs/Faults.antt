@@ -33,7 +33,7 @@ use Rattle.numbers.specs.Limits.{maxEdges}
 use Rattle.numbers.specs.Loops.{upto}
 use Rattle.relay_orders.specs.Order.{namesOnce, namesFault, exchangeFault}
 use Rattle.relay_calls.proofs.Named.{names-entries, index-passes}
-use Rattle.relay_calls.proofs.LastTests.{or-joined, stores-last}
+use Rattle.relay_calls.proofs.LastTests.{or-joined, or-none, stores-last}
 use Rattle.relay_calls.proofs.LegStores.{taken-leaves}
 use Rattle.relay_calls.specs.Decode.{Shot}
 use Rattle.relay_calls.specs.Calls.{syndromeFault, DecodeLists, DecodeOutcome, decodeOutcome, decodeListsFit, decodeInOrder, decode}
@@ -58,12 +58,6 @@ cells-small n m h k =
     omega (arith, small)
 
 -- ---- one test after another
-
--- a test that refuses nothing adds nothing
-or-none : (a : Answer) → orElse a Done ≡ a
-unfolding orElse
-or-none Done = refl
-or-none (Refused r) = refl
 
 module _ (edges : ℕ) (x : Shot) (l : DecodeLists) where
   -- the tests before 29 are those of both calls, then 23 and 24

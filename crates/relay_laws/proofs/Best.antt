@@ -187,11 +187,11 @@ module _ (x : Shot) (is : isGraph (x .graph) ≡ true) (l : DecodeLists) (run : 
 
   -- ---- the answer
 
-  module _ (total : ℕ) (all : total ≡ run .totalIterations) where
+  module _ (total stores : ℕ) (all : total ≡ run .totalIterations) where
     -- a leg converged: the best of them
-    best-some : (w : Float) (correction : List ℕ) → BestAt x legs n w correction → BestOfLegs (f (summary Done true n total (some w)) correction refl)
+    best-some : (w : Float) (correction : List ℕ) → BestAt x legs n w correction → BestOfLegs (f (summary Done true n total stores (some w)) correction refl)
     best-some w correction b =
-        let s = summary Done true n total (some w) in
+        let s = summary Done true n total stores (some w) in
         let at : ConvergedAt (f s correction refl) (b .leg) w = rw (b .weighs) at (converged-at s correction refl (b .leg) (b .within) (b .converged)) in
         let row : rowOf (f s correction refl) (b .leg) ≡ correction = row-said s correction refl (b .leg) true (b .within) (b .converged) ∙ b .bits in
         let holds = row-holds s correction refl (b .leg) w at in
@@ -223,9 +223,9 @@ module _ (x : Shot) (is : isGraph (x .graph) ≡ true) (l : DecodeLists) (run : 
         }
 
     -- none did: the hard decision of the last
-    best-none : ((k : ℕ) → k < n → legs k .converged ≡ false) → BestOfLegs (f (summary Done false n total none) (run .hardBits) refl)
+    best-none : ((k : ℕ) → k < n → legs k .converged ≡ false) → BestOfLegs (f (summary Done false n total stores none) (run .hardBits) refl)
     best-none out =
-        let s = summary Done false n total none in
+        let s = summary Done false n total stores none in
         let k = n - 1 in
         let i : k < n = omega arith in
         let is-last : run .hardBits ≡ bitsOf x (legs k) = p .last k (omega arith) in
@@ -250,12 +250,12 @@ module _ (x : Shot) (is : isGraph (x .graph) ≡ true) (l : DecodeLists) (run : 
         }
 
 -- however a run ended: over its lists, and those that were lent
-pub best-of-run : (edges : ℕ) (x : Shot) (l : DecodeLists) (run : Run) (legs : ℕ → Leg) → isGraph (x .graph) ≡ true → 1 ≤ run .executedLegs → run .executedLegs ≤ many x
-    → Holds x legs (run .executedLegs) run → BestOfLegs (filed x (answered run (run .bestWeight)) (leftBy edges x run l))
+pub best-of-run : (edges : ℕ) (x : Shot) (l : DecodeLists) (run : Run) (legs : ℕ → Leg) (stores : ℕ) → isGraph (x .graph) ≡ true → 1 ≤ run .executedLegs → run .executedLegs ≤ many x
+    → Holds x legs (run .executedLegs) run → BestOfLegs (filed x (answered run stores (run .bestWeight)) (leftBy edges x run l))
 unfolding leftBy
-best-of-run edges x l run legs is first within p = go (run .bestWeight) (p .best)
+best-of-run edges x l run legs stores is first within p = go (run .bestWeight) (p .best)
   where
     go : (best : Option Float) → BestOf x legs (run .executedLegs) best (run .bestCorrection)
-        → BestOfLegs (f x is l run legs (run .executedLegs) first within p (summaryOf (answered run best)) (correctionOf run best) (answered-legs run best))
-    go none out = best-none x is l run legs (run .executedLegs) first within p (run .totalIterations) refl out
-    go (some w) b = best-some x is l run legs (run .executedLegs) first within p (run .totalIterations) refl w (run .bestCorrection) b
+        → BestOfLegs (f x is l run legs (run .executedLegs) first within p (summaryOf (answered run stores best)) (correctionOf run best) (answered-legs run stores best))
+    go none out = best-none x is l run legs (run .executedLegs) first within p (run .totalIterations) stores refl out
+    go (some w) b = best-some x is l run legs (run .executedLegs) first within p (run .totalIterations) stores refl w (run .bestCorrection) b

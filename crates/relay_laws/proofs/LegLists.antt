@@ -16,7 +16,7 @@ use Rattle.graph_lists.specs.Messages.{byPlace, posteriorFault}
 use Rattle.relay_calls.specs.declared.LegRecord.{LegRecord}
 use Rattle.relay_calls.specs.declared.LegRecord.the-variants as LegRecord
 use Rattle.relay_calls.specs.Records.{valuesOf, recordOf, legRecord}
-use Rattle.relay_calls.specs.Decode.{Shot, Run, Ended, decoded, refused, running, finished, startRun, recorded, legJudged, afterLeg, legsFrom, decodeLegs}
+use Rattle.relay_calls.specs.Decode.{Shot, Run, Ended, decoded, refused, running, finished, startRun, recorded, legJudged, afterLeg, legsFrom, decodeLegs, decodeStores}
 use Rattle.relay_calls.specs.Calls.{DecodeLists, decodeOutcome, decodeFault, answered, leftBy, afterLegs, afterDecodeTests, decodeInOrder, summaryOf}
 use Rattle.relay_calls.proofs.LegEntries.{Entry, many, Held, held-none, held-more}
 use Rattle.relay_laws.specs.Legs.{runAfter, legAt}
@@ -114,17 +114,17 @@ module _ (edges : ℕ) (x : Shot) (l : DecodeLists) where
     pub run : Run
     pub passed : decodeFault edges x l ≡ Done
     pub ended : decodeLegs byPlace x ≡ decoded run
-    pub outcome : decodeInOrder edges x l ≡ decodeOutcome (answered run (run .bestWeight)) (leftBy edges x run l)
+    pub outcome : decodeInOrder edges x l ≡ decodeOutcome (answered run (decodeStores byPlace x) (run .bestWeight)) (leftBy edges x run l)
 
   -- however the legs end
-  ended-behind : (e : Ended) → decodeFault edges x l ≡ Done → decodeLegs byPlace x ≡ e → decodeInOrder edges x l ≡ afterLegs edges x e l
-      → summaryOf (afterLegs edges x e l .answer) .refusal ≡ Done → RunBehind
+  ended-behind : (e : Ended) → decodeFault edges x l ≡ Done → decodeLegs byPlace x ≡ e → decodeInOrder edges x l ≡ afterLegs edges x e (decodeStores byPlace x) l
+      → summaryOf (afterLegs edges x e (decodeStores byPlace x) l .answer) .refusal ≡ Done → RunBehind
   ended-behind (decoded run) t q o h = record { run = run; passed = t; ended = q; outcome = o }
   ended-behind (refused r) t q o h = absurd (let z : _≡_ {A = ℕ} 0 1 = cc in omega arith)
 
   -- whatever the tests say
-  tests-behind : (a : Answer) → decodeFault edges x l ≡ a → decodeInOrder edges x l ≡ afterDecodeTests a (afterLegs edges x (decodeLegs byPlace x) l) l
-      → summaryOf (afterDecodeTests a (afterLegs edges x (decodeLegs byPlace x) l) l .answer) .refusal ≡ Done → RunBehind
+  tests-behind : (a : Answer) → decodeFault edges x l ≡ a → decodeInOrder edges x l ≡ afterDecodeTests a (afterLegs edges x (decodeLegs byPlace x) (decodeStores byPlace x) l) l
+      → summaryOf (afterDecodeTests a (afterLegs edges x (decodeLegs byPlace x) (decodeStores byPlace x) l) l .answer) .refusal ≡ Done → RunBehind
   tests-behind Done t o h = ended-behind (decodeLegs byPlace x) t refl o h
   tests-behind (Refused r) t o h = absurd (let z : _≡_ {A = ℕ} 0 1 = cc in omega arith)
 
@@ -133,6 +133,11 @@ module _ (edges : ℕ) (x : Shot) (l : DecodeLists) where
   run-behind h = tests-behind (decodeFault edges x l) refl refl h
 
 -- how many legs a run answers
-pub answered-legs : (run : Run) (w : Option Float) → summaryOf (answered run w) .executedLegs ≡ run .executedLegs
-answered-legs run none = refl
-answered-legs run (some weight) = refl
+pub answered-legs : (run : Run) (stores : ℕ) (w : Option Float) → summaryOf (answered run stores w) .executedLegs ≡ run .executedLegs
+answered-legs run stores none = refl
+answered-legs run stores (some weight) = refl
+
+-- how many iterations, and that it says the stores that it is handed
+pub answered-total : (run : Run) (stores : ℕ) (w : Option Float) → (summaryOf (answered run stores w) .totalIterations ≡ run .totalIterations) × (summaryOf (answered run stores w) .stores ≡ stores)
+answered-total run stores none = (refl, refl)
+answered-total run stores (some weight) = (refl, refl)

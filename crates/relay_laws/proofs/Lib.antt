@@ -5,4 +5,5 @@ pub mod LegLists
 pub mod Parity
 pub mod Executed
 pub mod Best
+pub mod Written
 pub mod Theorems

@@ -21,9 +21,10 @@ use Rattle.relay_orders.specs.Order.{NamesOnce, KeepsOrder, FirstLate, namesOnc
 use Rattle.relay_orders.proofs.OrderWords.{exchanged-is, none-exchanged-is}
 use Rattle.relay_calls.specs.declared.Decoded.{Decoded}
 use Rattle.relay_calls.specs.declared.Decoded.the-variants as Decoded
-use Rattle.relay_calls.specs.Decode.{Shot, Run, Ended, decoded, refused, decodeLegs}
+use Rattle.relay_calls.specs.Decode.{Shot, Run, Ended, decoded, refused, decodeLegs, decodeStores}
 use Rattle.relay_calls.specs.Calls.{DecodeLists, decodeListsFit, decodeFault, answered, afterLegs, afterDecodeTests, decodeInOrder}
 use Rattle.relay_calls.proofs.Named.{names-told, names-taken}
+use Rattle.relay_calls.proofs.LastTests.{or-none}
 use Rattle.relay_laws.specs.Orders.{OrderGood, refusedWith, OthersPass}
 use Rattle.relay_laws.proofs.Only.{Ends, with-30, decode-ends}
 
@@ -65,9 +66,9 @@ exchange-is CheckSerial g order = exchange-or (checkEntries g) [] order
 -- ---- of the call
 
 -- an answer of a run refuses nothing
-answered-0 : (run : Run) (w : Option Float) → refusedWith (answered run w) ≡ 0
-answered-0 run none = refl
-answered-0 run (some weight) = refl
+answered-0 : (run : Run) (stores : ℕ) (w : Option Float) → refusedWith (answered run stores w) ≡ 0
+answered-0 run stores none = refl
+answered-0 run stores (some weight) = refl
 
 module _ (edges : ℕ) (x : Shot) (l : DecodeLists) (others : OthersPass edges x l) where
   -- 23
@@ -90,28 +91,34 @@ module _ (edges : ℕ) (x : Shot) (l : DecodeLists) (others : OthersPass edges x
       let q = or-done _ _ (p .1) in
       let r = or-done _ _ (q .1) in
       let s = or-done _ _ (r .1) in
-      or-second _ _ (p .0) ∙ or-second _ _ (q .0) ∙ or-second _ _ (r .0) ∙ or-second _ _ (s .0)
+      let stores = or-done _ _ (or-done _ _ (s .1) .1) .1 in
+      or-second _ _ (p .0)
+      ∙ or-second _ _ (q .0)
+      ∙ or-second _ _ (r .0)
+      ∙ or-second _ _ (s .0)
+      ∙ ap (λ (a : Answer). orElse names (orElse exchange a)) stores
+      ∙ ap (orElse names) (or-none exchange)
 
   -- a refusal of theirs is the answer
   answer-refused : (r : Refusal) → orElse names exchange ≡ Refused r → given ≡ Decoded.Refused r
   unfolding decodeInOrder
-  answer-refused r e = ap (λ (a : Answer). afterDecodeTests a (afterLegs edges x (decodeLegs byPlace x) l) l .answer) (tests-are ∙ e)
+  answer-refused r e = ap (λ (a : Answer). afterDecodeTests a (afterLegs edges x (decodeLegs byPlace x) (decodeStores byPlace x) l) l .answer) (tests-are ∙ e)
 
   -- past them the legs answer
-  answer-passed : orElse names exchange ≡ Done → given ≡ afterLegs edges x (decodeLegs byPlace x) l .answer
+  answer-passed : orElse names exchange ≡ Done → given ≡ afterLegs edges x (decodeLegs byPlace x) (decodeStores byPlace x) l .answer
   unfolding decodeInOrder
-  answer-passed e = ap (λ (a : Answer). afterDecodeTests a (afterLegs edges x (decodeLegs byPlace x) l) l .answer) (tests-are ∙ e)
+  answer-passed e = ap (λ (a : Answer). afterDecodeTests a (afterLegs edges x (decodeLegs byPlace x) (decodeStores byPlace x) l) l .answer) (tests-are ∙ e)
 
   -- which is no refusal, or 30
-  legs-answer : (e : Ended) → Ends e → (refusedWith (afterLegs edges x e l .answer) ≡ 0) ⊎ (refusedWith (afterLegs edges x e l .answer) ≡ 30)
-  legs-answer (decoded run) w = inl (answered-0 run (run .bestWeight))
-  legs-answer (refused r) (with-30 _ h) = inr h
+  legs-answer : (e : Ended) (stores : ℕ) → Ends e → (refusedWith (afterLegs edges x e stores l .answer) ≡ 0) ⊎ (refusedWith (afterLegs edges x e stores l .answer) ≡ 30)
+  legs-answer (decoded run) stores w = inl (answered-0 run stores (run .bestWeight))
+  legs-answer (refused r) stores (with-30 _ h) = inr h
 
   -- so that it is none of another number
   passed-other : (k : ℕ) → orElse names exchange ≡ Done → refusedWith given ≡ k → (k ≡ 0 → ⊥) → (k ≡ 30 → ⊥) → ⊥
   passed-other k e h f g =
       let q = ap refusedWith (answer-passed e) in
-      ⊎-elim (λ z. f (sym h ∙ q ∙ z)) (λ z. g (sym h ∙ q ∙ z)) (legs-answer (decodeLegs byPlace x) (decode-ends x))
+      ⊎-elim (λ z. f (sym h ∙ q ∙ z)) (λ z. g (sym h ∙ q ∙ z)) (legs-answer (decodeLegs byPlace x) (decodeStores byPlace x) (decode-ends x))
 
   -- a schedule's test, by what it asks
   kept : (s : Schedule) → x .settings .schedule ≡ s → KeepsOrder (x .graph) (x .order) ⊎ (s ≡ Flooding) → exchangeFault s (x .graph) (x .order) ≡ Done

@@ -2,7 +2,7 @@
 use mathlib.Core.Path.{_≡_, refl, sym, ap, _∙_}
 use mathlib.Core.Bool.{Bool, true, false}
 use mathlib.Core.List.{List, []}
-use Prim.Native.Nat.{ℕ, suc, _+_, _-_, _*_, _/_, _<_, _≤_}
+use Prim.Native.Nat.{ℕ, zero, suc, _+_, _-_, _*_, _/_, _<_, _≤_}
 use native.Mathlib.Nat.{mul-le-mul, mul-zero, le-div-iff-mul-le}
 use native.Mathlib.Numerals.{add-one}
 use native.Mathlib.Omega.{arith}
@@ -14,7 +14,7 @@ use Rattle.numbers.specs.Loops.{turns}
 use Rattle.numbers.proofs.Turns.{turns-turn}
 use Rattle.graph_lists.specs.Graph.{Graph}
 use Rattle.graph_lists.specs.Sound.{Offsets}
-use Rattle.graph_lists.proofs.Cuts.{row-end}
+use Rattle.graph_lists.proofs.Cuts.{offsets-rise}
 use Rattle.graph_lists.proofs.Passes.{row-length}
 use Rattle.graph_messages.specs.Needs.{walked, ofVariables}
 use Rattle.relay_settings.specs.declared.Schedule.{Schedule}
@@ -35,14 +35,22 @@ module _ (mechanisms : ℕ) (vm vo : List ℕ) (o : Offsets mechanisms (length v
   unfolding degree
   degree-is v h = row-length mechanisms (length vm) vo vm o refl v h
 
+  -- the squares so far are within the square of the messages passed
+  squares-within : (v : ℕ) → v ≤ mechanisms → squaresTo (ofVariables mechanisms vm vo) v ≤ getD vo v 0 * getD vo v 0
+  squares-within zero h = omega arith
+  squares-within (suc v) h =
+      within-square _ (getD vo v 0) (degree (ofVariables mechanisms vm vo) v) (getD vo (suc v) 0) (squares-within v (omega arith)) (omega (arith, degree-is v h, o .rises v h))
+
+  -- and so of the edges that there may be
+  pub squares-few : (n : ℕ) → length vm ≤ n → (v : ℕ) → v ≤ mechanisms → squaresTo (ofVariables mechanisms vm vo) v ≤ n * n
+  squares-few n h v l =
+      let e : getD vo v 0 ≤ n = omega (arith, o .ends, offsets-rise mechanisms (length vm) vo o v mechanisms l (omega arith)) in
+      omega (arith, squares-within v l, mul-le-mul e e)
+
   module _ (v sum start end : ℕ) (h : v < mechanisms) (from : start ≡ getD vo v 0) (to : end ≡ getD vo (v + 1) 0) where
     -- the offsets rise
     pub start-first : start ≤ end
     start-first = rw (from, to, add-one) (o .rises v h)
-
-    -- and end within the messages
-    pub end-within : end ≤ length vm
-    end-within = rw (to, add-one) (row-end mechanisms (length vm) vo o v h)
 
     -- one mechanism further
     pub squares-turn : sum ≡ squaresTo (ofVariables mechanisms vm vo) v → sum + (end - start) * (end - start) ≡ squaresTo (ofVariables mechanisms vm vo) (v + 1)
@@ -50,23 +58,17 @@ module _ (mechanisms : ℕ) (vm vo : List ℕ) (o : Offsets mechanisms (length v
         let d : end - start ≡ degree (ofVariables mechanisms vm vo) v = rw (from, to, add-one) (sym (degree-is v h)) in
         turns-turn _ 0 sum _ v e (ap (λ m. sum + m * m) d)
 
-    -- the sum stays within the square of the messages passed
-    pub squares-within : sum ≤ getD vo v 0 * getD vo v 0 → sum + (end - start) * (end - start) ≤ getD vo (v + 1) 0 * getD vo (v + 1) 0
-    squares-within e = within-square sum (getD vo v 0) (end - start) (getD vo (v + 1) 0) e (omega (arith, start-first))
+    -- which is few
+    pub turn-few : length vm ≤ maxEdges → sum ≡ squaresTo (ofVariables mechanisms vm vo) v → sum + (end - start) * (end - start) ≤ maxEdges * maxEdges
+    turn-few few e = omega (arith, squares-turn e, squares-few maxEdges few (v + 1) (omega arith))
 
--- what is at most n has a square that is at most the square of n
-pub squared-few : (a n : ℕ) → a ≤ n → a * a ≤ n * n
-squared-few a n h = mul-le-mul h h
-
--- all of them, and within the square of the edges that there may be
-pub squares-done : (mechanisms : ℕ) (vm vo : List ℕ) (o : Offsets mechanisms (length vm) vo) (v sum : ℕ) → length vm ≤ maxEdges → v ≤ mechanisms → mechanisms ≤ v
-    → sum ≡ squaresTo (ofVariables mechanisms vm vo) v → sum ≤ getD vo v 0 * getD vo v 0
-    → (sum ≡ squaredDegrees (ofVariables mechanisms vm vo)) × (sum ≤ maxEdges * maxEdges)
-unfolding squaredDegrees
-squares-done mechanisms vm vo o v sum few h k e w =
-    let all : v ≡ mechanisms = omega arith in
-    let end : getD vo v 0 ≡ length vm = ap (λ n. getD vo n 0) all ∙ o .ends in
-    (e ∙ ap (squaresTo (ofVariables mechanisms vm vo)) all, omega (arith, w, squared-few (getD vo v 0) maxEdges (omega (arith, end))))
+  -- all of them
+  pub squares-done : (v sum : ℕ) → length vm ≤ maxEdges → v ≤ mechanisms → mechanisms ≤ v → sum ≡ squaresTo (ofVariables mechanisms vm vo) v
+      → (sum ≡ squaredDegrees (ofVariables mechanisms vm vo)) × (sum ≤ maxEdges * maxEdges)
+  unfolding squaredDegrees
+  squares-done v sum few h k e =
+      let all : v ≡ mechanisms = omega arith in
+      (e ∙ ap (squaresTo (ofVariables mechanisms vm vo)) all, omega (arith, e, squares-few maxEdges few v h))
 
 -- a product with a factor 0 fits
 pub fits-zero : (n each : ℕ) → each ≡ 0 → true ≡ leb (n * each) maxStores

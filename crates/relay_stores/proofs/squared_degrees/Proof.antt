@@ -1,22 +1,21 @@
--- `relay_stores::squared_degrees` meets its contract. The invariant: the sum is the definition's over the mechanisms passed, and within the square of the messages passed. Assumes nothing.
-use Prim.Native.Nat.{_≤_, _+_, _-_, _*_}
+-- `relay_stores::squared_degrees` meets its contract. The invariant: the sum is the definition's over the mechanisms passed. Assumes nothing.
+use Prim.Native.Nat.{_≤_, _-_}
 use mathlib.Core.Path.{_≡_, refl}
 use native.Mathlib.Omega.{arith}
-use lib.ListN.{getD}
 use Rattle.graph_messages.specs.Needs.{ofVariables}
-use Rattle.relay_stores.proofs.Squares.{squaresTo, start-first, end-within, squares-turn, squares-within, squared-few, squares-done}
+use Rattle.relay_stores.proofs.Squares.{squaresTo, start-first, squares-turn, turn-few, squares-done}
 use Rattle.relay_stores.proofs.squared_degrees.Statement.{statement}
 use Rattle.relay_stores.proofs.squared_degrees.Tie as tie
 
 abbrev Inv-loop : tie.InvT-loop
 Inv-loop mechanisms var-message var-offset sum₀ v₀ sum v =
-    (v ≤ mechanisms) × (sum ≡ squaresTo (ofVariables mechanisms var-message var-offset) v) × (sum ≤ getD var-offset v 0 * getD var-offset v 0)
+    (v ≤ mechanisms) × (sum ≡ squaresTo (ofVariables mechanisms var-message var-offset) v)
 
 abbrev μ-loop : tie.MeasureT-loop
 μ-loop mechanisms var-message var-offset sum₀ v₀ sum v = mechanisms - v
 
 loop-holds : tie.Need-loop-holds Inv-loop μ-loop
-loop-holds c = (omega arith, refl, omega (arith, c .before .before .pre .0 .starts))
+loop-holds c = (omega arith, refl)
 
 at-requires : tie.Need-at-requires Inv-loop μ-loop
 at-requires c κs = omega (arith, c .before .before .before .before .pre .0 .many)
@@ -31,23 +30,19 @@ sub-degree : tie.Need-sub-degree Inv-loop μ-loop
 sub-degree c = 
     let s = c .before .before .before .before .before .before in
     let l = c .before .before .before .loop in
-    let o = s .pre .0 in
-    start-first (s .args .mechanisms) (s .args .var-message .now) (s .args .var-offset .now) o (l .v) (l .sum) _ _ (c .before .before .loop-test .taken) (c .before .at .ensures) (c .at2 .ensures)
+    start-first (s .args .mechanisms) (s .args .var-message .now) (s .args .var-offset .now) (s .pre .0) (l .v) (l .sum) _ _ (c .before .before .loop-test .taken) (c .before .at .ensures) (c .at2 .ensures)
 
 mul-sum : tie.Need-mul-sum Inv-loop μ-loop
 mul-sum c = 
     let s = c .before .before .before .before .before .before in
     let l = c .before .before .before .loop in
-    let o = s .pre .0 in
-    omega (arith, squared-few (c .at2 .result - c .before .at .result) 1048576 (omega (arith, end-within (s .args .mechanisms) (s .args .var-message .now) (s .args .var-offset .now) o (l .v) (l .sum) _ _ (c .before .before .loop-test .taken) (c .before .at .ensures) (c .at2 .ensures), s .pre .1)))
+    omega (arith, turn-few (s .args .mechanisms) (s .args .var-message .now) (s .args .var-offset .now) (s .pre .0) (l .v) (l .sum) _ _ (c .before .before .loop-test .taken) (c .before .at .ensures) (c .at2 .ensures) (s .pre .1) (l .inv .1))
 
 add-sum : tie.Need-add-sum Inv-loop μ-loop
 add-sum c = 
     let s = c .before .before .before .before .before .before in
     let l = c .before .before .before .loop in
-    let o = s .pre .0 in
-    let w = squares-within (s .args .mechanisms) (s .args .var-message .now) (s .args .var-offset .now) o (l .v) (l .sum) _ _ (c .before .before .loop-test .taken) (c .before .at .ensures) (c .at2 .ensures) (l .inv .2) in
-    omega (arith, w, squared-few (getD (s .args .var-offset .now) (l .v + 1) 0) 1048576 (omega (arith, end-within (s .args .mechanisms) (s .args .var-message .now) (s .args .var-offset .now) o (l .v) (l .sum) _ _ (c .before .before .loop-test .taken) (c .before .at .ensures) (c .at2 .ensures), c .at2 .ensures, s .pre .1)))
+    omega (arith, turn-few (s .args .mechanisms) (s .args .var-message .now) (s .args .var-offset .now) (s .pre .0) (l .v) (l .sum) _ _ (c .before .before .loop-test .taken) (c .before .at .ensures) (c .at2 .ensures) (s .pre .1) (l .inv .1))
 
 add-v : tie.Need-add-v Inv-loop μ-loop
 add-v c = omega arith
@@ -59,11 +54,10 @@ loop-again : tie.Need-loop-again Inv-loop μ-loop
 loop-again c = 
     let s = c .before .before .before .before .before .before in
     let l = c .before .before .before .loop in
-    let o = s .pre .0 in
-    (omega arith, squares-turn (s .args .mechanisms) (s .args .var-message .now) (s .args .var-offset .now) o (l .v) (l .sum) _ _ (c .before .before .loop-test .taken) (c .before .at .ensures) (c .at2 .ensures) (l .inv .1), squares-within (s .args .mechanisms) (s .args .var-message .now) (s .args .var-offset .now) o (l .v) (l .sum) _ _ (c .before .before .loop-test .taken) (c .before .at .ensures) (c .at2 .ensures) (l .inv .2))
+    (omega arith, squares-turn (s .args .mechanisms) (s .args .var-message .now) (s .args .var-offset .now) (s .pre .0) (l .v) (l .sum) _ _ (c .before .before .loop-test .taken) (c .before .at .ensures) (c .at2 .ensures) (l .inv .1))
 
 returns : tie.Need-returns Inv-loop μ-loop
-returns c = let l = c .before .loop in squares-done _ _ _ (c .before .before .before .before .pre .0) (l .v) (l .sum) (c .before .before .before .before .pre .1) (l .inv .0) (omega arith) (l .inv .1) (l .inv .2)
+returns c = let l = c .before .loop in squares-done _ _ _ (c .before .before .before .before .pre .0) (l .v) (l .sum) (c .before .before .before .before .pre .1) (l .inv .0) (omega arith) (l .inv .1)
 
 pub squared-degrees-spec : {M : Type 1} → statement M
 squared-degrees-spec =
