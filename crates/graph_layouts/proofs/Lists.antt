@@ -83,7 +83,7 @@ module _ (g : Graph) (cut : Offsets (g .checks) (length (g .checkVar)) (g .check
   room all many = omega (arith, many, row-end (g .checks) (length (g .checkVar)) (g .checkOffset) cut c h)
 
   -- the check's messages are read alike
-  read-agrees : (all : List Float) → length all ≡ length (g .checkVar) → byPlace .messagesOf g c all ≡ own g .messagesOf g c all
+  pub read-agrees : (all : List Float) → length all ≡ length (g .checkVar) → byPlace .messagesOf g c all ≡ own g .messagesOf g c all
   read-agrees all many = part-read start end all (length (g .checkVar)) (cut .rises c h) (room all many) many
 
   -- what a check makes of its messages of one list, and writes into another

@@ -1,11 +1,11 @@
 -- Relay with a check's messages had by numbers that are their own places gives what it gives by place: one iteration, a leg, and all legs. Assumes nothing.
 use Prim.Native.Nat.{ℕ, suc, _<_}
-use mathlib.Core.Path.{_≡_, ap}
+use mathlib.Core.Path.{_≡_, sym, ap, _∙_}
 use mathlib.Core.Bool.{false, not}
 use mathlib.Core.List.{List, [], foldl}
 use lib.Dec.{eqb}
 use lib.Ieee.{Float}
-use lib.ListN.{getD}
+use lib.ListN.{length, getD}
 use Rattle.graph_lists.specs.Graph.{Graph, checkEntries}
 use Rattle.graph_lists.specs.Messages.{byPlace}
 use Rattle.graph_lists.proofs.Sound.{Sound}
@@ -17,12 +17,13 @@ use Rattle.relay_gammas.specs.Gammas.{gammaOf}
 use Rattle.relay_orders.specs.Order.{NamesOnce}
 use Rattle.relay_orders.proofs.All.{All, all-map}
 use Rattle.relay_orders.proofs.Counts.{names-below}
+use Rattle.relay_stores.proofs.EachIteration.{Full, by-place-full}
 use Rattle.relay_calls.specs.Decode.{Shot, Run, running, iterationLimit, stepOf, executedLeg, startRun, recorded, afterLeg, decodeLegs}
 use Rattle.relay_calls.proofs.Calls.{legs-agree}
 use Rattle.relay_step.proofs.Lengths.{length-sent}
 use Rattle.relay.proofs.Exchange.{Sized, keep-check, keep-serial}
 use Rattle.relay.proofs.SameOutcome.{keep-iteration, leg-same, start-sized}
-use Rattle.graph_layouts.proofs.Lists.{own, update-agrees}
+use Rattle.graph_layouts.proofs.Lists.{own, read-agrees, update-agrees}
 use Rattle.graph_layouts.proofs.Loops.{folds-agree}
 
 -- ---- one iteration
@@ -87,3 +88,10 @@ module _ (x : Shot) (sound : Sound (x .graph)) (names : NamesOnce (x .graph .che
   pub decode-agrees : decodeLegs byPlace x ≡ decodeLegs (own (x .graph)) x
   unfolding decodeLegs
   decode-agrees = legs-agree byPlace (own (x .graph)) x x after-agrees (suc (x .settings .«num_legs»)) (running (startRun x)) 0
+
+-- ---- how many messages
+
+-- by number, too, the messages of a check are as many as its entries
+pub own-full : (g : Graph) → Sound g → Full (own g) g
+own-full g sound =
+    record { many = λ c all h e. ap length (sym (read-agrees g (sound .check-parts) c h all e)) ∙ by-place-full g sound .many c all h e }

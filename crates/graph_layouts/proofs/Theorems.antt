@@ -25,10 +25,14 @@ use Rattle.graph_lists.proofs.Sameness.{tells}
 use Rattle.graph_lists.proofs.Sound.{Sound, passes-sound}
 use Rattle.min_sum.specs.Beliefs.{BeliefsLists, beliefsOutcome, beliefsRest, beliefsFault, ran, beliefsBy, beliefs}
 use Rattle.relay_settings.specs.declared.Schedule.{Schedule}
+use Rattle.relay_stores.specs.Stores.{storesEach}
+use Rattle.relay_stores.proofs.EachIteration.{by-place-full}
 use Rattle.relay_calls.specs.declared.Decoded.the-variants as Decoded
 use Rattle.relay_calls.specs.Decode.{Shot, Ended}
 use Rattle.relay_calls.specs.Calls.{StepLists, stepOutcome, stepFits, stepRest, stepFault, stepped, iterationBy, iterationCall, DecodeLists, decodeOutcome, decodeRest, decodeFault, afterLegs, decodeBy, decodeInOrder, decode, withOrder}
+use Rattle.relay_calls.specs.Formula.{storesIn}
 use Rattle.relay_calls.proofs.Named.{names-told}
+use Rattle.relay_calls.proofs.LegStores.{formula-stands}
 use Rattle.relay_orders.specs.Order.{NamesOnce}
 use Rattle.relay_orders.proofs.Counts.{names-below}
 use Rattle.relay.proofs.Exchange.{Sized}
@@ -36,7 +40,7 @@ use Rattle.graph_layouts.specs.Numbered.{Numbered, withNumbers, withoutN
 use Rattle.graph_layouts.proofs.Lists.{own}
 use Rattle.graph_layouts.proofs.Tests.{is-agrees, tests-agree, back-again, seven-is, length-fault, number-fault}
 use Rattle.graph_layouts.proofs.Beliefs.{beliefs-agree}
-use Rattle.graph_layouts.proofs.Relay.{iteration-agrees, decode-agrees}
+use Rattle.graph_layouts.proofs.Relay.{iteration-agrees, decode-agrees, own-full}
 
 -- ---- "graphs in the old and new layout stand for the same incidences"
 
@@ -155,8 +159,11 @@ module _ (edges : ℕ) (x : Shot) (l : DecodeLists) where
   decode-past Done h =
       let a = or-done _ _ h in
       let d = or-done _ _ (or-done _ _ (or-done _ _ (a .1) .1) .1) in
-      ap (λ (e : Ended). afterLegs edges x e l)
-      (decode-agrees x (sound-of edges (x .prior) (x .graph) (a .0)) (names-told (x .graph .checks) (x .order) (or-done _ _ (d .1) .0)))
+      let sound = sound-of edges (x .prior) (x .graph) (a .0) in
+      let names = names-told (x .graph .checks) (x .order) (or-done _ _ (d .1) .0) in
+      formula-stands byPlace x sound (by-place-full (x .graph) sound) names edges l
+      ∙ ap (λ (e : Ended). afterLegs edges x e (storesIn (storesEach (x .settings .schedule) (x .graph)) e) l) (decode-agrees x sound names)
+      ∙ sym (formula-stands (own (x .graph)) x sound (own-full (x .graph) sound) names edges l)
 
   -- `decode_in_order`
   pub decode-in-order-equal : decodeInOrder edges x l ≡ numberedDecodeInOrder edges (withNumbers (x .graph)) x l

@@ -124,13 +124,7 @@ fn run_legs(
             );
         }
     }
-    answer_run(
-        tally.found,
-        tally.weight,
-        leg,
-        tally.total_iterations,
-        each,
-    )
+    answer_run(tally.found, tally.weight, leg, tally.total_iterations, each)
 }
 
 // The records of all legs, and the correction, zeroed.

@@ -15,6 +15,7 @@ use Rattle.relay_step.specs.Step as Step
 use Rattle.relay_orders.specs.Order as Order
 use Rattle.relay_step.specs.Leg as Leg
 use Rattle.relay_gammas.specs.Gammas as Gammas
+use Rattle.relay_stores.specs.Stores as Stores
 use Rattle.relay_calls.specs.Records as Records
 use Rattle.relay_calls.specs.Decode as Decode
 use Rattle.relay_calls.specs.Calls as Calls
@@ -28,27 +29,19 @@ unfolding add sub mul neg lt le eq ofInt
     Tests.unless Tests.orElse Tests.firstOf Tests.unlessRefused
     Lists.has Lists.passing Lists.joined Lists.start Lists.offsets Lists.stands Lists.places Lists.sameList
     Graph.mechanismsOf Graph.flipped Graph.checksOf Graph.entries Graph.graphOf Graph.among Graph.marked Graph.ownIncidence
-    Messages.fromVariables Messages.cleared Messages.lowered Messages.flippedBy Messages.scanned Messages.scan Messages.total Messages.valueFault
-    Messages.posteriorFault
-    Model.graphFits Model.rising Model.offsetsGood Model.priorGood Model.priorFault Model.detectorFault Model.mechanismTest Model.mechanismFault
-    Model.sameGraph Model.isGraph Model.built Model.sparseFault Model.buildSparse Model.countEdges Model.denseFault Model.buildDense Model.graphFault
-    MinSum.signWithout MinSum.sentAt MinSum.sentTo MinSum.checkMessages MinSum.skipped MinSum.updateCheck MinSum.damped MinSum.dampedMessages
-    MinSum.rawPosterior MinSum.updateVariable MinSum.parallelCheck MinSum.checksTo MinSum.variablesTo MinSum.parallelIteration MinSum.serialCheck
-    MinSum.serialTo MinSum.serialIteration MinSum.runningAverage MinSum.averagedTo MinSum.averaged MinSum.weightOf MinSum.chosen MinSum.chosenTo
-    MinSum.startRound MinSum.iterated MinSum.iteratedIn MinSum.outerRoundTo MinSum.outerRound MinSum.allRounds MinSum.minSumBp
+    Messages.fromVariables Messages.cleared Messages.lowered Messages.flippedBy Messages.scanned Messages.scan Messages.total Messages.valueFault Messages.posteriorFault
+    Model.graphFits Model.rising Model.offsetsGood Model.priorGood Model.priorFault Model.detectorFault Model.mechanismTest Model.mechanismFault Model.sameGraph Model.isGraph Model.built Model.sparseFault Model.buildSparse Model.countEdges Model.denseFault Model.buildDense Model.graphFault
+    MinSum.signWithout MinSum.sentAt MinSum.sentTo MinSum.checkMessages MinSum.skipped MinSum.updateCheck MinSum.damped MinSum.dampedMessages MinSum.rawPosterior MinSum.updateVariable MinSum.parallelCheck MinSum.checksTo MinSum.variablesTo MinSum.parallelIteration MinSum.serialCheck MinSum.serialTo MinSum.serialIteration MinSum.runningAverage MinSum.averagedTo MinSum.averaged MinSum.weightOf MinSum.chosen MinSum.chosenTo MinSum.startRound MinSum.iterated MinSum.iteratedIn MinSum.outerRoundTo MinSum.outerRound MinSum.allRounds MinSum.minSumBp
     Beliefs.beliefsListsFit Beliefs.beliefsFault Beliefs.ran Beliefs.beliefs
-    Settings.alphaGood Settings.preGood Settings.legIterationsGood Settings.intervalGood Settings.setsGood Settings.gammaFault Settings.sourceFault
-    Settings.settingsFault
-    Step.scanned Step.scan Step.saturated Step.sent Step.sentTo Step.checkMessages Step.updateCheck Step.written Step.updateVariable Step.biasOf
-    Step.biasesTo Step.computeBias Step.checkPass Step.variablePass Step.floodingIteration Step.serialCheck Step.serialPass Step.checkSerialIteration
+    Settings.alphaGood Settings.preGood Settings.legIterationsGood Settings.intervalGood Settings.setsGood Settings.gammaFault Settings.sourceFault Settings.settingsFault Settings.checkSettings
+    Step.scanned Step.scan Step.saturated Step.sent Step.sentTo Step.checkMessages Step.updateCheck Step.written Step.updateVariable Step.biasOf Step.biasesTo Step.computeBias Step.checkPass Step.variablePass Step.floodingIteration Step.serialCheck Step.serialPass Step.checkSerialIteration
     Order.count Order.once Order.namesOnce Order.shares Order.above Order.late Order.exchanged Order.namesFault Order.exchangeFault
     Leg.startLeg Leg.hardBit Leg.hardDecision Leg.parity Leg.matches Leg.satisfied Leg.cost Leg.correctionWeight
     Gammas.drawnOn Gammas.drawn Gammas.legSeed Gammas.relayGamma Gammas.gammaOf
+    Stores.countedCheck Stores.store Stores.countedWritten Stores.countedVariable Stores.countedCheckPass Stores.countedVariablePass Stores.countedFlooding Stores.countedSerialCheck Stores.countedSerialPass Stores.countedSerial Stores.degree Stores.squaredDegrees Stores.storesFault
     Records.legRecord
-    Decode.iterationLimit Decode.stepOf Decode.executedLeg Decode.startRun Decode.recorded Decode.afterLeg Decode.legsFrom Decode.decodeLegs
-    Calls.byteFault Calls.syndromeFault Calls.stepFits Calls.finiteAt Calls.allFinite Calls.stateFinite Calls.stepFault Calls.messageFinite
-    Calls.mechanismFinite Calls.finiteFault Calls.stepEnd Calls.stepped Calls.iterationCall Calls.decodeListsFit Calls.decodeFault Calls.leftBy
-    Calls.zeroed Calls.decodeInOrder Calls.decode
+    Decode.iterationLimit Decode.stepOf Decode.executedLeg Decode.startRun Decode.recorded Decode.afterLeg Decode.legsFrom Decode.decodeLegs Decode.countedStepOf Decode.countedLeg Decode.legStores Decode.storesFrom Decode.decodeStores
+    Calls.byteFault Calls.syndromeFault Calls.stepFits Calls.finiteAt Calls.allFinite Calls.stateFinite Calls.stepFault Calls.messageFinite Calls.mechanismFinite Calls.finiteFault Calls.stepEnd Calls.stepped Calls.iterationCall Calls.decodeListsFit Calls.decodeFault Calls.leftBy Calls.zeroed Calls.decodeInOrder Calls.decode
 runs =
     record {
       r1 = (refl, refl);

@@ -161,13 +161,13 @@ believes edges p = Beliefs.beliefsOutcome Done (Beliefs.beliefsLists p (replicat
 
 -- ---- the table
 
--- the whole outcome of R3, R4 and R7: converged at 2, bits 100, weight 4, posterior -4, 4, 4; leg zero's record and row, and behind them the row that is
--- not needed, as it was; and zeroed work lists
-abbrev pub at2 : Calls.DecodeOutcome
-at2 =
+-- the whole outcome of R3, R4 and R7: converged at 2, so many stores, bits 100, weight 4, posterior -4, 4, 4; leg zero's record and row, and behind them the row
+-- that is not needed, as it was; and zeroed work lists
+abbrev pub at2 : ℕ → Calls.DecodeOutcome
+at2 stores =
     let zeros = replicate 3 zero⁺ in
     let bits : List ℕ = 1 ∷ 0 ∷ 0 ∷ [] in
-    Calls.decodeOutcome (Decoded.Converged 1 2 four)
+    Calls.decodeOutcome (Decoded.Converged 1 2 stores four)
     (Calls.decodeLists (2 ∷ 9 ∷ []) (2 ∷ 9 ∷ []) (four ∷ nine ∷ []) (1 ∷ 0 ∷ 0 ∷ 9 ∷ 9 ∷ 9 ∷ []) bits (four⁻ ∷ four ∷ four ∷ []) zeros zeros
     (replicate 4 zero⁺)
     (replicate 4 zero⁺))
@@ -177,31 +177,31 @@ pub record Table : Type 0 where
   -- offsets 0,2,4 and 0,1,3,4; variable 1 has messages 1 and 2
   pub r1 : (builtG ≡ Model.buildOutcome Done (graph 2 3 (0 ∷ 1 ∷ 1 ∷ 2 ∷ []) (0 ∷ 2 ∷ 4 ∷ []) (0 ∷ 0 ∷ 1 ∷ 1 ∷ []) (0 ∷ 1 ∷ 2 ∷ 3 ∷ []) (0 ∷ 1 ∷ 3 ∷ 4 ∷ [])))
       × (varEntries G 1 ≡ 1 ∷ 2 ∷ [])
-  -- Flooding, pre 1: not converged, posterior 0,4,8, bits 000
-  pub r2 : show (decodedRun G fours (1 ∷ 0 ∷ []) (0 ∷ 1 ∷ []) Flooding 1) ≡ shown (summary Done false 1 1 none) (0 ∷ 0 ∷ 0 ∷ []) (zero⁺ ∷ four ∷ eight ∷ [])
-  -- Flooding, pre 2: converged at 2, bits 100, weight 4, posterior -4,4,4
-  pub r3 : decodedRun G fours (1 ∷ 0 ∷ []) (0 ∷ 1 ∷ []) Flooding 2 ≡ at2
-  -- CheckSerial, pre 2: same outcome as R3, every list
-  pub r4 : decodedRun G fours (1 ∷ 0 ∷ []) (0 ∷ 1 ∷ []) CheckSerial 2 ≡ at2
+  -- Flooding, pre 1: not converged, 8 stores, posterior 0,4,8, bits 000
+  pub r2 : show (decodedRun G fours (1 ∷ 0 ∷ []) (0 ∷ 1 ∷ []) Flooding 1) ≡ shown (summary Done false 1 1 8 none) (0 ∷ 0 ∷ 0 ∷ []) (zero⁺ ∷ four ∷ eight ∷ [])
+  -- Flooding, pre 2: converged at 2, 16 stores, bits 100, weight 4, posterior -4,4,4
+  pub r3 : decodedRun G fours (1 ∷ 0 ∷ []) (0 ∷ 1 ∷ []) Flooding 2 ≡ at2 16
+  -- CheckSerial, pre 2: same outcome as R3, every list; 20 stores
+  pub r4 : decodedRun G fours (1 ∷ 0 ∷ []) (0 ∷ 1 ∷ []) CheckSerial 2 ≡ at2 20
   -- first serial iteration, order 0,1: posterior 0,4,4
   pub r5 : shownStep (firstStep CheckSerial (0 ∷ 1 ∷ [])) ≡ shownStepTo (zero⁺ ∷ four ∷ four ∷ [])
   -- first serial iteration, order 1,0: posterior -4,4,8; decode refuses it: 24, check 0, and writes nothing
   pub r6 : (shownStep (firstStep CheckSerial (1 ∷ 0 ∷ [])) ≡ shownStepTo (four⁻ ∷ four ∷ eight ∷ []))
-      × (summaryOf (decodedRun G fours (1 ∷ 0 ∷ []) (1 ∷ 0 ∷ []) CheckSerial 2 .answer) ≡ summary (Refused (OrderExchanged 0)) false 0 0 none)
+      × (summaryOf (decodedRun G fours (1 ∷ 0 ∷ []) (1 ∷ 0 ∷ []) CheckSerial 2 .answer) ≡ summary (Refused (OrderExchanged 0)) false 0 0 0 none)
       × (answerNumber (Refused (OrderExchanged 0)) ≡ 24)
       × (answerPlace (Refused (OrderExchanged 0)) ≡ At 0)
       × (decodedRun G fours (1 ∷ 0 ∷ []) (1 ∷ 0 ∷ []) CheckSerial 2 .left ≡ lent 3 4)
   -- Flooding order 1,0: as R3, every list
-  pub r7 : decodedRun G fours (1 ∷ 0 ∷ []) (1 ∷ 0 ∷ []) Flooding 2 ≡ at2
+  pub r7 : decodedRun G fours (1 ∷ 0 ∷ []) (1 ∷ 0 ∷ []) Flooding 2 ≡ at2 16
   -- min-sum, not serial, one iteration: 0,4,8
   pub r8 : believed G fours (1 ∷ 0 ∷ []) ≡ believes 4 (zero⁺ ∷ four ∷ eight ∷ [])
   -- one check, one mechanism, prior 2, syndrome 1: Relay -28, bit 1; min-sum, one iteration, 2
-  pub r9 : (show (decodedRun (single two) (two ∷ []) (1 ∷ []) (0 ∷ []) Flooding 1) ≡ shown (summary Done true 1 1 (some two)) (1 ∷ []) (twentyEight⁻ ∷ []))
+  pub r9 : (show (decodedRun (single two) (two ∷ []) (1 ∷ []) (0 ∷ []) Flooding 1) ≡ shown (summary Done true 1 1 2 (some two)) (1 ∷ []) (twentyEight⁻ ∷ []))
       × (believed (single two) (two ∷ []) (1 ∷ []) ≡ believes 1 (two ∷ []))
   -- the same in Relay, prior 30: posterior 0, bit 0, not converged
-  pub r10 : show (decodedRun (single saturation) (saturation ∷ []) (1 ∷ []) (0 ∷ []) Flooding 1) ≡ shown (summary Done false 1 1 none) (0 ∷ []) (zero⁺ ∷ [])
+  pub r10 : show (decodedRun (single saturation) (saturation ∷ []) (1 ∷ []) (0 ∷ []) Flooding 1) ≡ shown (summary Done false 1 1 2 none) (0 ∷ []) (zero⁺ ∷ [])
   -- nothing in the graph: converged after 1, weight negative zero
-  pub r11 : show (decodedRun empty [] [] [] Flooding 1) ≡ shown (summary Done true 1 1 (some zero⁻)) [] []
+  pub r11 : show (decodedRun empty [] [] [] Flooding 1) ≡ shown (summary Done true 1 1 0 (some zero⁻)) [] []
   -- min-sum, one check, priors -0.0 and 2, syndrome 0, one iteration: -2, 2; with +0.0: 2, 2
   pub r12 : (believed (pair zero⁻) (zero⁻ ∷ two ∷ []) (0 ∷ []) ≡ believes 2 (two⁻ ∷ two ∷ []))
       × (believed (pair zero⁺) (zero⁺ ∷ two ∷ []) (0 ∷ []) ≡ believes 2 (two ∷ two ∷ []))

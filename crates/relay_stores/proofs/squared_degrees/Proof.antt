@@ -27,19 +27,19 @@ at-requires-2 : tie.Need-at-requires-2 Inv-loop μ-loop
 at-requires-2 c κs = omega (arith, c .before .before .before .before .before .pre .0 .many)
 
 sub-degree : tie.Need-sub-degree Inv-loop μ-loop
-sub-degree c = 
+sub-degree c =
     let s = c .before .before .before .before .before .before in
     let l = c .before .before .before .loop in
     start-first (s .args .mechanisms) (s .args .var-message .now) (s .args .var-offset .now) (s .pre .0) (l .v) (l .sum) _ _ (c .before .before .loop-test .taken) (c .before .at .ensures) (c .at2 .ensures)
 
 mul-sum : tie.Need-mul-sum Inv-loop μ-loop
-mul-sum c = 
+mul-sum c =
     let s = c .before .before .before .before .before .before in
     let l = c .before .before .before .loop in
     omega (arith, turn-few (s .args .mechanisms) (s .args .var-message .now) (s .args .var-offset .now) (s .pre .0) (l .v) (l .sum) _ _ (c .before .before .loop-test .taken) (c .before .at .ensures) (c .at2 .ensures) (s .pre .1) (l .inv .1))
 
 add-sum : tie.Need-add-sum Inv-loop μ-loop
-add-sum c = 
+add-sum c =
     let s = c .before .before .before .before .before .before in
     let l = c .before .before .before .loop in
     omega (arith, turn-few (s .args .mechanisms) (s .args .var-message .now) (s .args .var-offset .now) (s .pre .0) (l .v) (l .sum) _ _ (c .before .before .loop-test .taken) (c .before .at .ensures) (c .at2 .ensures) (s .pre .1) (l .inv .1))
@@ -51,7 +51,7 @@ loop-less : tie.Need-loop-less Inv-loop μ-loop
 loop-less c = omega arith
 
 loop-again : tie.Need-loop-again Inv-loop μ-loop
-loop-again c = 
+loop-again c =
     let s = c .before .before .before .before .before .before in
     let l = c .before .before .before .loop in
     (omega arith, squares-turn (s .args .mechanisms) (s .args .var-message .now) (s .args .var-offset .now) (s .pre .0) (l .v) (l .sum) _ _ (c .before .before .loop-test .taken) (c .before .at .ensures) (c .at2 .ensures) (l .inv .1))

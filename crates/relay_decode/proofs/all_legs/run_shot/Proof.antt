@@ -46,10 +46,10 @@ run-legs-requires c κs =
             (
               p .1 .1 .1 .1,
               starts-at (shotOf (a .t) (a .gammas .now) (a .seed) (a .syndrome .now)
-                (a .priors .now) (a .check-var .now) (a .check-offset .now)
-                (a .var-message .now) (a .var-offset .now) (a .order .now))
-                (a .leg-state .now) (a .leg-iterations .now) (a .leg-weight .now)
-                (a .rows .now) (a .correction .now) (a .posterior .now) (m .of-states) (m .of-iterations) (m .of-weights) (m .of-rows) (n .bits) _ _ _ _ _ _ (z .ensures) (y .ensures),
+                  (a .priors .now) (a .check-var .now) (a .check-offset .now)
+                  (a .var-message .now) (a .var-offset .now) (a .order .now))
+                  (a .leg-state .now) (a .leg-iterations .now) (a .leg-weight .now)
+                  (a .rows .now) (a .correction .now) (a .posterior .now) (m .of-states) (m .of-iterations) (m .of-weights) (m .of-rows) (n .bits) _ _ _ _ _ _ (z .ensures) (y .ensures),
             ),
           ),
         ),
