@@ -104,8 +104,8 @@ module _ (s : Session) (model : List ℕ) (h : Heard) (a : Agrees s model h) whe
   -- what a decode answered
   answers-tells : (d : Decoded) (bits line : List ℕ) → Tells (taken (answers s d bits line) model) (shotSaid h (s .reader .offset) d bits)
   unfolding finds refuses
-  answers-tells (Decoded.Converged legs total weight) bits line = numbered-tells (λ n. unlessTooLong bits (shotLine n true total legs bits)) line
-  answers-tells (Decoded.NotConverged legs total) bits line = numbered-tells (λ n. unlessTooLong bits (shotLine n false total legs bits)) line
+  answers-tells (Decoded.Converged legs total stores weight) bits line = numbered-tells (λ n. unlessTooLong bits (shotLine n true total legs bits)) line
+  answers-tells (Decoded.NotConverged legs total stores) bits line = numbered-tells (λ n. unlessTooLong bits (shotLine n false total legs bits)) line
   answers-tells (Decoded.Refused r) bits line =
       told-by-test (isOfShot (numberOf r)) _ _ _ _ model (numbered-tells (λ n. refusedLine n (numberOf r)) line) (stops-tells s r model line)
 

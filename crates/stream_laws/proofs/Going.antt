@@ -68,8 +68,8 @@ module _ (h : Heard) (a : Accepted h) (offset : ℕ) (p : List ℕ) (k : Heard) 
   -- a shot
   after-shot : (d : Decoded) (bits : List ℕ) → shotSaid h offset d bits .next ≡ some k → Accepted k
   unfolding endsRun
-  after-shot (Decoded.Converged n t w) bits e = after-line _ e
-  after-shot (Decoded.NotConverged n t) bits e = after-line _ e
+  after-shot (Decoded.Converged n t stores w) bits e = after-line _ e
+  after-shot (Decoded.NotConverged n t stores) bits e = after-line _ e
   after-shot (Decoded.Refused r) bits e =
       ⊎-elim
       (λ (t : isOfShot (numberOf r) ≡ true). after-line _ (rw t at e))
@@ -118,8 +118,8 @@ module _ (h : Heard) (a : Accepted h) (offset : ℕ) (p : List ℕ) where
   shot-on : isThere (h .model) ≡ true → isThere (h .settings) ≡ true → (d : Decoded) (bits : List ℕ)
       → decodeOf (thePayload (h .model)) (thePayload (h .settings)) p .answer ≡ d → shotSaid h offset d bits .next ≡ some afterShot
   unfolding lineSaid decodeOf
-  shot-on m s (Decoded.Converged n t w) bits e = refl
-  shot-on m s (Decoded.NotConverged n t) bits e = refl
+  shot-on m s (Decoded.Converged n t stores w) bits e = refl
+  shot-on m s (Decoded.NotConverged n t stores) bits e = refl
   shot-on m s (Decoded.Refused r) bits e =
       let t = a .settings (thePayload (h .settings)) (there (h .settings) s) in
       rw (shot-refused (thePayload (h .model)) (thePayload (h .settings)) p r (a .model (thePayload (h .model)) (there (h .model) m)) (t .0) (t .1) e)

@@ -1,4 +1,4 @@
--- A shot's line is of a decode that is the best of its legs. Assumes nothing.
+-- A shot's line is of a decode that is the best of its legs, and whose stores are the formula's. Assumes nothing.
 use Prim.Native.Nat.{ℕ, _≤_}
 use mathlib.Core.Path.{_≡_, refl, sym, ap, subst, _∙_}
 use mathlib.Core.Bool.{Bool, true, false}
@@ -15,12 +15,13 @@ use Rattle.refusals.proofs.Tests.{or-done, unless-done}
 use Rattle.graph_lists.specs.Graph.{Graph, graphOf}
 use Rattle.graph.proofs.Theorems.{sparse-lists}
 use Rattle.relay_settings.specs.declared.Settings.{Settings}
+use Rattle.relay_stores.specs.Stores.{storesAt}
 use Rattle.relay_calls.specs.declared.Decoded.{Decoded}
 use Rattle.relay_calls.specs.declared.Decoded.the-variants as Decoded
 use Rattle.relay_calls.specs.Decode.{Shot, shot}
-use Rattle.relay_calls.specs.Calls.{DecodeLists, DecodeOutcome, decodeOutcome, decode, summaryOf, summary}
+use Rattle.relay_calls.specs.Calls.{DecodeLists, DecodeOutcome, decodeOutcome, decode, Summary, summaryOf, summary}
 use Rattle.relay_laws.specs.BestOfLegs.{filed, BestOfLegs}
-use Rattle.relay_laws.proofs.Theorems.{decode-best-of-legs, legs-at-most-total}
+use Rattle.relay_laws.proofs.Theorems.{decode-best-of-legs, decode-stores-by-formula, legs-at-most-total}
 use Rattle.stream_grammar.specs.Stream.{mechanisms, judge, seed, syndrome}
 use Rattle.stream_grammar.specs.Fields.{countsRead, modelRead, settingsRead}
 use Rattle.stream_lines.specs.Lines.{shotLine, refusedLine, unlessTooLong}
@@ -80,6 +81,14 @@ module _ (model : List ℕ) (t : Settings) (p : List ℕ) (ok : modelFault model
       (decode-best-of-legs (countsRead model .edges) (shotOver builtGraph) (lent correction) d (leaves correction .left)
       (ap (λ (a : Decoded). decodeOutcome a (leaves correction .left)) (sym e)) h)
 
+  -- and its stores are the formula's
+  leaves-stores : (correction : List ℕ) (d : Decoded) → leaves correction .answer ≡ d → summaryOf d .refusal ≡ Done
+      → summaryOf d .stores ≡ storesAt (t .schedule) (modelGraph model) (summaryOf d .totalIterations)
+  leaves-stores correction d e h =
+      decode-stores-by-formula (countsRead model .edges) (shotOver builtGraph) (lent correction) d (leaves correction .left)
+      (ap (λ (a : Decoded). decodeOutcome a (leaves correction .left)) (sym e)) h
+      ∙ ap (λ (g : Graph). storesAt (t .schedule) g (summaryOf d .totalIterations)) graph-is
+
 -- ---- its line
 
 -- that is not too long
@@ -103,17 +112,17 @@ module _ (h : Heard) (a : Accepted h) (offset : ℕ) (p : List ℕ) (m : isThere
   after = leaves model (settingsRead settings) p accepted (lentNumbers 256 (mechanisms model))
 
   -- of an answer, the line that is said of it
-  line-of : (d : Decoded) (converged : Bool) (total legs : ℕ) (weight : Option Float) (text : List ℕ) → summaryOf d ≡ summary Done converged legs total weight
+  line-of : (d : Decoded) (converged : Bool) (total legs stores : ℕ) (weight : Option Float) (text : List ℕ) → summaryOf d ≡ summary Done converged legs total stores weight
       → text ≡ unlessTooLong (after .left .correction) (shotLine (h .shots) converged total legs (after .left .correction))
-      → BestOfLegs (filed (shotOver model (settingsRead settings) p accepted (modelGraph model)) d (after .left)) → LineHolds (h .shots) model settings p text
-  line-of d converged total legs weight text e q b =
+      → BestOfLegs (filed (shotOver model (settingsRead settings) p accepted (modelGraph model)) d (after .left)) → after .answer ≡ d → LineHolds (h .shots) model settings p text
+  line-of d converged total legs stores weight text e q b g =
       let c : BestOfLegs
       (record {
         graph = modelGraph model;
         prior = modelPriors model;
         syndrome = syndrome p;
         legs = mostLegs settings;
-        said = summary Done converged legs total weight;
+        said = summary Done converged legs total stores weight;
         legState = after .left .legState;
         legIterations = after .left .legIterations;
         legWeight = after .left .legWeight;
@@ -132,6 +141,11 @@ module _ (h : Heard) (a : Accepted h) (offset : ℕ) (p : List ℕ) (m : isThere
         some-leg = c .some-leg;
         legs-within = c .legs-within;
         legs-ran = legs-at-most-total _ c;
+        stores = stores;
+        by-formula =
+            ap (λ (z : Summary). z .stores) (sym e)
+            ∙ leaves-stores model (settingsRead settings) p accepted (lentNumbers 256 (mechanisms model)) d g (ap (λ (z : Summary). z .refusal) e)
+            ∙ ap (λ (z : Summary). storesAt (settingsRead settings .schedule) (modelGraph model) (z .totalIterations)) e;
         weight = weight;
         legState = after .left .legState;
         legIterations = after .left .legIterations;
@@ -146,10 +160,10 @@ module _ (h : Heard) (a : Accepted h) (offset : ℕ) (p : List ℕ) (m : isThere
 
   by-answer : (d : Decoded) → after .answer ≡ d → decodeOf model settings p .answer ≡ d → Line (shotSaid h offset d (after .left .correction) .text)
   unfolding lineSaid decodeOf
-  by-answer (Decoded.Converged n t w) e q =
-      inl (line-of (Decoded.Converged n t w) true t n (some w) _ refl refl (leaves-best model (settingsRead settings) p accepted (lentNumbers 256 (mechanisms model)) _ e refl))
-  by-answer (Decoded.NotConverged n t) e q =
-      inl (line-of (Decoded.NotConverged n t) false t n none _ refl refl (leaves-best model (settingsRead settings) p accepted (lentNumbers 256 (mechanisms model)) _ e refl))
+  by-answer (Decoded.Converged n t k w) e q =
+      inl (line-of (Decoded.Converged n t k w) true t n k (some w) _ refl refl (leaves-best model (settingsRead settings) p accepted (lentNumbers 256 (mechanisms model)) _ e refl) e)
+  by-answer (Decoded.NotConverged n t k) e q =
+      inl (line-of (Decoded.NotConverged n t k) false t n k none _ refl refl (leaves-best model (settingsRead settings) p accepted (lentNumbers 256 (mechanisms model)) _ e refl) e)
   by-answer (Decoded.Refused r) e q =
       let t = a .settings settings (there (h .settings) s) in
       inr (numberOf r, rw (shot-refused model settings p r accepted (t .0) (t .1) q))

@@ -43,8 +43,8 @@ stops-stays s r line = refl
 -- what a decode answered
 answers-stays : (s : Session) (d : Decoded) (bits line : List ℕ) → answers s d bits line .session .reader ≡ s .reader
 unfolding finds says refuses
-answers-stays s (Decoded.Converged legs total weight) bits line = refl
-answers-stays s (Decoded.NotConverged legs total) bits line = refl
+answers-stays s (Decoded.Converged legs total stores weight) bits line = refl
+answers-stays s (Decoded.NotConverged legs total stores) bits line = refl
 answers-stays s (Decoded.Refused r) bits line = either-stays (λ (t : Told). t .session .reader) (isOfShot (numberOf r)) _ _ (s .reader) refl (stops-stays s r line)
 
 -- settings

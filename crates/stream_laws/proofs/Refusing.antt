@@ -22,13 +22,22 @@ use Rattle.refusals.proofs.Tests.{or-second, or-done, unless-done}
 use Rattle.graph_lists.specs.Graph.{Graph, graphOf}
 use Rattle.graph_lists.specs.Messages.{byPlace, valueFault, posteriorFault}
 use Rattle.graph_lists.specs.Model.{built, buildSparse, graphFault}
+use Rattle.graph_lists.proofs.GraphTests.{GraphTold, graph-told}
+use Rattle.graph_lists.proofs.Sound.{Sound, passes-sound}
 use Rattle.graph.proofs.Theorems.{sparse-checked}
+use Rattle.relay_settings.specs.declared.Schedule.{Schedule}
+use Rattle.relay_settings.specs.declared.Schedule.the-variants.{Flooding, CheckSerial}
+use Rattle.relay_settings.specs.declared.Settings.{Settings}
+use Rattle.relay_settings.proofs.Told.{settings-told}
+use Rattle.relay_stores.specs.Stores.{degree, squaredDegrees, storesEach, mostIterations, maxStores, storesFault}
+use Rattle.relay_stores.proofs.Squares.{squares-few}
 use Rattle.relay_settings.specs.Settings.{sourceFault, settingsFault, checkSettings}
 use Rattle.relay_calls.specs.declared.Decoded.{Decoded}
 use Rattle.relay_calls.specs.declared.Decoded.the-variants as Decoded
-use Rattle.relay_calls.specs.Decode.{Shot, Run, Ended, decoded, refused, Progress, running, finished, legJudged, afterLeg, legsFrom, decodeLegs}
+use Rattle.relay_calls.specs.Decode.{Shot, Run, Ended, decoded, refused, Progress, running, finished, legJudged, afterLeg, legsFrom, decodeLegs, decodeStores}
 use Rattle.relay_calls.specs.Calls.{byteFault, syndromeFault, DecodeLists, decodeListsFit, decodeFault, answered, afterLegs, afterDecodeTests, decodeInOrder, withOrder, decode}
 use Rattle.relay_calls.proofs.Named.{index-passes}
+use Rattle.relay_calls.proofs.LastTests.{or-joined}
 use Rattle.stream_grammar.specs.declared.Counts.{Counts}
 use Rattle.stream_grammar.specs.Stream.{isOfShot, legs, mechanisms, syndrome}
 use Rattle.stream_grammar.specs.Fields.{countsRead, modelRead, settingsRead}
@@ -92,22 +101,22 @@ unfolding decodeLegs
 decode-of x r e = legs-of x _ (running _) 0 (λ y q. let z : _≡_ {A = ℕ} 0 1 = cc in absurd (omega arith)) r e
 
 -- what is answered past the tests
-ran-of : (edges : ℕ) (x : Shot) (w : Ended) (l : DecodeLists) → ((r : Refusal) → w ≡ refused r → isOfShot (numberOf r) ≡ true)
-    → (r : Refusal) → afterLegs edges x w l .answer ≡ Decoded.Refused r → isOfShot (numberOf r) ≡ true
-ran-of edges x (decoded run) l f r e = answered-not (run .bestWeight) e
+ran-of : (edges : ℕ) (x : Shot) (w : Ended) (stores : ℕ) (l : DecodeLists) → ((r : Refusal) → w ≡ refused r → isOfShot (numberOf r) ≡ true)
+    → (r : Refusal) → afterLegs edges x w stores l .answer ≡ Decoded.Refused r → isOfShot (numberOf r) ≡ true
+ran-of edges x (decoded run) stores l f r e = answered-not (run .bestWeight) e
   where
-    answered-not : (w : Option Float) → answered run w ≡ Decoded.Refused r → isOfShot (numberOf r) ≡ true
+    answered-not : (w : Option Float) → answered run stores w ≡ Decoded.Refused r → isOfShot (numberOf r) ≡ true
     answered-not none q = let z : _≡_ {A = ℕ} 0 1 = cc in absurd (omega arith)
     answered-not (some weight) q = let z : _≡_ {A = ℕ} 0 1 = cc in absurd (omega arith)
-ran-of edges x (refused y) l f r e = let q : y ≡ r = cc in f r (ap refused q)
+ran-of edges x (refused y) stores l f r e = let q : y ≡ r = cc in f r (ap refused q)
 
 -- a decode, whose tests refuse with those alone
 tested-of : (edges : ℕ) (x : Shot) (l : DecodeLists) → OfShot (decodeFault edges x l) → (r : Refusal) → decodeInOrder edges x l .answer ≡ Decoded.Refused r → isOfShot (numberOf r) ≡ true
 unfolding decodeInOrder
 tested-of edges x l f r e = by (decodeFault edges x l) f e
   where
-    by : (a : Answer) → OfShot a → afterDecodeTests a (afterLegs edges x (decodeLegs byPlace x) l) l .answer ≡ Decoded.Refused r → isOfShot (numberOf r) ≡ true
-    by Done g q = ran-of edges x (decodeLegs byPlace x) l (decode-of x) r q
+    by : (a : Answer) → OfShot a → afterDecodeTests a (afterLegs edges x (decodeLegs byPlace x) (decodeStores byPlace x) l) l .answer ≡ Decoded.Refused r → isOfShot (numberOf r) ≡ true
+    by Done g q = ran-of edges x (decodeLegs byPlace x) (decodeStores byPlace x) l (decode-of x) r q
     by (Refused y) g q = let h : y ≡ r = cc in g r (ap Refused h)
 
 -- ---- the tests of a shot over what was accepted
@@ -162,14 +171,41 @@ fit-done : (b : Bool) → b ≡ true → unless b LentListLength ≡ Done
 unfolding unless
 fit-done b e = rw e
 
-module _ (edges : ℕ) (x : Shot) (l : DecodeLists) (g : graphFault edges (x .prior) (x .graph) ≡ Done) (s : settingsFault (x .settings) (x .graph .mechanisms) (x .gammas) ≡ Done) where
+-- what an iteration writes over so few edges
+each-few : (schedule : Schedule) (g : Graph) → Sound g → length (g .checkVar) ≤ 512 → storesEach schedule g ≤ 262656
+unfolding squaredDegrees degree
+each-few Flooding g sound e = omega arith
+each-few CheckSerial g sound e =
+    let many = sound .long .var-message in
+    omega (arith, squares-few (g .mechanisms) (g .varMessage) (g .varOffset) (rw many (sound .var-parts)) 512 (omega (arith, many)) (g .mechanisms) (omega arith))
+
+-- so no decode within the room is refused with 29
+stores-done : (t : Settings) (m : ℕ) (flat : List Float) (g : Graph) → settingsFault t m flat ≡ Done → Sound g → length (g .checkVar) ≤ 512 → t .«num_legs» ≤ 16
+    → storesFault t g ≡ Done
+unfolding storesFault unless
+stores-done t m flat g s sound e l =
+    let told = settings-told t m flat s in
+    let relayed = mul-le-mul {n₁ = t .«num_legs»} {m₁ = t .«leg_iterations»} {n₂ = 16} {m₂ = 65535} l (told .leg-few) in
+    let most : mostIterations t ≤ 1114095 = omega (arith, relayed, told .pre-few) in
+    let all = mul-le-mul {n₁ = mostIterations t} {m₁ = storesEach (t .schedule) g} {n₂ = 1114095} {m₂ = 262656} most (each-few (t .schedule) g sound e) in
+    rw (le-leb (mostIterations t * storesEach (t .schedule) g) maxStores (omega (arith, all)))
+
+module _ (edges : ℕ) (x : Shot) (l : DecodeLists) (few : edges ≤ 512) (legs-few : x .settings .«num_legs» ≤ 16) (g : graphFault edges (x .prior) (x .graph) ≡ Done) (s : settingsFault (x .settings) (x .graph .mechanisms) (x .gammas) ≡ Done) where
   -- a good graph, good settings, lists that fit and the index order leave the syndrome
   tests-of : decodeListsFit edges x l ≡ true → OfShot (decodeFault edges (withOrder x (upto (x .graph .checks))) l)
   unfolding decodeFault decodeListsFit
   tests-of fits =
       past _ _ g
       (past _ _ s
-      (or-of _ _ (syndrome-of (x .graph .checks) (x .syndrome)) (past _ _ (fit-done _ fits) (none-of _ (index-passes (x .settings .schedule) (x .graph))))))
+      (or-of _ _ (syndrome-of (x .graph .checks) (x .syndrome))
+      (past _ _ (fit-done _ fits)
+      (none-of _
+      (sym (or-joined _ _ _)
+      ∙ or-second _ _ (index-passes (x .settings .schedule) (x .graph))
+      ∙ stores-done (x .settings) (x .graph .mechanisms) (x .gammas) (x .graph) s (passes-sound (x .graph) (told .is-graph)) (omega (arith, told .long .check-var)) legs-few)))))
+    where
+      told : GraphTold edges (x .prior) (x .graph)
+      told = graph-told edges (x .prior) (x .graph) g
 
   -- so a decode in index order is refused with 20, 21 or 30
   decoded-of : decodeListsFit edges x l ≡ true → (r : Refusal) → decode edges x l .answer ≡ Decoded.Refused r → isOfShot (numberOf r) ≡ true
@@ -187,5 +223,5 @@ shot-refused model q p r m s l e =
     let few = counts-fit c true (sym w) refl in
     let lists = modelRead model (modelRoom c) in
     let b = sparse-checked (c .edges) (lists .priors) (lists .detectorOffsets) (lists .detectors) (graphRoom c) (t .1) in
-    decoded-of (c .edges) _ (shotRoom c (lentNumbers 256 (c .mechanisms))) b (settings-good q _ s)
+    decoded-of (c .edges) _ (shotRoom c (lentNumbers 256 (c .mechanisms))) (few .2) l b (settings-good q _ s)
     (lists-fit _ c l (few .1) (few .2) (sparse-counts (c .edges) (lists .priors) (lists .detectorOffsets) (lists .detectors) (graphRoom c))) r (rw w at e)

@@ -7,6 +7,7 @@ use mathlib.Core.Option.{Option}
 use lib.Ieee.{Float}
 use Rattle.refusals.specs.declared.Answer.the-variants.{Done}
 use Rattle.graph_lists.specs.Graph.{Graph, graphOf, among}
+use Rattle.relay_stores.specs.Stores.{storesAt}
 use Rattle.relay_calls.specs.Calls.{summary}
 use Rattle.relay_laws.specs.BestOfLegs.{AreBits, Satisfies, Fails, BestOfLegs}
 use Rattle.stream_grammar.specs.Stream.{syndrome}
@@ -44,7 +45,10 @@ pub record LineHolds (shots : ℕ) (model settings p text : List ℕ) : Type 0 w
   pub some-leg : 1 ≤ legs
   pub legs-within : legs ≤ mostLegs settings
   pub legs-ran : legs ≤ total
-  -- and there are a weight and leg lists, which the decode left and `shots` does not write, of which the bits are the best
+  -- and there are a weight, a number of stores and leg lists, which the decode left and `shots` does not write: the stores are the formula at the total, and the bits
+  -- are the best of the legs
+  pub stores : ℕ
+  pub by-formula : stores ≡ storesAt (settingsRead settings .schedule) (modelGraph model) total
   pub weight : Option Float
   pub legState : List ℕ
   pub legIterations : List ℕ
@@ -56,7 +60,7 @@ pub record LineHolds (shots : ℕ) (model settings p text : List ℕ) : Type 0 w
         prior = modelPriors model;
         syndrome = syndrome p;
         legs = mostLegs settings;
-        said = summary Done converged legs total weight;
+        said = summary Done converged legs total stores weight;
         legState = legState;
         legIterations = legIterations;
         legWeight = legWeight;

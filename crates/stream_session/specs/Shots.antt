@@ -69,8 +69,8 @@ finds s converged total legs bits line = says s (unlessTooLong bits (shotLine (s
 
 -- what a decode answered, with its correction
 abbrev pub answers : Session → Decoded → List ℕ → List ℕ → Told
-answers s (Decoded.Converged legs total weight) bits line = finds s true total legs bits line
-answers s (Decoded.NotConverged legs total) bits line = finds s false total legs bits line
+answers s (Decoded.Converged legs total stores weight) bits line = finds s true total legs bits line
+answers s (Decoded.NotConverged legs total stores) bits line = finds s false total legs bits line
 answers s (Decoded.Refused r) bits line = refuses s r line
 
 -- a shot's answer and its correction

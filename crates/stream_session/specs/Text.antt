@@ -75,8 +75,8 @@ lineSaid h line = said line (some (heard (h .model) (h .settings) ((h .shots + 1
 
 -- a shot, which the decode answers so, with these bits
 abbrev pub shotSaid : Heard → ℕ → Decoded → List ℕ → Said
-shotSaid h offset (Decoded.Converged legs total weight) bits = lineSaid h (unlessTooLong bits (shotLine (h .shots) true total legs bits))
-shotSaid h offset (Decoded.NotConverged legs total) bits = lineSaid h (unlessTooLong bits (shotLine (h .shots) false total legs bits))
+shotSaid h offset (Decoded.Converged legs total stores weight) bits = lineSaid h (unlessTooLong bits (shotLine (h .shots) true total legs bits))
+shotSaid h offset (Decoded.NotConverged legs total stores) bits = lineSaid h (unlessTooLong bits (shotLine (h .shots) false total legs bits))
 shotSaid h offset (Decoded.Refused r) bits = cond (isOfShot (numberOf r)) (lineSaid h (refusedLine (h .shots) (numberOf r))) (endsRun offset r)
 
 -- the decode of a shot over a model and settings, all by their payloads

@@ -104,11 +104,13 @@ pub(crate) fn answered(s: Session, d: Decoded, bits: &[u8], line: &mut [u8; ROOM
         Decoded::Converged {
             executed_legs,
             total_iterations,
+            stores: _,
             weight: _,
         } => finds(s, true, total_iterations, executed_legs, bits, line),
         Decoded::NotConverged {
             executed_legs,
             total_iterations,
+            stores: _,
         } => finds(s, false, total_iterations, executed_legs, bits, line),
         Decoded::Refused(r) => refused(s, r, line),
     }
