@@ -28,6 +28,7 @@ struct Outcome {
     converged: u64,
     executed: usize,
     total: usize,
+    stores: u64,
     weight: f64,
 }
 
@@ -36,22 +37,26 @@ fn told(d: Decoded) -> Outcome {
         Decoded::Converged {
             executed_legs,
             total_iterations,
+            stores,
             weight,
         } => Outcome {
             answer: Answer::Done,
             converged: 1,
             executed: executed_legs,
             total: total_iterations,
+            stores: stores,
             weight: weight,
         },
         Decoded::NotConverged {
             executed_legs,
             total_iterations,
+            stores,
         } => Outcome {
             answer: Answer::Done,
             converged: 0,
             executed: executed_legs,
             total: total_iterations,
+            stores: stores,
             weight: 0.0,
         },
         Decoded::Refused(r) => Outcome {
@@ -59,6 +64,7 @@ fn told(d: Decoded) -> Outcome {
             converged: 0,
             executed: 0,
             total: 0,
+            stores: 0,
             weight: 0.0,
         },
     }
@@ -119,14 +125,15 @@ fn same_answer(line: &[u8], before: Same, t: Outcome) -> Same {
     let converged = word_at(line, before.next);
     let executed = word_at(line, converged.next);
     let total = word_at(line, executed.next);
-    let weight = word_at(line, total.next);
+    let stores = word_at(line, total.next);
+    let weight = word_at(line, stores.next);
     let found = both(
         converged.value == t.converged,
         same_float(float(weight.value), t.weight),
     );
     let counted = both(
         executed.value == t.executed as u64,
-        total.value == t.total as u64,
+        both(total.value == t.total as u64, stores.value == t.stores),
     );
     Same {
         same: both(before.same, both(found, counted)),
