@@ -1,5 +1,5 @@
-// Inner: how many messages the iterations of a decode write, by the formula, and test 29: `relay_decode` alone calls it, and
-// the comparison.
+// Inner: how many messages the iterations of a decode write, by the formula, and test 29: `relay_decode` alone calls it, and for the
+// comparison `exports_compare`.
 ghost use mathlib.Core.Path.{_≡_};
 ghost use mathlib.Core.List.{[]};
 ghost use Prim.Native.Nat.{_*_, _≤_};
