@@ -100,7 +100,7 @@ enum chowderkite_refusal {
     CHOWDERKITE_SEEDS_LENGTH = 26,         /* seeds of a block: not the number of shots */
     CHOWDERKITE_SHOT_TOO_LARGE = 27,       /* a shot's number too large for its draws */
     CHOWDERKITE_OBSERVABLE_TOO_LARGE = 28, /* 64 or above. Place: mechanism */
-    CHOWDERKITE_TOO_MANY_STORES = 29,      /* decode: a run of all iterations would write more messages than 64 bits count */
+    CHOWDERKITE_TOO_MANY_STORES = 29,      /* a decode's message stores could pass 2^64 - 1 */
     CHOWDERKITE_NON_FINITE = 30,           /* a posterior after a leg or a run of beliefs; single iteration: a
                                               posterior or message after it. Place: first mechanism that has one */
     CHOWDERKITE_CUT_RECORD = 40,           /* a stream that ends within a record */
@@ -353,7 +353,8 @@ uint64_t chowderkite_check_settings(
  * Message stores are the messages that the iterations wrote, into c_to_v and into v_to_c, each as often as it was written. What
  * starts a leg is not counted, and a posterior is no message. There are as many in every order: under Flooding total iterations
  * times twice the edges, under CheckSerial total iterations times the sum of the edges and all squared mechanism degrees. 29
- * refuses exactly if that, at pre_iterations + num_legs times leg_iterations, is above 2^64 - 1; only CheckSerial comes to it.
+ * refuses exactly where this formula, at pre_iterations + num_legs * leg_iterations in the place of total iterations, passes
+ * 2^64 - 1, which only CheckSerial's can.
  * What these results say of one another, so that a reader can hold a filed record to it, is docs/REFERENCE.md, "The best of
  * the legs".
  * Work: gamma and bias, mechanisms long; c_to_v and v_to_c, edges long. What leg lists and rows have beyond their least
