@@ -41,11 +41,18 @@ fn counted(run: impl FnOnce() -> Result<Decoded, Refusal>) -> Result<Decoded, Re
 
 /// How many messages one iteration writes by the reference's formula, which knows the detectors of each mechanism and runs nothing.
 pub fn by_formula(serial: bool, detectors: &[Vec<u32>]) -> u128 {
-    let degrees = || detectors.iter().map(|list| list.len() as u128);
-    let edges: u128 = degrees().sum();
-    if serial {
-        edges + degrees().map(|degree| degree * degree).sum::<u128>()
-    } else {
-        2 * edges
-    }
+    let degrees: Vec<usize> = detectors.iter().map(Vec::len).collect();
+    by_degrees(serial, &degrees)
+}
+
+/// The same by the degree of each mechanism.
+pub fn by_degrees(serial: bool, degrees: &[usize]) -> u128 {
+    let each = |degree: u128| {
+        if serial {
+            degree + degree * degree
+        } else {
+            2 * degree
+        }
+    };
+    degrees.iter().map(|&degree| each(degree as u128)).sum()
 }
