@@ -56,3 +56,73 @@ pub fn by_degrees(serial: bool, degrees: &[usize]) -> u128 {
     };
     degrees.iter().map(|&degree| each(degree as u128)).sum()
 }
+
+#[cfg(test)]
+mod tests {
+    use super::{by_degrees, by_formula, decode, decode_in_order, drive};
+    use crate::decode_cases::{DecodeCase, Settings};
+    use crate::exact;
+    use crate::model::Model;
+
+    fn case(serial: bool, pre_iterations: usize) -> DecodeCase {
+        DecodeCase {
+            model: Model::g(),
+            settings: Settings::plain(serial, pre_iterations),
+            syndrome: vec![1, 0],
+            seed: 0,
+        }
+    }
+
+    /// G has four edges, and mechanisms of degree 1, 2 and 1.
+    #[test]
+    fn of_g() {
+        assert_eq!(by_formula(false, &Model::g().detectors), 8);
+        assert_eq!(by_formula(true, &Model::g().detectors), 10);
+        for (serial, iterations, stores) in
+            [(false, 1, 8), (false, 2, 16), (true, 1, 10), (true, 2, 20)]
+        {
+            let case = case(serial, iterations);
+            let outcome = decode(&case).expect("a finite posterior");
+            assert_eq!((outcome.total, outcome.stores), (iterations, Some(stores)));
+            let exact = exact::drive::decode(&case).expect("a finite posterior");
+            assert_eq!(exact.stores, None);
+            assert!(exact.is_same(&outcome));
+        }
+    }
+
+    /// Legs add up, and what starts one is not counted.
+    #[test]
+    fn of_legs() {
+        for serial in [false, true] {
+            let mut case = case(serial, 1);
+            case.model.probabilities = vec![0.5; 3];
+            (case.settings.num_legs, case.settings.leg_iterations) = (3, 2);
+            case.syndrome = vec![1, 1];
+            let outcome = decode(&case).expect("a finite posterior");
+            assert_eq!((outcome.legs.len(), outcome.total), (4, 7));
+            let each = by_formula(serial, &case.model.detectors) as u64;
+            assert_eq!(outcome.stores, Some(7 * each));
+        }
+    }
+
+    /// The order of the reference's R6 and R7.
+    #[test]
+    fn in_an_order() {
+        let graph = || drive::sparse_graph(&Model::g()).expect("G builds");
+        let flooding = decode_in_order(graph(), &case(false, 2), &[1, 0]).expect("R7");
+        assert_eq!((flooding.total, flooding.stores), (2, Some(16)));
+        let serial = decode_in_order(graph(), &case(true, 2), &[1, 0]).expect("R6");
+        assert_eq!((serial.total, serial.stores), (1, Some(10)));
+        assert_eq!(serial.posterior, [-4.0, 4.0, 8.0]);
+    }
+
+    /// The limits of 29.
+    #[test]
+    fn of_hubs() {
+        let most = 65_535 + 65_535 * 65_535;
+        assert_eq!(most * by_degrees(true, &[65_536]), (1 << 64) - (1 << 32));
+        assert!(most * by_degrees(true, &[65_536, 1]) >= 1 << 64);
+        let each = by_degrees(true, &[65_536; 16]);
+        assert!(268_431_360 * each < 1 << 64 && 268_431_361 * each >= 1 << 64);
+    }
+}
