@@ -58,6 +58,10 @@ pub const PARTS: &[Part] = &[
         rate: Rate::Every(200),
         case: limits::drawn,
     },
+    Part {
+        rate: Rate::First(1),
+        case: limits::at_the_limit,
+    },
 ];
 
 fn small(case: u64, random: &mut SplitMix64, counts: &mut Counts) {
@@ -130,7 +134,7 @@ pub fn settings_of(case: &CaseSettings) -> Settings {
 }
 
 /// The other way round, of settings that were taken with their gammas.
-fn case_of(settings: Settings, gammas: &[f64], mechanisms: usize) -> CaseSettings {
+pub fn case_of(settings: Settings, gammas: &[f64], mechanisms: usize) -> CaseSettings {
     let set = |number: usize| gammas[number * mechanisms..(number + 1) * mechanisms].to_vec();
     CaseSettings {
         serial: settings.serial,
@@ -149,7 +153,7 @@ fn case_of(settings: Settings, gammas: &[f64], mechanisms: usize) -> CaseSetting
     }
 }
 
-pub fn flat_of(case: &CaseSettings) -> Vec<f64> {
+fn flat_of(case: &CaseSettings) -> Vec<f64> {
     match &case.source {
         Source::Seeded => Vec::new(),
         Source::Explicit(sets) => sets.concat(),
@@ -250,20 +254,21 @@ fn legs_read(left: &Decode, legs: usize) -> bool {
     })
 }
 
-/// Counts whether an answered decode has written as many messages as the copy that counts them, if that came to the same iterations, and as
-/// many as the formula says.
+/// Counts whether an answered decode has written as many messages as the copy that counts them, in as many iterations, and as many as the
+/// formula says. Where the Rust's outcome is at hand, that copy must have come to it.
 pub fn check_stores(
     name: &'static str,
     (serial, detectors): (bool, &[Vec<u32>]),
-    counted: &Result<Decoded, Refusal>,
+    (counted, rust): (&Result<Decoded, Refusal>, Option<&Decoded>),
     left: &Decode,
     counts: &mut Counts,
 ) {
     let [_, _, total, stores] = left.counts;
     let by_formula = u128::from(total) * stores::by_formula(serial, detectors);
-    let as_counted = counted
-        .as_ref()
-        .is_ok_and(|counted| (counted.total as u64, counted.stores) == (total, Some(stores)));
+    let as_counted = counted.as_ref().is_ok_and(|counted| {
+        (counted.total as u64, counted.stores) == (total, Some(stores))
+            && rust.is_none_or(|rust| counted.is_same(rust))
+    });
     let good = as_counted && u128::from(stores) == by_formula;
     counts.check(name, Ok(()), good, || {
         format!("{stores} for {by_formula} and {counted:?}: serial {serial}, {detectors:?}")
@@ -330,8 +335,9 @@ pub fn compare_over(
         built == Ok(()) && answer == wanted && bits(&left) == wanted_bits && legs_read(&left, legs),
         || format!("{answer:?}, {left:?} for {rust:?}, {counted:?}: {case:?}"),
     );
+    let theirs = rust.as_ref().ok();
     if answer == Ok(()) {
-        check_stores(written, incidences, &counted, &left, counts);
+        check_stores(written, incidences, (&counted, theirs), &left, counts);
     }
     let asked = Asked {
         detectors: &case.model.detectors,
@@ -362,7 +368,7 @@ pub fn compare_over(
         }
         if (refused, in_order) == (Ok(()), Ok(())) {
             let counted = stores::decode_in_order(graph.clone(), case, &order);
-            check_stores(written, incidences, &counted, &left, counts);
+            check_stores(written, incidences, (&counted, theirs), &left, counts);
         }
     }
 }
@@ -675,7 +681,7 @@ fn damaged(_: u64, random: &mut SplitMix64, counts: &mut Counts) {
         let counted = count_again(&given, &detectors, settings, shot);
         let incidences = (settings.serial, detectors.as_slice());
         let name = "stores of damaged decodes";
-        check_stores(name, incidences, &counted, &left, counts);
+        check_stores(name, incidences, (&counted, None), &left, counts);
     }
 }
 

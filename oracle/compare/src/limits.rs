@@ -1,12 +1,12 @@
 //! Test 29 at its limit. A decode comes near it by mechanisms of thousands of detectors and by hundreds of millions of iterations, and by
-//! CheckSerial alone. One that is refused is asked for by its own call, which answers before any work; of one that is not, which would not
-//! end, the test alone is asked.
+//! CheckSerial alone. One that is refused is asked for by its own call, which answers before any work; of one that is not, the test alone is
+//! asked, since even a single iteration takes seconds. One is decoded all the same.
 
 use crate::counts::Counts;
-use crate::decodes::{bits, check_stores, flat_of, settings_of};
+use crate::decodes::{bits, case_of, check_stores, settings_of};
 use crate::given::Given;
 use crate::table::{MOST_COUNT, MOST_EDGES, MOST_TURNS, most_iterations, wanted_stores};
-use oracle::decode_cases::{DecodeCase, Settings as CaseSettings, Source};
+use oracle::decode_cases::{DecodeCase, Settings as CaseSettings};
 use oracle::model::Model;
 use oracle::splitmix::SplitMix64;
 use oracle::stores;
@@ -123,20 +123,27 @@ fn ask(model: &Model, settings: Settings, random: &mut SplitMix64, counts: &mut 
     if wanted.is_err() {
         refused(&lent, settings, wanted, random, counts);
     }
-    let case = DecodeCase {
-        model: model.clone(),
-        settings: CaseSettings {
-            serial: false,
-            pre_iterations: settings.pre_iterations,
-            num_legs: settings.num_legs,
-            leg_iterations: settings.leg_iterations,
-            source: Source::Explicit(vec![vec![0.5; model.mechanisms()]]),
-            ..CaseSettings::default_point()
-        },
-        syndrome: lent.syndrome.clone(),
-        seed: random.draw(),
+    let flooding = Settings {
+        serial: false,
+        ..settings
     };
-    flooding(&lent, &case, counts);
+    let names = [
+        "decodes, of many iterations",
+        "stores of decodes of many iterations",
+    ];
+    taken(names, &lent, model, flooding, counts);
+}
+
+/// The first of the fixed ones as it is, which 29 lets through: 65,536 times 65,537 messages in the iteration at which it converges.
+pub fn at_the_limit(_: u64, random: &mut SplitMix64, counts: &mut Counts) {
+    let model = model_of(MOST_COUNT, &[MOST_COUNT]);
+    let lent = Lent::of(&model, random);
+    let settings = settings(MOST_TURNS, MOST_TURNS, MOST_TURNS);
+    let names = [
+        "decodes, at the limit of 29",
+        "stores of the decode at the limit of 29",
+    ];
+    taken(names, &lent, &model, settings, counts);
 }
 
 /// A graph, what its building was answered, and a syndrome that the first iteration has.
@@ -251,28 +258,37 @@ fn refused(
     }
 }
 
-/// The same decode under Flooding, which is taken, and converges at once.
-fn flooding(lent: &Lent, case: &DecodeCase, counts: &mut Counts) {
-    let (settings, gammas) = (settings_of(&case.settings), flat_of(&case.settings));
-    let mut left = Decode::filled(lent.given.size, settings.num_legs + 1, 9);
+/// A decode that is taken, and converges in its first iteration.
+fn taken(
+    [name, written]: [&'static str; 2],
+    lent: &Lent,
+    model: &Model,
+    settings: Settings,
+    counts: &mut Counts,
+) {
+    let gammas = vec![0.5; model.mechanisms()];
+    let settings = Settings {
+        sets: Some(1),
+        ..settings
+    };
     let shot = Shot {
         gammas: &gammas,
-        syndrome: &case.syndrome,
-        seed: case.seed,
+        syndrome: &lent.syndrome,
+        seed: 1,
         order: None,
     };
+    let mut left = Decode::filled(lent.given.size, settings.num_legs + 1, 9);
     let answer = lent.given.decode(settings, shot, &mut left);
     let good = lent.built == Ok(()) && answer == Ok(()) && left.counts[..3] == [1, 1, 1];
-    counts.check("decodes, of many stores, Flooding", Ok(()), good, || {
+    counts.check(name, Ok(()), good, || {
         format!("{answer:?}, {:?}: {settings:?}", left.counts)
     });
-    let incidences = (false, case.model.detectors.as_slice());
-    let counted = stores::decode(case);
-    check_stores(
-        "stores of decodes of many stores",
-        incidences,
-        &counted,
-        &left,
-        counts,
-    );
+    let counted = stores::decode(&DecodeCase {
+        model: model.clone(),
+        settings: case_of(settings, &gammas, model.mechanisms()),
+        syndrome: lent.syndrome.clone(),
+        seed: shot.seed,
+    });
+    let incidences = (settings.serial, model.detectors.as_slice());
+    check_stores(written, incidences, (&counted, None), &left, counts);
 }
