@@ -8,6 +8,7 @@ use oracle::decode_cases::{Settings as CaseSettings, Source};
 use oracle::exact::bp::RelayBp;
 use oracle::exact::drive;
 use oracle::splitmix::SplitMix64;
+use oracle::stores::by_formula;
 use proved::{Decode, Settings, Shot};
 use std::hint::black_box;
 
@@ -111,6 +112,7 @@ fn decodes(edges: usize, serial: bool, way: Way) -> Row {
     // Both alike, before they are timed.
     let mut total = 0;
     let mut converged = 0;
+    let each = by_formula(serial, &sized.model.detectors);
     for syndrome in &syndromes {
         let theirs = decoder.decode(syndrome, 1).expect("a finite posterior");
         let shot = shot(syndrome);
@@ -118,7 +120,9 @@ fn decodes(edges: usize, serial: bool, way: Way) -> Row {
         assert_eq!(answer, Ok(()));
         assert_eq!(bits(&theirs.posterior), bits(&ours.posterior));
         assert_eq!(theirs.correction, ours.correction);
-        assert_eq!(theirs.total_iterations as u64, ours.counts[2]);
+        let [_, _, iterations, stores] = ours.counts;
+        assert_eq!(theirs.total_iterations as u64, iterations);
+        assert_eq!(u128::from(iterations) * each, u128::from(stores));
         total += theirs.total_iterations;
         converged += usize::from(theirs.converged);
     }

@@ -49,7 +49,7 @@ extern "C" {
 
 /* ---- the version: raised whenever a call, a list or a code changes its meaning */
 
-#define CHOWDERKITE_VERSION 2
+#define CHOWDERKITE_VERSION 3
 
 /* The version of the archive that is linked. Where it is not CHOWDERKITE_VERSION, this header is another archive's. */
 uint64_t chowderkite_version(void);
@@ -65,7 +65,7 @@ uint64_t chowderkite_version(void);
 #define CHOWDERKITE_MAX_PRIOR 30.0
 
 /* ---- codes: 0 where nothing is refused, else the refusal's number plus 65536 times its place. A code keeps the place modulo
- * 2^32; only those of chowderkite_prior_of and chowderkite_priors_of can reach that. No call gives 9, 26 to 29, or any from
+ * 2^32; only those of chowderkite_prior_of and chowderkite_priors_of can reach that. No call gives 9, 26 to 28, or any from
  * 46 on: they are kept for calls to come. */
 
 enum chowderkite_refusal {
@@ -100,7 +100,7 @@ enum chowderkite_refusal {
     CHOWDERKITE_SEEDS_LENGTH = 26,         /* seeds of a block: not the number of shots */
     CHOWDERKITE_SHOT_TOO_LARGE = 27,       /* a shot's number too large for its draws */
     CHOWDERKITE_OBSERVABLE_TOO_LARGE = 28, /* 64 or above. Place: mechanism */
-    CHOWDERKITE_TOO_MANY_STORES = 29,      /* more message stores than 64 bits count */
+    CHOWDERKITE_TOO_MANY_STORES = 29,      /* a decode's message stores could pass 2^64 - 1 */
     CHOWDERKITE_NON_FINITE = 30,           /* a posterior after a leg or a run of beliefs; single iteration: a
                                               posterior or message after it. Place: first mechanism that has one */
     CHOWDERKITE_CUT_RECORD = 40,           /* a stream that ends within a record */
@@ -348,14 +348,19 @@ uint64_t chowderkite_check_settings(
  *   correction    mechanisms: the bits of least weight, of the earlier leg on ties; the last hard decision if none
  *                 converged
  *   posterior     mechanisms: at the end of the last leg
- *   counts        converged (1 or 0), executed legs, total iterations
+ *   counts        converged (1 or 0), executed legs, total iterations, message stores
  *   weight        the correction's, positive zero if none converged
+ * Message stores are the messages that the iterations wrote, into c_to_v and into v_to_c, each as often as it was written. What
+ * starts a leg is not counted, and a posterior is no message. There are as many in every order: under Flooding total iterations
+ * times twice the edges, under CheckSerial total iterations times the sum of the edges and all squared mechanism degrees. 29
+ * refuses exactly where this formula, at pre_iterations + num_legs * leg_iterations in the place of total iterations, passes
+ * 2^64 - 1, which only CheckSerial's can.
  * What these results say of one another, so that a reader can hold a filed record to it, is docs/REFERENCE.md, "The best of
  * the legs".
  * Work: gamma and bias, mechanisms long; c_to_v and v_to_c, edges long. What leg lists and rows have beyond their least
  * length is kept.
  *
- * Refuses with 1, 2, 4, 7, 10 to 22, 30. Refusal 30 leaves zeroes in all results, floats positive. */
+ * Refuses with 1, 2, 4, 7, 10 to 22, 29, 30. Refusal 30 leaves zeroes in all results, floats positive. */
 uint64_t chowderkite_decode(
     size_t checks,
     size_t mechanisms,
@@ -390,12 +395,12 @@ uint64_t chowderkite_decode(
     double *bias, size_t bias_len,
     double *c_to_v, size_t c_to_v_len,
     double *v_to_c, size_t v_to_c_len,
-    uint64_t counts[3],
+    uint64_t counts[4],
     double weight[1]);
 
 /* As chowderkite_decode, the checks in the order that is handed in: order names each check once (23). Under CheckSerial it
- * also keeps the index order of any two checks that share a mechanism (24). An order that passes changes no bit of any
- * result. */
+ * also keeps the index order of any two checks that share a mechanism (24). Both are tested after 22 and before 29. An order
+ * that passes changes no bit of any result, the message stores among them. */
 uint64_t chowderkite_decode_in_order(
     size_t checks,
     size_t mechanisms,
@@ -431,7 +436,7 @@ uint64_t chowderkite_decode_in_order(
     double *bias, size_t bias_len,
     double *c_to_v, size_t c_to_v_len,
     double *v_to_c, size_t v_to_c_len,
-    uint64_t counts[3],
+    uint64_t counts[4],
     double weight[1]);
 
 #define CHOWDERKITE_NOT_EXECUTED 0

@@ -40,7 +40,7 @@ typedef struct {
     uint8_t leg_state[LEGS], rows[LEGS * MECHANISMS], correction[MECHANISMS];
     uint32_t leg_steps[LEGS];
     double leg_weight[LEGS], posterior[MECHANISMS], weight[1];
-    uint64_t counts[3];
+    uint64_t counts[4];
     double gamma[MECHANISMS], bias[MECHANISMS], c_to_v[EDGES], v_to_c[EDGES]; /* for work */
 } decoded;
 
@@ -99,10 +99,11 @@ static void expect(const char *what, int good) {
     }
 }
 
-static int is_converged_as_r3(const decoded *d) {
+/* Both schedules come to this, in two iterations that write so many messages. */
+static int is_converged_as_r3(const decoded *d, uint64_t stores) {
     const double posterior[MECHANISMS] = {-4.0, 4.0, 4.0}, weight = 4.0;
     const uint8_t bits[MECHANISMS] = {1, 0, 0};
-    const uint64_t counts[3] = {1, 1, 2};
+    const uint64_t counts[4] = {1, 1, 2, stores};
     uint64_t iterations[1];
     double leg_weight[1];
     const uint64_t state =
@@ -206,22 +207,29 @@ int main(void) {
         expect("R8: min-sum beliefs 0,4,8", code == CHOWDERKITE_DONE && memcmp(posterior, wanted, sizeof wanted) == 0);
     }
 
-    /* R3, R7 and R6 */
+    /* R3, R4, R7 and R6. An iteration writes the checks' messages, one for each edge. Flooding then writes the mechanisms'
+     * messages once; CheckSerial writes all of a mechanism's for each of its edges: of degrees 1, 2 and 1, that is 1 + 4 + 1. */
     {
+        const uint64_t flooding = 2 * (2 * EDGES), serial = 2 * (EDGES + 1 + 4 + 1);
         const uint32_t exchanged[CHECKS] = {1, 0};
         decoded d, before;
         uint64_t code;
 
         memset(&d, 9, sizeof d);
         code = decode(&g, CHOWDERKITE_FLOODING, NULL, &d);
-        printf("bits %d%d%d, weight %g, %u iterations\n", d.correction[0], d.correction[1], d.correction[2], d.weight[0],
-               (unsigned)d.counts[2]);
-        expect("R3: Flooding, converged at 2, bits 100, weight 4, posterior -4,4,4",
-               code == CHOWDERKITE_DONE && is_converged_as_r3(&d));
+        printf("bits %d%d%d, weight %g, %u iterations, %u message stores\n", d.correction[0], d.correction[1],
+               d.correction[2], d.weight[0], (unsigned)d.counts[2], (unsigned)d.counts[3]);
+        expect("R3: Flooding, converged at 2, bits 100, weight 4, posterior -4,4,4; 16 message stores",
+               code == CHOWDERKITE_DONE && flooding == 16 && is_converged_as_r3(&d, flooding));
+
+        memset(&d, 9, sizeof d);
+        code = decode(&g, CHOWDERKITE_CHECK_SERIAL, NULL, &d);
+        expect("R4: CheckSerial, as R3; 20 message stores",
+               code == CHOWDERKITE_DONE && serial == 20 && is_converged_as_r3(&d, serial));
 
         memset(&d, 9, sizeof d);
         code = decode(&g, CHOWDERKITE_FLOODING, exchanged, &d);
-        expect("R7: Flooding in order 1,0, as R3", code == CHOWDERKITE_DONE && is_converged_as_r3(&d));
+        expect("R7: Flooding in order 1,0, as R3", code == CHOWDERKITE_DONE && is_converged_as_r3(&d, flooding));
 
         memset(&d, 9, sizeof d);
         memcpy(&before, &d, sizeof d);

@@ -1,5 +1,6 @@
 //! What the Rust answers, in the reference's numbers, whichever copy of the files gave it.
 
+use crate::bits::bits;
 use crate::line::Line;
 use pecos_decoder_core::errors::DecoderError;
 
@@ -39,6 +40,8 @@ pub struct Leg {
 pub struct Decoded {
     pub weight: Option<f64>,
     pub total: usize,
+    /// The messages that its iterations wrote; none of a copy that does not count them.
+    pub stores: Option<u64>,
     pub legs: Vec<Leg>,
     pub correction: Vec<u8>,
     pub posterior: Vec<f64>,
@@ -95,10 +98,33 @@ fn pairs(flat: &[usize]) -> (Vec<usize>, Vec<usize>) {
 }
 
 impl Decoded {
+    /// Whether two copies came to the same, bit for bit, whatever they counted.
+    pub fn is_same(&self, other: &Self) -> bool {
+        let counts = |one: &Self| (one.total, one.weight.map(f64::to_bits));
+        let legs = |one: &Self| -> Vec<_> {
+            let legs = one.legs.iter();
+            legs.map(|leg| {
+                let found = leg.found.as_ref();
+                let found =
+                    found.map(|(weight, correction)| (weight.to_bits(), correction.clone()));
+                (leg.iterations, found)
+            })
+            .collect()
+        };
+        counts(self) == counts(other)
+            && legs(self) == legs(other)
+            && self.correction == other.correction
+            && bits(&self.posterior) == bits(&other.posterior)
+    }
+
+    /// # Panics
+    ///
+    /// If the messages were not counted.
     pub fn write(&self, line: &mut Line) {
         line.count(usize::from(self.weight.is_some()));
         line.count(self.legs.len());
         line.count(self.total);
+        line.number(self.stores.expect("the messages were counted"));
         line.float(self.weight.unwrap_or(0.0));
         for leg in &self.legs {
             line.count(if leg.found.is_some() { 2 } else { 1 });

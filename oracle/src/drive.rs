@@ -1,12 +1,15 @@
 //! Runs one case on the Rust. This file is mounted once for each copy of the published files
-//! (`super::bp`), so that both are driven by the same text.
+//! (`super::bp`), so that all are driven by the same text.
 
-use super::bp::{BpGraph, BpScratch, RelayBp, RelayConfig, Schedule, min_sum_bp_into};
+use super::bp::{
+    BpGraph, BpScratch, RelayBp, RelayConfig, RelayOutcome, Schedule, min_sum_bp_into,
+};
 use crate::answers::{Decoded, GraphLists, Leg, Refusal, refusal};
 use crate::belief_cases::BeliefCase;
 use crate::decode_cases::{DecodeCase, Settings};
 use crate::graph_cases::{GraphCase, Incidence};
 use crate::model::Model;
+use crate::stores;
 use pecos_decoder_core::dem::{DemCheckMatrix, Matrix};
 use pecos_decoder_core::errors::DecoderError;
 
@@ -96,13 +99,24 @@ pub fn decode(case: &DecodeCase) -> Result<Decoded, Refusal> {
 
 /// The same over a graph that is handed in.
 pub fn decode_over(graph: BpGraph, case: &DecodeCase) -> Result<Decoded, Refusal> {
+    decode_by(graph, case, |decoder| {
+        decoder.decode(&case.syndrome, case.seed)
+    })
+}
+
+/// The same by some call of the decoder.
+pub fn decode_by(
+    graph: BpGraph,
+    case: &DecodeCase,
+    decode: impl FnOnce(&mut RelayBp) -> Result<RelayOutcome, DecoderError>,
+) -> Result<Decoded, Refusal> {
     let mechanisms = case.model.mechanisms();
     let number = |error: DecoderError| refusal(&error, mechanisms);
     let config = config(&case.settings, case.explicit_sets());
     let mut decoder = RelayBp::new(graph, config).map_err(number)?;
     assert_eq!(decoder.graph().mechanism_count(), mechanisms);
     assert_eq!(decoder.config().num_legs, case.settings.num_legs);
-    let outcome = decoder.decode(&case.syndrome, case.seed).map_err(number)?;
+    let outcome = decode(&mut decoder).map_err(number)?;
     assert_eq!(outcome.converged, outcome.weight.is_some());
     let legs = outcome.legs.into_iter().map(|leg| {
         assert_eq!(leg.converged, leg.weight.is_some());
@@ -114,6 +128,7 @@ pub fn decode_over(graph: BpGraph, case: &DecodeCase) -> Result<Decoded, Refusal
     Ok(Decoded {
         weight: outcome.weight,
         total: outcome.total_iterations,
+        stores: None,
         legs: legs.collect(),
         correction: outcome.correction,
         posterior: outcome.posterior,
@@ -130,7 +145,11 @@ pub fn belief_line(case: &BeliefCase) -> String {
     case.line(&priors(&case.model.probabilities), &beliefs(case))
 }
 
-/// The case's line, with this copy's answer.
+/// The case's line, with this copy's answer, and beside it the messages that were written, which one copy alone counts.
 pub fn decode_line(case: &DecodeCase) -> String {
-    case.line(&priors(&case.model.probabilities), &decode(case))
+    let answer = decode(case).map(|outcome| Decoded {
+        stores: stores::decode(case).ok().and_then(|same| same.stores),
+        ..outcome
+    });
+    case.line(&priors(&case.model.probabilities), &answer)
 }

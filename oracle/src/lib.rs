@@ -19,5 +19,6 @@ pub mod model;
 pub mod open;
 pub mod runs;
 pub mod splitmix;
+pub mod stores;
 pub mod tally;
 pub mod toolchain;

@@ -8,6 +8,7 @@ use crate::counted::bp::count::{NanSign, read_nan_sign};
 use crate::decode_cases::{self, DecodeCase};
 use crate::exact::drive;
 use crate::graph_cases::{self, GraphCase};
+use crate::stores;
 use crate::tally::Tally;
 use std::collections::BTreeMap;
 use std::path::PathBuf;
@@ -94,6 +95,7 @@ pub fn run(tally: &mut Tally) {
     made_for_a_nan_sign(tally);
     let decodes = decode_cases::cases();
     order_of_tests(tally);
+    counted_messages(tally, &decodes);
     features(tally, &beliefs.kept, &decodes);
     let lines = [
         list("graphs", graphs.iter().map(drive::graph_line)),
@@ -164,6 +166,39 @@ fn order_of_tests(tally: &mut Tally) {
         "decodes: tests in rising number",
         equal == spoiled.len(),
         &format!("{equal} of {} spoiled cases", spoiled.len()),
+    );
+}
+
+/// The copy that counts messages must answer as the published files do, and count what the formula says.
+fn counted_messages(tally: &mut Tally, decodes: &[DecodeCase]) {
+    let pairs: Vec<_> = decodes
+        .iter()
+        .map(|case| (case, drive::decode(case), stores::decode(case)))
+        .collect();
+    let alike = pairs.iter().filter(|(_, one, other)| match (one, other) {
+        (Ok(one), Ok(other)) => one.is_same(other),
+        (Err(one), Err(other)) => one == other,
+        _ => false,
+    });
+    let alike = alike.count();
+    tally.check(
+        "decodes on the copy that counts messages",
+        alike == decodes.len(),
+        &format!("{alike} of {} equal", decodes.len()),
+    );
+    let answered: Vec<_> = pairs
+        .iter()
+        .filter_map(|(case, _, counted)| Some((case, counted.as_ref().ok()?)))
+        .collect();
+    let formula = |(case, outcome): &&(&&DecodeCase, &Decoded)| {
+        let each = stores::by_formula(case.settings.serial, &case.model.detectors);
+        outcome.stores.map(u128::from) == Some(outcome.total as u128 * each)
+    };
+    let equal = answered.iter().filter(formula).count();
+    tally.check(
+        "decodes: messages written, by the formula",
+        equal == answered.len() && equal > 0,
+        &format!("{equal} of {} answered ones", answered.len()),
     );
 }
 

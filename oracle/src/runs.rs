@@ -8,6 +8,7 @@ use crate::exact::drive;
 use crate::graph_cases::GraphCase;
 use crate::model::{Model, find_probability};
 use crate::splitmix::SplitMix64;
+use crate::stores;
 use crate::tally::Tally;
 
 pub fn run(tally: &mut Tally) {
@@ -91,6 +92,9 @@ fn decode_check(
         seed: 0,
     };
     let seen = drive::decode(&case).expect("a small run is not refused");
+    let counted = stores::decode(&case).expect("a small run is not refused");
+    let stores = counted.stores.unwrap_or(u64::MAX);
+    let each = stores::by_formula(case.settings.serial, &case.model.detectors);
     let converged_at = seen.legs[0].found.as_ref().map(|_| seen.legs[0].iterations);
     let weight_bits = |weight: Option<f64>| weight.map(f64::to_bits);
     let holds = converged_at == wanted.converged_at
@@ -98,12 +102,14 @@ fn decode_check(
         && seen.legs.len() == 1
         && weight_bits(seen.weight) == weight_bits(wanted.weight)
         && same(&seen.posterior, wanted.posterior)
-        && seen.correction == wanted.bits;
+        && seen.correction == wanted.bits
+        && seen.is_same(&counted)
+        && u128::from(stores) == wanted.iterations as u128 * each;
     tally.check(
         name,
         holds,
         &format!(
-            "converged at {converged_at:?} of {} iterations, weight {:?}, posterior {:?}, bits {:?}",
+            "converged at {converged_at:?} of {} iterations, weight {:?}, posterior {:?}, bits {:?}, {stores} messages written",
             seen.total, seen.weight, seen.posterior, seen.correction
         ),
     );

@@ -81,10 +81,11 @@ fn main() -> Result<(), Error> {
             None => String::from("not converged"),
         };
         println!(
-            "shot {shot}: syndrome {}, correction {}, {found}, iterations {}, {}",
+            "shot {shot}: syndrome {}, correction {}, {found}, iterations {}, messages written {}, {}",
             shown(&syndrome),
             shown(&outcome.correction),
             outcome.total_iterations,
+            outcome.stores,
             if is_right { "right" } else { "wrong" },
         );
     }

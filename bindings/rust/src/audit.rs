@@ -249,8 +249,8 @@ impl RelayOutcome {
     /// - That a bit is turned in a correction that did not converge, if a check still fails: any bits that fail one may be the last
     ///   hard decision.
     ///
-    /// Nor whose the iterations of the total are, nor whether a record was made up whole, and well. The posterior is not looked at.
-    /// To tell these, decode again: a key has but one record.
+    /// Nor whose the iterations of the total are, nor whether a record was made up whole, and well. Neither the posterior nor
+    /// [`stores`](Self::stores) is looked at. To tell these, decode again: a key has but one record.
     ///
     /// # Errors
     ///

@@ -8,7 +8,7 @@ macro_rules! refusals {
         /// Why a call refused, with its number.
         ///
         /// All refusals of the project are here. 40 to 45 belong to record streams, where [`Shots`](crate::Shots) says them in a
-        /// line and no call answers them; 9, 26 to 29 and those from 46 on are kept for calls to come.
+        /// line and no call answers them; 9, 26 to 28 and those from 46 on are kept for calls to come.
         ///
         /// ```
         /// use chowderkite::Refusal;
@@ -91,7 +91,9 @@ refusals! {
     SeedsLength = 26, "block of shots: seed list length not the shot count";
     ShotTooLarge = 27, "shot number too large for its draws";
     ObservableTooLarge = 28, "observable number 64 or above", at "mechanism";
-    TooManyStores = 29, "message stores above what 64 bits count";
+    /// They are [`RelayOutcome::stores`](crate::RelayOutcome::stores), by its formula, at `pre_iterations` plus `num_legs` times
+    /// `leg_iterations`.
+    TooManyStores = 29, "a decode's message stores could pass 2^64 - 1";
     /// It is the first mechanism that has one.
     NonFinite = 30,
         "non-finite posterior after a leg or min-sum run; single iteration: non-finite posterior or message after it",

@@ -33,6 +33,7 @@
 //! assert_eq!(outcome.correction, [1, 0, 0]);
 //! assert_eq!(outcome.weight, Some(prior));
 //! assert_eq!(outcome.total_iterations, 2);
+//! assert_eq!(outcome.stores, 16); // each iteration wrote a message both ways along each of four edges
 //! # Ok::<(), chowderkite::Error>(())
 //! ```
 //!
@@ -84,6 +85,7 @@
 //! | `RelayConfig::explicit_gammas` | [`GammaSource::Explicit`], flat, in [`RelayConfig::gamma_source`] |
 //! | gammas drawn by PECOS's generator | SplitMix64: other gammas for the same seed; [`GammaSource::drawn`] hands them out |
 //! | `RelayOutcome::legs` has executed legs | it has all; the first [`RelayOutcome::executed_legs`] were executed |
+//! | messages are not counted | [`RelayOutcome::stores`] |
 //! | sizes up to `u32` | [`MAX_CHECKS`], [`MAX_MECHANISMS`], [`MAX_EDGES`], [`MAX_COUNT`] |
 //! | checks in index order | [`RelayBp::decode_in_order`] and [`iteration()`] take others |
 //!

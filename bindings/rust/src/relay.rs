@@ -253,6 +253,26 @@ pub struct RelayOutcome {
     pub executed_legs: usize,
     /// The iterations of all legs together.
     pub total_iterations: usize,
+    /// The messages that these iterations wrote, those of the checks and those of the mechanisms together, each as often as it was
+    /// written: what the decode cost, the same on every machine.
+    ///
+    /// Under [`Schedule::Flooding`] it is `total_iterations` times twice the edges. Under [`Schedule::CheckSerial`] it is
+    /// `total_iterations` times the sum of the edges and of all squared mechanism degrees, since a mechanism writes all its messages
+    /// after each of its checks. No order changes it. What starts a leg is not counted, and a posterior is no message.
+    ///
+    /// ```
+    /// use chowderkite::{BpGraph, RelayBp, RelayConfig, Schedule};
+    ///
+    /// // Four edges; the mechanisms have the degrees 1, 2 and 1.
+    /// let graph = BpGraph::from_sparse(2, &[(4.0, vec![0]), (4.0, vec![0, 1]), (4.0, vec![1])])?;
+    /// for (schedule, each) in [(Schedule::Flooding, 2 * 4), (Schedule::CheckSerial, 4 + (1 + 4 + 1))] {
+    ///     let config = RelayConfig { schedule, ..RelayConfig::default() };
+    ///     let outcome = RelayBp::new(graph.clone(), config)?.decode(&[1, 0], 7)?;
+    ///     assert_eq!(outcome.stores, outcome.total_iterations as u64 * each);
+    /// }
+    /// # Ok::<(), chowderkite::Error>(())
+    /// ```
+    pub stores: u64,
 }
 
 /// What a decode's lists say of a leg.
@@ -275,7 +295,7 @@ fn leg_of(lists: &DecodeLists, leg: usize) -> LegOutcome {
 
 /// What they say of the decode.
 fn outcome_of(lists: &DecodeLists) -> RelayOutcome {
-    let [converged, executed_legs, total_iterations] = lists.counts;
+    let [converged, executed_legs, total_iterations, stores] = lists.counts;
     let converged = converged == 1;
     RelayOutcome {
         converged,
@@ -287,6 +307,7 @@ fn outcome_of(lists: &DecodeLists) -> RelayOutcome {
             .collect(),
         executed_legs: executed_legs as usize,
         total_iterations: total_iterations as usize,
+        stores,
     }
 }
 
@@ -333,7 +354,7 @@ impl RelayBp {
     ///
     /// # Errors
     ///
-    /// 20, 21, 30.
+    /// 20, 21, 29, 30.
     pub fn decode(&mut self, syndrome: &[u8], seed: u64) -> Result<RelayOutcome, Error> {
         Error::of_code(calls::decode(
             self.graph.lent(),
@@ -366,7 +387,7 @@ impl RelayBp {
     ///
     /// # Errors
     ///
-    /// 20, 21, 23, 24, 30.
+    /// 20, 21, 23, 24, 29, 30.
     pub fn decode_in_order(
         &mut self,
         syndrome: &[u8],

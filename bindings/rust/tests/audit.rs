@@ -585,6 +585,7 @@ fn by_hand(
         legs: legs.to_vec(),
         executed_legs: legs.len(),
         total_iterations: legs.len(),
+        stores: 0,
     };
     record.audit(&graph, &[1, 0])
 }
@@ -655,6 +656,7 @@ fn the_sum_is_in_index_order() {
         legs: vec![leg(weight, [1; 3])],
         executed_legs: 1,
         total_iterations: 1,
+        stores: 0,
     };
     let (up, down) = (0.1 + 0.2 + 0.3, 0.3 + 0.2 + 0.1);
     assert_ne!(up, down);
@@ -749,7 +751,7 @@ fn no_reader_can_tell_that_a_leg_ran_out() {
     assert!(ties.iter().all(|&count| count > 40), "{ties:?}");
 }
 
-/// The total is known, and not whose its iterations are; and the posterior is not looked at.
+/// The total is known, and not whose its iterations are; and neither the posterior nor the stores are looked at.
 #[test]
 fn no_reader_can_tell_whose_iterations() {
     let several = some(22, |filed| {
@@ -761,6 +763,7 @@ fn no_reader_can_tell_whose_iterations() {
             set_iterations(record, 0, one - 1);
             set_iterations(record, 1, other + 1);
             record.posterior.clear();
+            record.stores += 1;
         });
         assert_eq!(told, None);
     }
@@ -908,6 +911,7 @@ fn made_up(random: &mut Random) -> Filed {
         legs: vec![],
         executed_legs: 1 + random.below(4),
         total_iterations: 0,
+        stores: 0,
     };
     for _ in 0..record.executed_legs {
         let iterations = 1 + random.below(3);

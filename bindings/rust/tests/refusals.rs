@@ -7,7 +7,7 @@ use chowderkite::{
     GraphLists, Refusal, RelayBp, RelayConfig, RelayState, Schedule, MAX_CHECKS, MAX_COUNT,
     MAX_EDGES, MAX_MECHANISMS,
 };
-use common::{bits, model_g, plain};
+use common::{bits, model_g, plain, stores_at};
 use Schedule::{CheckSerial, Flooding};
 
 fn assert_refused<T>(answer: Result<T, Error>, refusal: Refusal, place: Option<usize>) {
@@ -381,6 +381,66 @@ fn refusal_25() {
     refused([0.0; 3], |state| state.v_to_c[3] = f64::NAN);
     refused([0.0; 3], |state| state.posterior[2] = f64::NAN);
     refused([0.0, f64::NAN, 0.0], |_| {});
+}
+
+/// A mechanism on every check, and all settings at their limits: with one edge more the formula passes 2^64 - 1. 29 is tested after
+/// the others and before the work.
+#[test]
+fn refusal_29() {
+    let all: Vec<u32> = (0..MAX_CHECKS as u32).collect();
+    let hub = |more: &[u32]| {
+        let mut model = vec![(2.0, all.clone())];
+        model.extend(more.iter().map(|&check| (2.0, vec![check])));
+        BpGraph::from_sparse(MAX_CHECKS, &model).unwrap()
+    };
+    let config = |schedule| RelayConfig {
+        schedule,
+        pre_iterations: MAX_COUNT,
+        num_legs: MAX_COUNT,
+        leg_iterations: MAX_COUNT,
+        ..RelayConfig::default()
+    };
+    let limit = u128::from(u64::MAX);
+    let most = MAX_COUNT + MAX_COUNT * MAX_COUNT;
+    let graph = hub(&[7]);
+    // What is next to it, an edge or a leg less, passes by the formula.
+    assert!(stores_at(&graph, CheckSerial, most) > limit);
+    assert!(stores_at(&graph, CheckSerial, most - MAX_COUNT) <= limit);
+    assert_eq!(
+        stores_at(&hub(&[]), CheckSerial, most),
+        (1 << 64) - (1 << 32)
+    );
+
+    let syndrome = vec![0; MAX_CHECKS];
+    let mut serial = RelayBp::new(graph.clone(), config(CheckSerial)).unwrap();
+    let refusal = Refusal::TooManyStores;
+    assert_refused(serial.decode(&syndrome, 0), refusal, None);
+    assert_refused(serial.decode_in_order(&syndrome, 0, &all), refusal, None);
+    assert_eq!(
+        serial.decode(&syndrome, 0).unwrap_err().to_string(),
+        "refused with 29, TooManyStores: a decode's message stores could pass 2^64 - 1"
+    );
+
+    // The tests before it come first.
+    let mut order = all.clone();
+    order.swap(MAX_CHECKS - 2, MAX_CHECKS - 1);
+    let answer = serial.decode_in_order(&syndrome, 0, &order);
+    let place = Some(MAX_CHECKS - 2);
+    assert_refused(answer, Refusal::OrderExchanged, place);
+    order[0] = 1;
+    let answer = serial.decode_in_order(&syndrome, 0, &order);
+    assert_refused(answer, Refusal::OrderNotEachOnce, None);
+    let mut not_binary = syndrome.clone();
+    not_binary[9] = 2;
+    let answer = serial.decode(&not_binary, 0);
+    assert_refused(answer, Refusal::SyndromeNotBinary, Some(9));
+    assert_refused(serial.decode(&[], 0), Refusal::SyndromeLength, None);
+
+    // Flooding writes two messages an edge, and is far from the limit.
+    let mut flooding = RelayBp::new(graph.clone(), config(Flooding)).unwrap();
+    let outcome = flooding.decode(&syndrome, 0).unwrap();
+    assert_eq!(outcome.total_iterations, 1);
+    assert_eq!(u128::from(outcome.stores), stores_at(&graph, Flooding, 1));
 }
 
 /// Mechanism 0 sets off no check, so 1 is the first that a huge scale makes infinite.

@@ -13,13 +13,14 @@ fn decode(graph: BpGraph, schedule: Schedule, pre: usize, syndrome: &[u8]) -> Re
     decoder.decode(syndrome, 0).unwrap()
 }
 
-/// Converged at 2, bits 100, weight 4, posterior -4,4,4.
-fn assert_as_r3(outcome: &RelayOutcome) {
+/// Converged at 2, bits 100, weight 4, posterior -4,4,4; and as many messages written.
+fn assert_as_r3(outcome: &RelayOutcome, stores: u64) {
     assert!(outcome.converged);
     assert_eq!(outcome.correction, [1, 0, 0]);
     assert_eq!(outcome.weight, Some(4.0));
     assert_eq!(bits(&outcome.posterior), bits(&[-4.0, 4.0, 4.0]));
     assert_eq!((outcome.executed_legs, outcome.total_iterations), (1, 2));
+    assert_eq!(outcome.stores, stores);
     let leg = LegOutcome::Converged {
         weight: 4.0,
         iterations: 2,
@@ -57,12 +58,12 @@ fn r2_not_converged() {
 
 #[test]
 fn r3_flooding() {
-    assert_as_r3(&decode(model_g(), Flooding, 2, &[1, 0]));
+    assert_as_r3(&decode(model_g(), Flooding, 2, &[1, 0]), 16);
 }
 
 #[test]
 fn r4_check_serial() {
-    assert_as_r3(&decode(model_g(), CheckSerial, 2, &[1, 0]));
+    assert_as_r3(&decode(model_g(), CheckSerial, 2, &[1, 0]), 20);
 }
 
 #[test]
@@ -94,7 +95,7 @@ fn r6_decode_refuses() {
 #[test]
 fn r7_flooding_in_another_order() {
     let mut decoder = RelayBp::new(model_g(), plain(Flooding, 2)).unwrap();
-    assert_as_r3(&decoder.decode_in_order(&[1, 0], 0, &[1, 0]).unwrap());
+    assert_as_r3(&decoder.decode_in_order(&[1, 0], 0, &[1, 0]).unwrap(), 16);
 }
 
 #[test]
@@ -133,7 +134,7 @@ fn r11_nothing_in_the_graph() {
     let empty = BpGraph::from_sparse::<[u32; 0]>(0, &[]).unwrap();
     let outcome = decode(empty, Flooding, 1, &[]);
     assert!(outcome.converged);
-    assert_eq!(outcome.total_iterations, 1);
+    assert_eq!((outcome.total_iterations, outcome.stores), (1, 0));
     assert_eq!(outcome.weight.map(f64::to_bits), Some((-0.0_f64).to_bits()));
 }
 

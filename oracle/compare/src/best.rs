@@ -182,7 +182,7 @@ impl Reading<'_> {
 
     fn is_counted(&self) -> bool {
         let Self { asked, left } = self;
-        let [_, executed, total] = left.counts;
+        let [_, executed, total, _] = left.counts;
         let has_run = |leg: usize| matches!(left.leg_state[leg], 1 | 2) && left.leg_steps[leg] > 0;
         let steps = |leg: usize| u64::from(left.leg_steps[leg]);
         (1..=asked.legs as u64).contains(&executed)
@@ -232,7 +232,9 @@ pub mod by_hand {
     pub type Leg = (u8, u32, f64, [u8; 4]);
 
     /// The lists of some legs, and one leg of surplus.
+    /// The messages written are none of the five lines.
     pub fn left(legs: &[Leg], counts: [u64; 3], weight: f64, correction: [u8; 4]) -> Decode {
+        let [converged, executed, total] = counts;
         let mut legs = legs.to_vec();
         legs.push((9, 9, 9.0, [9; 4]));
         Decode {
@@ -241,7 +243,7 @@ pub mod by_hand {
             leg_weight: legs.iter().map(|leg| leg.2).collect(),
             rows: legs.iter().flat_map(|leg| leg.3).collect(),
             correction: correction.to_vec(),
-            counts,
+            counts: [converged, executed, total, 7],
             weight: [weight],
             ..Decode::default()
         }
@@ -346,11 +348,11 @@ mod tests {
             (1, |left| left.counts[0] = 1),
             (3, |left| left.weight = [-0.0]),
             (3, |left| left.correction = TIE.to_vec()),
-            (4, |left| left.counts = [0, 0, 0]),
-            (4, |left| left.counts = [0, 3, 14]),
+            (4, |left| left.counts = [0, 0, 0, 0]),
+            (4, |left| left.counts = [0, 3, 14, 7]),
             // The third leg is surplus.
             (4, |left| {
-                left.counts = [0, 3, 14];
+                left.counts = [0, 3, 14, 7];
                 left.leg_state[2] = 2;
             }),
         ];
@@ -362,7 +364,7 @@ mod tests {
         }
     }
 
-    /// A later leg of the same row and weight may not be told from the best, and a surplus leg is not read.
+    /// A later leg of the same row and weight may not be told from the best, and neither a surplus leg nor the messages written are read.
     #[test]
     fn what_makes_no_difference() {
         let changes: &[Change] = &[
@@ -374,6 +376,7 @@ mod tests {
                 left.leg_state[5] = 2;
                 left.rows[20] = 0;
             },
+            |left| left.counts[3] += 1,
             // Nobody can tell that leg 1 converged.
             |left| {
                 left.leg_state[1] = 1;

@@ -1,23 +1,29 @@
 //! Whole decodes against the Rust, every field and every bit; and each again in several orders of its checks, against the decode in
-//! index order, or against a plain test of the order. What any of them leaves is held to the lines of `best`.
+//! index order, or against a plain test of the order. What any of them leaves is held to the lines of `best`, and the messages that it
+//! wrote to the count of the copy that counts them, in the same order, and to the formula.
 
 use crate::best::{self, Asked};
 use crate::counts::Counts;
 use crate::damage::{damage_lists, nudge_length};
 use crate::given::{Given, model_of};
+use crate::limits;
 use crate::rounds::{Part, Rate};
 use crate::spoils;
 use crate::steps::random_order;
 use crate::table::{
     MOST_COUNT, MOST_TURNS, test, wanted_alpha, wanted_lengths, wanted_lists, wanted_mechanisms,
-    wanted_names, wanted_syndrome,
+    wanted_names, wanted_stores, wanted_syndrome,
 };
 use oracle::answers::{Decoded, Refusal};
 use oracle::bits::is_zero;
 use oracle::decode_cases::{DecodeCase, Settings as CaseSettings, Source, random_case};
 use oracle::exact::bp::RelayConfig;
 use oracle::exact::drive;
+use oracle::model::Model;
+use oracle::open::bp::{BpGraph, with_priors};
+use oracle::open::drive as open;
 use oracle::splitmix::SplitMix64;
+use oracle::stores;
 use proved::{Answer, Decode, Settings, Shot, Size};
 use std::collections::BTreeSet;
 
@@ -44,6 +50,18 @@ pub const PARTS: &[Part] = &[
         rate: Rate::Each(1),
         case: of_two_minds,
     },
+    Part {
+        rate: Rate::First(limits::FIXED),
+        case: limits::fixed,
+    },
+    Part {
+        rate: Rate::Every(200),
+        case: limits::drawn,
+    },
+    Part {
+        rate: Rate::First(1),
+        case: limits::at_the_limit,
+    },
 ];
 
 fn small(case: u64, random: &mut SplitMix64, counts: &mut Counts) {
@@ -52,6 +70,7 @@ fn small(case: u64, random: &mut SplitMix64, counts: &mut Counts) {
         "decodes, small",
         "orders of small decodes",
         "legs, best of small decodes",
+        "stores of small decodes",
     ];
     compare(names, &case, random, counts);
 }
@@ -91,11 +110,12 @@ fn of_two_minds(_: u64, random: &mut SplitMix64, counts: &mut Counts) {
         "decodes, of two minds",
         "orders of decodes of two minds",
         "legs, best of decodes of two minds",
+        "stores of decodes of two minds",
     ];
     compare(names, &case, random, counts);
 }
 
-fn settings_of(case: &CaseSettings) -> Settings {
+pub fn settings_of(case: &CaseSettings) -> Settings {
     Settings {
         serial: case.serial,
         alpha: case.alpha,
@@ -109,6 +129,26 @@ fn settings_of(case: &CaseSettings) -> Settings {
         sets: match &case.source {
             Source::Seeded => None,
             Source::Explicit(sets) => Some(sets.len()),
+        },
+    }
+}
+
+/// The other way round, of settings that were taken with their gammas.
+pub fn case_of(settings: Settings, gammas: &[f64], mechanisms: usize) -> CaseSettings {
+    let set = |number: usize| gammas[number * mechanisms..(number + 1) * mechanisms].to_vec();
+    CaseSettings {
+        serial: settings.serial,
+        alpha: settings.alpha,
+        gamma0: settings.gamma0,
+        pre_iterations: settings.pre_iterations,
+        num_legs: settings.num_legs,
+        leg_iterations: settings.leg_iterations,
+        low: settings.low,
+        high: settings.high,
+        stop: settings.stop,
+        source: match settings.sets {
+            None => Source::Seeded,
+            Some(sets) => Source::Explicit((0..sets).map(set).collect()),
         },
     }
 }
@@ -127,8 +167,14 @@ fn told(answer: &Result<Decoded, Refusal>) -> Answer {
     }
 }
 
-/// The lists that the Rust's outcome asks for, over lists filled with one number of which the surplus is kept.
-fn wanted_left(size: Size, legs: usize, before: &Decode, outcome: Option<&Decoded>) -> Decode {
+/// The lists that the Rust's outcome asks for, with the messages that it wrote, over lists filled with one number of which the surplus is
+/// kept.
+fn wanted_left(
+    size: Size,
+    legs: usize,
+    before: &Decode,
+    outcome: Option<(&Decoded, u64)>,
+) -> Decode {
     let mut left = before.clone();
     let mechanisms = size.mechanisms;
     left.leg_state[..legs].fill(0);
@@ -143,10 +189,10 @@ fn wanted_left(size: Size, legs: usize, before: &Decode, outcome: Option<&Decode
     ] {
         list.fill(0.0);
     }
-    let Some(outcome) = outcome else {
+    let Some((outcome, stores)) = outcome else {
         left.correction.fill(0);
         left.posterior.fill(0.0);
-        left.counts = [0; 3];
+        left.counts = [0; 4];
         left.weight = [0.0];
         return left;
     };
@@ -165,13 +211,14 @@ fn wanted_left(size: Size, legs: usize, before: &Decode, outcome: Option<&Decode
         u64::from(outcome.weight.is_some()),
         outcome.legs.len() as u64,
         outcome.total as u64,
+        stores,
     ];
     left.weight = [outcome.weight.unwrap_or(0.0)];
     left
 }
 
 /// Every byte of every list, for a comparison of two.
-fn bits(left: &Decode) -> Vec<u64> {
+pub fn bits(left: &Decode) -> Vec<u64> {
     let floats = [
         &left.leg_weight,
         &left.posterior,
@@ -207,31 +254,63 @@ fn legs_read(left: &Decode, legs: usize) -> bool {
     })
 }
 
-/// The name of a decode's comparison, that of its comparisons in other orders, and that of the lines of what they leave.
-pub type Names = [&'static str; 3];
+/// Counts whether an answered decode has written as many messages as the copy that counts them, in as many iterations, and as many as the
+/// formula says. Where the Rust's outcome is at hand, that copy must have come to it.
+pub fn check_stores(
+    name: &'static str,
+    (serial, detectors): (bool, &[Vec<u32>]),
+    (counted, rust): (&Result<Decoded, Refusal>, Option<&Decoded>),
+    left: &Decode,
+    counts: &mut Counts,
+) {
+    let [_, _, total, stores] = left.counts;
+    let by_formula = u128::from(total) * stores::by_formula(serial, detectors);
+    let as_counted = counted.as_ref().is_ok_and(|counted| {
+        (counted.total as u64, counted.stores) == (total, Some(stores))
+            && rust.is_none_or(|rust| counted.is_same(rust))
+    });
+    let good = as_counted && u128::from(stores) == by_formula;
+    counts.check(name, Ok(()), good, || {
+        format!("{stores} for {by_formula} and {counted:?}: serial {serial}, {detectors:?}")
+    });
+}
+
+/// The name of a decode's comparison, that of its comparisons in other orders, that of the lines of what they leave, and that of the messages
+/// that they wrote.
+pub type Names = [&'static str; 4];
 
 /// One decode both ways, and then in other orders.
 fn compare(names: Names, case: &DecodeCase, random: &mut SplitMix64, counts: &mut Counts) {
     let (given, built) = Given::built(&case.model, random);
+    let graph = open::sparse_graph(&case.model).expect("these models build");
+    let rust = drive::decode(case);
     compare_over(
         names,
         (&given, built),
         case,
-        &drive::decode(case),
+        (&rust, &graph),
         random,
         counts,
     );
 }
 
-/// The same over a graph that was built, beside what the Rust answers.
+/// The same over a graph that was built, beside what the Rust answers. The open copy's graph is for the copy that counts messages, which must
+/// come to what the Rust does.
 pub fn compare_over(
-    [name, orders, lines]: Names,
+    [name, orders, lines, written]: Names,
     (given, built): (&Given, Answer),
     case: &DecodeCase,
-    rust: &Result<Decoded, Refusal>,
+    (rust, graph): (&Result<Decoded, Refusal>, &BpGraph),
     random: &mut SplitMix64,
     counts: &mut Counts,
 ) {
+    let counted = stores::decode_over(graph.clone(), case);
+    let stores = match (rust, &counted) {
+        (Ok(rust), Ok(counted)) if counted.is_same(rust) => counted.stores,
+        _ => None,
+    };
+    let outcome = rust.as_ref().ok().zip(stores);
+    let incidences = (case.settings.serial, case.model.detectors.as_slice());
     let settings = settings_of(&case.settings);
     let gammas = flat_of(&case.settings);
     let legs = settings.num_legs + 1;
@@ -248,14 +327,18 @@ pub fn compare_over(
         (answer, left)
     };
     let wanted = told(rust);
-    let wanted_bits = bits(&wanted_left(given.size, legs, &before, rust.as_ref().ok()));
+    let wanted_bits = bits(&wanted_left(given.size, legs, &before, outcome));
     let (answer, left) = run(shot);
     counts.check(
         name,
         wanted,
         built == Ok(()) && answer == wanted && bits(&left) == wanted_bits && legs_read(&left, legs),
-        || format!("{answer:?}, {left:?} for {rust:?}: {case:?}"),
+        || format!("{answer:?}, {left:?} for {rust:?}, {counted:?}: {case:?}"),
     );
+    let theirs = rust.as_ref().ok();
+    if answer == Ok(()) {
+        check_stores(written, incidences, (&counted, theirs), &left, counts);
+    }
     let asked = Asked {
         detectors: &case.model.detectors,
         priors: &given.priors,
@@ -282,6 +365,10 @@ pub fn compare_over(
         });
         if in_order == Ok(()) {
             best::check(lines, asked, &left, counts);
+        }
+        if (refused, in_order) == (Ok(()), Ok(())) {
+            let counted = stores::decode_in_order(graph.clone(), case, &order);
+            check_stores(written, incidences, (&counted, theirs), &left, counts);
         }
     }
 }
@@ -362,6 +449,7 @@ fn large(case: u64, random: &mut SplitMix64, counts: &mut Counts) {
         "decodes, large",
         "orders of large decodes",
         "legs, best of large decodes",
+        "stores of large decodes",
     ];
     compare(names, &case, random, counts);
 }
@@ -447,7 +535,7 @@ fn wanted_settings(settings: Settings, gammas: &[f64], mechanisms: usize) -> Ans
     }
 }
 
-/// What it says before the legs: 1, 2, 4, 7, 10 to 24.
+/// What it says before the legs: 1, 2, 4, 7, 10 to 24, 29.
 fn wanted_before(given: &Given, settings: Settings, shot: Shot, left: &Decode) -> Answer {
     wanted_lists(given)?;
     let mechanisms = given.size.mechanisms;
@@ -470,10 +558,10 @@ fn wanted_before(given: &Given, settings: Settings, shot: Shot, left: &Decode) -
         &[&left.posterior, &left.gamma, &left.bias],
         &[&left.c_to_v, &left.v_to_c],
     )?;
-    match shot.order {
-        Some(order) => wanted_of_order(given, settings.serial, order),
-        None => Ok(()),
+    if let Some(order) = shot.order {
+        wanted_of_order(given, settings.serial, order)?;
     }
+    wanted_stores(settings, &best::detectors_of(given.size, &given.lists))
 }
 
 fn damage_settings(random: &mut SplitMix64, settings: &mut Settings) {
@@ -582,12 +670,43 @@ fn damaged(_: u64, random: &mut SplitMix64, counts: &mut Counts) {
     });
     if (wanted, answer) == (Ok(()), Ok(())) {
         // The damage may have made another graph of the model's.
+        let detectors = best::detectors_of(given.size, &given.lists);
         let asked = Asked {
-            detectors: &best::detectors_of(given.size, &given.lists),
+            detectors: &detectors,
             priors: &given.priors,
             syndrome: &case.syndrome,
             legs: settings.num_legs + 1,
         };
         best::check("legs, best of damaged decodes", asked, &left, counts);
+        let counted = count_again(&given, &detectors, settings, shot);
+        let incidences = (settings.serial, detectors.as_slice());
+        let name = "stores of damaged decodes";
+        check_stores(name, incidences, (&counted, None), &left, counts);
+    }
+}
+
+/// The decode of what was lent, on the copy that counts messages.
+fn count_again(
+    given: &Given,
+    detectors: &[Vec<u32>],
+    settings: Settings,
+    shot: Shot,
+) -> Result<Decoded, Refusal> {
+    let mechanisms = detectors.len();
+    let case = DecodeCase {
+        model: Model {
+            checks: given.size.checks,
+            probabilities: vec![0.5; mechanisms], // The priors are put in below.
+            detectors: detectors.to_vec(),
+        },
+        settings: case_of(settings, shot.gammas, mechanisms),
+        syndrome: shot.syndrome.to_vec(),
+        seed: shot.seed,
+    };
+    let graph = open::sparse_graph(&case.model).expect("7 let the graph through");
+    let graph = with_priors(graph, &given.priors);
+    match shot.order {
+        Some(order) => stores::decode_in_order(graph, &case, order),
+        None => stores::decode_over(graph, &case),
     }
 }

@@ -10,6 +10,7 @@ mod decodes;
 mod fronts;
 mod given;
 mod graphs;
+mod limits;
 mod numbers;
 mod priors;
 mod progress;

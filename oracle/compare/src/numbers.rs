@@ -2,13 +2,20 @@
 
 use crate::counts::Counts;
 use crate::rounds::{Part, Rate};
+use crate::table::test;
 use oracle::bits::same;
 use oracle::splitmix::SplitMix64;
 
-pub const PARTS: &[Part] = &[Part {
-    rate: Rate::Each(16),
-    case,
-}];
+pub const PARTS: &[Part] = &[
+    Part {
+        rate: Rate::Each(16),
+        case,
+    },
+    Part {
+        rate: Rate::Each(4),
+        case: stores_fit,
+    },
+];
 
 /// Floats at which a sign or a test turns.
 const EDGES: [f64; 14] = [
@@ -63,5 +70,29 @@ fn case(_: u64, g: &mut SplitMix64, counts: &mut Counts) {
         && proved::is_of_shot(b % 64) == [20, 21, 30].contains(&(b % 64));
     counts.check("numbers", Ok(()), good, || {
         format!("x {x:e}, interval {low:e} to {high:e}, numbers {a:x} and {b:x}")
+    });
+}
+
+/// Test 29 of a product, against one of 128 bits: about the limit, of nothing, or of any two numbers.
+fn stores_fit(_: u64, g: &mut SplitMix64, counts: &mut Counts) {
+    let any = |g: &mut SplitMix64| g.draw() >> g.below(64);
+    let other = any(g);
+    let (iterations, each) = match g.below(8) {
+        0 => (0, other),
+        1 => (other, 0),
+        2 => (any(g), other),
+        _ => {
+            let each = other.max(1);
+            let most = u64::MAX / each;
+            let near = [most - 1, most, most, most.saturating_add(1)];
+            (g.pick(&near), each)
+        }
+    };
+    let (iterations, each) = g.pick(&[(iterations, each), (each, iterations)]);
+    let product = u128::from(iterations) * u128::from(each);
+    let wanted = test(product <= u128::from(u64::MAX), 29);
+    let fits = proved::stores_fit(iterations, each);
+    counts.check("numbers, of 29", wanted, fits == wanted.is_ok(), || {
+        format!("{fits} for {iterations} iterations of {each} messages")
     });
 }

@@ -551,7 +551,8 @@ fn decode(names: Names, mut case: DecodeCase, random: &mut SplitMix64, counts: &
     for serial in [false, true] {
         case.settings.serial = serial;
         let theirs = open::decode_over(graph.clone(), &case);
-        decodes::compare_over(names, (&given, built), &case, &theirs, random, counts);
+        let rust = (&theirs, &graph);
+        decodes::compare_over(names, (&given, built), &case, rust, random, counts);
     }
 }
 
@@ -562,6 +563,7 @@ fn decodes(case: u64, random: &mut SplitMix64, counts: &mut Counts) {
         "decodes of probabilities",
         "orders of decodes of probabilities",
         "legs, best of decodes of probabilities",
+        "stores of decodes of probabilities",
     ];
     decode(names, case, random, counts);
 }
@@ -572,6 +574,7 @@ fn large_decodes(case: u64, random: &mut SplitMix64, counts: &mut Counts) {
         "large decodes of probabilities",
         "orders of large decodes of probabilities",
         "legs, best of large decodes of probabilities",
+        "stores of large decodes of probabilities",
     ];
     decode(names, case, random, counts);
 }

@@ -238,7 +238,7 @@ fn the_syndrome(random: &mut SplitMix64, filed: &mut Filed) -> Option<Lines> {
 // ---- what is counted
 
 fn the_total(random: &mut SplitMix64, filed: &mut Filed) -> Option<Lines> {
-    let [_, _, total] = &mut filed.left.counts;
+    let [_, _, total, _] = &mut filed.left.counts;
     *total = random.pick(&[*total - 1, *total + 1]);
     Some(&[4])
 }
@@ -276,7 +276,7 @@ fn the_count_with_its_total(random: &mut SplitMix64, filed: &mut Filed) -> Optio
     let count = random.below(filed.executed);
     let left_in = &filed.left.leg_steps[..count];
     let total = left_in.iter().map(|&steps| u64::from(steps)).sum();
-    filed.left.counts = [filed.left.counts[0], count as u64, total];
+    filed.left.counts[1..3].copy_from_slice(&[count as u64, total]);
     Some(match (filed.found.first(), filed.best) {
         (Some(&first), _) if first >= count => &[1],
         (_, Some(best)) if best >= count => &[2],

@@ -3,7 +3,8 @@
 
 use crate::given::{Given, rust};
 use oracle::graph_cases::{GraphCase, Incidence};
-use proved::{Answer, Lists, Size};
+use oracle::stores;
+use proved::{Answer, Lists, Settings, Size};
 use std::collections::BTreeSet;
 
 pub const MOST_COUNT: usize = 65_536;
@@ -218,4 +219,16 @@ pub fn wanted_names(order: &[u32], checks: usize) -> Answer {
     let mut sorted = order.to_vec();
     sorted.sort_unstable();
     test(sorted == (0..checks as u32).collect::<Vec<_>>(), 23)
+}
+
+/// The most iterations that a decode with these settings can take, once they have passed 12 to 14.
+pub fn most_iterations(settings: Settings) -> u64 {
+    (settings.pre_iterations + settings.num_legs * settings.leg_iterations) as u64
+}
+
+/// 29: by the formula, at the most iterations.
+pub fn wanted_stores(settings: Settings, detectors: &[Vec<u32>]) -> Answer {
+    let each = stores::by_formula(settings.serial, detectors);
+    let all = u128::from(most_iterations(settings)) * each;
+    test(all <= u128::from(u64::MAX), 29)
 }

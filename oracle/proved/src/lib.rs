@@ -13,7 +13,7 @@ pub use chowderkite_sys::{chowderkite_number_of as number_of, chowderkite_place_
 pub use priors::{build_dense_probabilities, build_sparse_probabilities, prior_of, priors_of};
 pub use single::{
     alpha_good, draw, gamma, infinity, is_finite, is_negative, is_of_shot, magnitude, message_sign,
-    next_state, unit, wrapping_mul,
+    next_state, stores_fit, unit, wrapping_mul,
 };
 
 /// What a call answers: nothing, or a refusal's number and place in the reference's table. The place is 0 where it has none.

@@ -34,6 +34,9 @@ unsafe extern "C" {
     /// 1 if 10 passes an alpha, else 0.
     pub safe fn chowderkite_alpha_good(alpha: f64) -> u8;
 
+    /// Test 29 alone, of so many iterations that write so many messages each: 1 if it is passed, else 0.
+    pub safe fn chowderkite_stores_fit(iterations: u64, each: u64) -> u8;
+
     /// 1 if a refusal with this number is said of a shot, 0 if it ends the run.
     pub safe fn chowderkite_is_of_shot(number: usize) -> u8;
 }
@@ -49,6 +52,10 @@ pub use chowderkite_wrapping_mul as wrapping_mul;
 
 pub fn alpha_good(alpha: f64) -> bool {
     chowderkite_alpha_good(alpha) == 1
+}
+
+pub fn stores_fit(iterations: u64, each: u64) -> bool {
+    chowderkite_stores_fit(iterations, each) == 1
 }
 
 pub fn is_of_shot(number: u64) -> bool {

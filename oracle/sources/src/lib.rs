@@ -1,6 +1,7 @@
 //! For the build scripts: where the published files stand, and how they are handed to the compiler.
 
 pub mod marks;
+pub mod writes;
 
 use std::env;
 use std::path::{Path, PathBuf};

@@ -82,8 +82,8 @@ pub struct DecodeLists<'a> {
     pub bias: &'a mut [f64],
     pub c_to_v: &'a mut [f64],
     pub v_to_c: &'a mut [f64],
-    /// Converged (1 or 0), executed legs, total iterations.
-    pub counts: &'a mut [u64; 3],
+    /// Converged (1 or 0), executed legs, total iterations, message stores.
+    pub counts: &'a mut [u64; 4],
     pub weight: &'a mut [f64; 1],
 }
 

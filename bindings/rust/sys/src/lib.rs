@@ -29,7 +29,7 @@ pub mod lists;
 pub mod streams;
 
 /// The version of the calls that are declared here; [`chowderkite_version`] answers that of the archive that is linked.
-pub const VERSION: u64 = 2;
+pub const VERSION: u64 = 3;
 
 unsafe extern "C" {
     /// The version of the calls: raised whenever a call, a list or a code changes its meaning.
@@ -219,7 +219,8 @@ unsafe extern "C" {
         gammas_len: usize,
     ) -> u64;
 
-    /// Decodes a syndrome, the checks in index order. The counts: converged (1 or 0), executed legs, total iterations.
+    /// Decodes a syndrome, the checks in index order. The counts: converged (1 or 0), executed legs, total iterations, message
+    /// stores.
     pub unsafe fn chowderkite_decode(
         checks: usize,
         mechanisms: usize,
@@ -272,7 +273,7 @@ unsafe extern "C" {
         c_to_v_len: usize,
         v_to_c: *mut f64,
         v_to_c_len: usize,
-        counts: *mut [u64; 3],
+        counts: *mut [u64; 4],
         weight: *mut [f64; 1],
     ) -> u64;
 
@@ -331,7 +332,7 @@ unsafe extern "C" {
         c_to_v_len: usize,
         v_to_c: *mut f64,
         v_to_c_len: usize,
-        counts: *mut [u64; 3],
+        counts: *mut [u64; 4],
         weight: *mut [f64; 1],
     ) -> u64;
 

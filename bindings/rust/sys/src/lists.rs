@@ -80,7 +80,7 @@ impl GraphLists {
 }
 
 /// The lists that a decode writes: the legs' records, the correction, the posterior, the counts (converged, executed legs, total
-/// iterations) and the weight are results, the others are for work.
+/// iterations, message stores) and the weight are results, the others are for work.
 #[derive(Clone, Debug, Default)]
 pub struct DecodeLists {
     pub leg_state: Vec<u8>,
@@ -93,7 +93,7 @@ pub struct DecodeLists {
     pub bias: Vec<f64>,
     pub c_to_v: Vec<f64>,
     pub v_to_c: Vec<f64>,
-    pub counts: [u64; 3],
+    pub counts: [u64; 4],
     pub weight: [f64; 1],
 }
 
@@ -113,7 +113,7 @@ impl DecodeLists {
             bias: vec![float; size.mechanisms],
             c_to_v: vec![float; size.edges],
             v_to_c: vec![float; size.edges],
-            counts: [u64::from(with); 3],
+            counts: [u64::from(with); 4],
             weight: [float],
         }
     }

@@ -34,6 +34,7 @@ pub fn outcome_bits(outcome: &RelayOutcome) -> Vec<u64> {
         u64::from(outcome.converged),
         outcome.executed_legs as u64,
         outcome.total_iterations as u64,
+        outcome.stores,
         outcome.weight.map_or(u64::MAX, f64::to_bits),
         outcome.legs.len() as u64,
     ];
@@ -54,6 +55,17 @@ pub fn outcome_bits(outcome: &RelayOutcome) -> Vec<u64> {
         }
     }
     all
+}
+
+/// The messages that so many iterations write, by the formula.
+pub fn stores_at(graph: &BpGraph, schedule: Schedule, iterations: usize) -> u128 {
+    let degrees = (0..graph.mechanism_count()).map(|m| graph.detectors(m).len() as u128);
+    let edges = graph.edge_count() as u128;
+    let each = match schedule {
+        Schedule::Flooding => 2 * edges,
+        Schedule::CheckSerial => edges + degrees.map(|degree| degree * degree).sum::<u128>(),
+    };
+    iterations as u128 * each
 }
 
 /// Random numbers for models and shots.
