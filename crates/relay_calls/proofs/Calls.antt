@@ -30,7 +30,7 @@ use Rattle.relay_settings.specs.declared.Schedule.the-variants.{Flooding, Check
 use Rattle.relay_calls.specs.declared.LegRecord.{LegRecord}
 use Rattle.relay_calls.specs.declared.LegRecord.the-variants as LegRecord
 use Rattle.relay_step.specs.Step.{State, state, updateCheck, updateVariable, checkPass, variablePass, floodingIteration, serialCheck, serialPass, checkSerialIteration, iteration}
-use Rattle.relay_calls.specs.Decode.{Shot, Run, Progress, running, finished, afterLeg, legsFrom}
+use Rattle.relay_calls.specs.Decode.{Shot, Run, Ended, Progress, running, finished, afterLeg, legsFrom}
 use Rattle.relay_calls.specs.Records.{recordOf, legRecord}
 use Rattle.relay_calls.specs.Calls.{byteFault, syndromeFault, StepLists, stepLists, StepOutcome, stepOutcome, stepFits, finiteAt, stepFault, messageFinite, mechanismFinite, finiteFault, stepEnd, stepped, afterStepTests, iterationCall}
 use Rattle.relay_calls.proofs.Named.{names-entries}
@@ -202,6 +202,12 @@ legs-agree h k x y e zero (running run) r = refl
 legs-agree h k x y e zero (finished f) r = refl
 legs-agree h k x y e (suc n) (running run) r = legs-agree h k x y e n (afterLeg h x r run) (suc r) ∙ ap (λ p. legsFrom k y n p (suc r)) (e r run)
 legs-agree h k x y e (suc n) (finished f) r = refl
+
+-- nothing follows the end
+pub legs-over : (had : Access) (x : Shot) (n : ℕ) (e : Ended) (r : ℕ) → legsFrom had x n (finished e) r ≡ e
+unfolding legsFrom
+legs-over had x zero e r = refl
+legs-over had x (suc n) e r = refl
 
 -- ---- a leg's record
 

@@ -25,6 +25,7 @@ use Rattle.relay_calls.specs.Decode.{Shot, iterationLimit, stepOf, execu
 use Rattle.relay_calls.specs.Calls.{DecodeLists, afterLegs, afterDecodeTests, decodeInOrder}
 use Rattle.relay_calls.specs.Formula.{takenFault, storesIn, takenLeaves}
 use Rattle.relay_calls.proofs.Named.{names-told}
+use Rattle.relay_calls.proofs.Calls.{legs-over}
 use Rattle.relay_calls.proofs.LastTests.{stores-last}
 
 -- ---- how many iterations
@@ -107,16 +108,10 @@ module _ (had : Access) (x : Shot) (sound : Sound (x .graph)) (full : Full had (
   unfolding legStores
   leg-writes r posterior = leg-counts r posterior (executedLeg had x r posterior .iterations) .0
 
-  -- past the end nothing is written, and it stays
-  finished-writes : (n : ℕ) (e : Ended) (r : ℕ) → (storesFrom had x n (finished e) r ≡ 0) × (legsFrom had x n (finished e) r ≡ e)
-  unfolding storesFrom legsFrom
-  finished-writes zero e r = (refl, refl)
-  finished-writes (suc n) e r = (refl, refl)
-
   -- a leg that is judged, where the legs end well
   judged-total : (a : Answer) (enough : Bool) (run out : Run) (n r : ℕ) → legsFrom had x n (legJudged a enough run) r ≡ decoded out
       → totalOf (legJudged a enough run) ≡ run .totalIterations
-  judged-total (Refused z) enough run out n r h = absurd (false≢true (ap isDecoded (sym (finished-writes n (refused z) r .1) ∙ h)))
+  judged-total (Refused z) enough run out n r h = absurd (false≢true (ap isDecoded (sym (legs-over had x n (refused z) r) ∙ h)))
   judged-total Done true run out n r h = refl
   judged-total Done false run out n r h = refl
 

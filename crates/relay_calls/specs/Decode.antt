@@ -1,4 +1,5 @@
--- `RelayBp::decode` of relay.rs past its tests, in a given order of checks: leg after leg, with the record of each. Definitions only. Assumes nothing.
+-- `RelayBp::decode` of relay.rs past its tests, in a given order of checks: leg after leg, with the record of each; and how many messages all of them write.
+-- Definitions only. Assumes nothing.
 use Prim.Native.Nat.{ℕ, zero, suc, _+_, _*_}
 use mathlib.Core.Bool.{Bool, true, false, _&&_, cond}
 use mathlib.Core.List.{List}

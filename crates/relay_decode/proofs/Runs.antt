@@ -18,6 +18,7 @@ use Rattle.relay_calls.specs.declared.Decoded.{Decoded}
 use Rattle.relay_step.specs.Leg.{Leg, hardDecision, correctionWeight}
 use Rattle.relay_calls.specs.Decode.{Shot, Run, Ended, decoded, refused, Progress, running, finished, isNoneOr, executedLeg, startRun, recorded, legJudged, afterLeg, legsFrom, decodeLegs, correctionOf}
 use Rattle.relay_calls.specs.Calls.{answered}
+use Rattle.relay_calls.proofs.Calls.{legs-over}
 use Rattle.relay_calls.proofs.LegStores.{mostTo, most-more, executed-few, fits-within}
 use Rattle.relay_stores.specs.Stores.{mostIterations, maxStores}
 use Rattle.relay_record.specs.Kept.{Kept, kept, keptOf, corrected, keptWith, keptAfter, Blank, answerOf, isRefused, answerBy, Results, results, resultsOf, started}
@@ -71,12 +72,6 @@ judged-on : (a : Answer) (enough : Bool) (run : Run) → (not (isDone a) || enou
 judged-on (Refused r) enough run h = absurd (true≢false h)
 judged-on Done true run h = absurd (true≢false h)
 judged-on Done false run h = refl
-
--- nothing follows the end
-legs-finished : (x : Shot) (n : ℕ) (e : Ended) (r : ℕ) → legsFrom byPlace x n (finished e) r ≡ e
-unfolding legsFrom
-legs-finished x zero e r = refl
-legs-finished x (suc n) e r = refl
 
 module _ (x : Shot) where
   -- how many legs there are
@@ -136,7 +131,7 @@ module _ (x : Shot) where
       -- or no leg follows
       ended-at : b ≡ true → endOf a (s .run) ≡ decodeLegs byPlace x
       ended-at h =
-          sym (legs-finished x (many - suc r) (endOf a (s .run)) (suc r))
+          sym (legs-over byPlace x (many - suc r) (endOf a (s .run)) (suc r))
           ∙ ap (λ z. legsFrom byPlace x (many - suc r) z (suc r)) (sym (judged-end a _ (s .run) (sym d ∙ h)))
           ∙ ahead-by
 

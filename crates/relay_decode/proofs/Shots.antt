@@ -1,7 +1,7 @@
 -- A decode past its tests, as the code has it: the lists that are zeroed, and the leg lists with their surplus. Assumes nothing.
 use mathlib.Core.Path.{_≡_, refl, sym, ap, _∙_}
 use mathlib.Core.Bool.{Bool, true, false, not, cond, false≢true}
-use mathlib.Core.List.{List, [], _++_}
+use mathlib.Core.List.{List, _++_}
 use mathlib.Core.Logic.{_⊎_, inl, inr}
 use mathlib.Core.Option.{Option, none, some}
 use Prim.Native.Nat.{ℕ, suc, _+_, _-_, _*_, _≤_}
@@ -19,11 +19,8 @@ use Rattle.refusals.specs.declared.Refusal.the-variants.{TooManyStores}
 use Rattle.refusals.specs.declared.Answer.the-variants.{Done, Refused}
 use Rattle.refusals.specs.Tests.{unless}
 use Rattle.graph_lists.specs.Messages.{byPlace}
-use Rattle.graph_messages.specs.Needs.{walked}
-use Rattle.relay_settings.specs.declared.Schedule.{Schedule}
-use Rattle.relay_settings.specs.declared.Schedule.the-variants.{Flooding, CheckSerial}
 use Rattle.relay_settings.specs.declared.Settings.{Settings}
-use Rattle.relay_stores.specs.Stores.{degree, squaredDegrees, storesEach, mostIterations, maxStores, storesFault}
+use Rattle.relay_stores.specs.Stores.{storesEach, mostIterations, maxStores, storesFault}
 use Rattle.relay_calls.specs.declared.Decoded.{Decoded}
 use Rattle.relay_calls.specs.declared.Decoded.the-variants as Decoded
 use Rattle.relay_calls.specs.Decode.{Shot, Run, Ended, decoded, refused, decodeLegs, correctionOf}
@@ -116,13 +113,6 @@ module _ (x : Shot) (edges : ℕ) (l : DecodeLists) (ss is : List ℕ) (ws : Lis
       rw (q, t .0, t .1, t .2, t .3, w .0, w .1, w .2, w .3, a1, a2, a3, a4, a5, a6)
 
 -- ---- 29
-
--- what an iteration writes, as it is reckoned from the lists alone
-pub each-is : (checks mechanisms : ℕ) (cv co vm vo : List ℕ) (schedule : Schedule) (each : ℕ) → each ≡ storesEach schedule (walked 0 mechanisms cv [] vm vo)
-    → each ≡ storesEach schedule (walked checks mechanisms cv co vm vo)
-unfolding squaredDegrees degree
-each-is checks mechanisms cv co vm vo Flooding each e = e
-each-is checks mechanisms cv co vm vo CheckSerial each e = e
 
 module _ (x : Shot) (edges : ℕ) (l : DecodeLists) (each : ℕ) (fit : Bool) (is : each ≡ storesEach (x .settings .schedule) (x .graph))
     (e : fit ≡ leb (mostIterations (x .settings) * each) maxStores) where

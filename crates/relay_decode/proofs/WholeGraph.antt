@@ -1,7 +1,7 @@
 -- The legs of a decode read four of the five graph lists: over those alone they are the legs over the whole graph. Assumes nothing.
 use mathlib.Core.Path.{_≡_, refl, ap, _∙_}
 use mathlib.Core.Bool.{false}
-use mathlib.Core.List.{List}
+use mathlib.Core.List.{List, []}
 use Prim.Native.Nat.{ℕ, suc, _*_}
 use lib.Dec.{leb}
 use lib.Ieee.{Float}
@@ -11,10 +11,9 @@ use Rattle.refusals.specs.Tests.{unless}
 use Rattle.graph_lists.specs.Graph.{graph}
 use Rattle.graph_lists.specs.Messages.{byPlace, fromVariables, cleared, posteriorFault}
 use Rattle.graph_messages.specs.Needs.{walked}
-use Rattle.relay_settings.specs.declared.Schedule.{Schedule}
-use Rattle.relay_settings.specs.declared.Schedule.the-variants.{Flooding, CheckSerial}
 use Rattle.relay_settings.specs.declared.Settings.{Settings}
-use Rattle.relay_stores.specs.Stores.{degree, squaredDegrees, storesEach, mostIterations, maxStores, storesFault}
+use Rattle.relay_stores.specs.Stores.{storesEach, mostIterations, maxStores, storesFault}
+use Rattle.relay_stores.proofs.Squares.{each-same}
 use Rattle.relay_gammas.specs.Gammas.{gammaOf}
 use Rattle.relay_step.specs.Leg.{startLeg, runLeg, matches, satisfied}
 use Rattle.relay_calls.specs.Decode.{Shot, Run, Ended, decoded, refused, running, iterationLimit, stepOf, executedLeg, startRun, recorded, afterLeg, decodeLegs}
@@ -60,15 +59,13 @@ module _ (t : Settings) (flat : List Float) (seed : ℕ) (syndrome : List ℕ) (
     left-whole edges stores l (refused r) = refl
 
     -- an iteration writes as many messages
-    each-whole : (schedule : Schedule) → storesEach schedule (walked checks mechanisms cv co vm vo) ≡ storesEach schedule (graph checks mechanisms cv co vc vm vo)
-    unfolding squaredDegrees degree
-    each-whole Flooding = refl
-    each-whole CheckSerial = refl
+    each-whole : storesEach (t .schedule) (walked checks mechanisms cv co vm vo) ≡ storesEach (t .schedule) (graph checks mechanisms cv co vc vm vo)
+    each-whole = each-same (t .schedule) mechanisms cv vm vo checks checks co co [] vc
 
     -- all legs, with what they wrote
     legs-whole : (edges : ℕ) (l : DecodeLists) → legsLeave edges (few checks mechanisms) l ≡ legsLeave edges (whole checks mechanisms) l
     legs-whole edges l =
-        ap (λ n. afterLegs edges (few checks mechanisms) (decodeLegs byPlace (few checks mechanisms)) (storesIn n (decodeLegs byPlace (few checks mechanisms))) l) (each-whole (t .schedule))
+        ap (λ n. afterLegs edges (few checks mechanisms) (decodeLegs byPlace (few checks mechanisms)) (storesIn n (decodeLegs byPlace (few checks mechanisms))) l) each-whole
         ∙ ap (λ e. afterLegs edges (few checks mechanisms) e (storesIn (storesEach (t .schedule) (graph checks mechanisms cv co vc vm vo)) e) l) decode-whole
         ∙ left-whole edges _ l (decodeLegs byPlace (whole checks mechanisms))
 
@@ -76,7 +73,7 @@ module _ (t : Settings) (flat : List Float) (seed : ℕ) (syndrome : List ℕ) (
     taken-whole : (edges : ℕ) (l : DecodeLists) → takenLeaves edges (few checks mechanisms) l ≡ takenLeaves edges (whole checks mechanisms) l
     unfolding storesFault
     taken-whole edges l =
-        ap (λ n. afterDecodeTests (unless (leb (mostIterations t * n) maxStores) TooManyStores) (legsLeave edges (few checks mechanisms) l) l) (each-whole (t .schedule))
+        ap (λ n. afterDecodeTests (unless (leb (mostIterations t * n) maxStores) TooManyStores) (legsLeave edges (few checks mechanisms) l) l) each-whole
         ∙ ap (λ o. afterDecodeTests (storesFault t (graph checks mechanisms cv co vc vm vo)) o l) (legs-whole edges l)
 
   -- what 29 and the legs leave, however the graph is counted

@@ -16,8 +16,9 @@ use Rattle.graph_lists.specs.Messages.{byPlace, posteriorFault}
 use Rattle.relay_calls.specs.declared.LegRecord.{LegRecord}
 use Rattle.relay_calls.specs.declared.LegRecord.the-variants as LegRecord
 use Rattle.relay_calls.specs.Records.{valuesOf, recordOf, legRecord}
-use Rattle.relay_calls.specs.Decode.{Shot, Run, Ended, decoded, refused, running, finished, startRun, recorded, legJudged, afterLeg, legsFrom, decodeLegs, decodeStores}
+use Rattle.relay_calls.specs.Decode.{Shot, Run, Ended, decoded, refused, running, startRun, recorded, legJudged, afterLeg, legsFrom, decodeLegs, decodeStores}
 use Rattle.relay_calls.specs.Calls.{DecodeLists, decodeOutcome, decodeFault, answered, leftBy, afterLegs, afterDecodeTests, decodeInOrder, summaryOf}
+use Rattle.relay_calls.proofs.Calls.{legs-over}
 use Rattle.relay_calls.proofs.LegEntries.{Entry, many, Held, held-none, held-more}
 use Rattle.relay_laws.specs.Legs.{runAfter, legAt}
 
@@ -72,12 +73,6 @@ module _ (x : Shot) where
   after-finished : (r : ℕ) → 1 ≤ r → r ≤ many x → Finished (runAfter x r)
   after-finished r l h = record { is = ap (runAfter x) (sym (executed r)); some = omega (arith, executed r); within = omega (arith, executed r) }
 
-  -- an end that came
-  finished-is : (n r : ℕ) (e : Ended) → legsFrom byPlace x n (finished e) r ≡ e
-  unfolding legsFrom
-  finished-is zero r e = refl
-  finished-is (suc n) r e = refl
-
   same-finished : (run new : Run) → new ≡ run → Finished new → Finished run
   same-finished run new e f = rw (← e) f
 
@@ -85,9 +80,9 @@ module _ (x : Shot) where
   judged-finished : (n r : ℕ) (a : Answer) (enough : Bool) (run : Run) → suc r ≤ many x
       → (legsFrom byPlace x n (running (runAfter x (suc r))) (suc r) ≡ decoded run → Finished run)
       → legsFrom byPlace x n (legJudged a enough (runAfter x (suc r))) (suc r) ≡ decoded run → Finished run
-  judged-finished n r (Refused q) enough run h next e = absurd (let w = finished-is n (suc r) (refused q) in let z : _≡_ {A = ℕ} 0 1 = cc in omega arith)
+  judged-finished n r (Refused q) enough run h next e = absurd (let w = legs-over byPlace x n (refused q) (suc r) in let z : _≡_ {A = ℕ} 0 1 = cc in omega arith)
   judged-finished n r Done true run h next e =
-      let w = finished-is n (suc r) (decoded (runAfter x (suc r))) in
+      let w = legs-over byPlace x n (decoded (runAfter x (suc r))) (suc r) in
       let s : runAfter x (suc r) ≡ run = cc in
       same-finished run (runAfter x (suc r)) s (after-finished (suc r) (omega arith) h)
   judged-finished n r Done false run h next e = next e

@@ -12,7 +12,7 @@ use borrow.Author.Tests.{leb-true, le-leb}
 use Rattle.numbers.specs.Limits.{maxEdges, maxCount}
 use Rattle.numbers.specs.Loops.{turns}
 use Rattle.numbers.proofs.Turns.{turns-turn}
-use Rattle.graph_lists.specs.Graph.{Graph}
+use Rattle.graph_lists.specs.Graph.{Graph, graph}
 use Rattle.graph_lists.specs.Sound.{Offsets}
 use Rattle.graph_lists.proofs.Cuts.{offsets-rise}
 use Rattle.graph_lists.proofs.Passes.{row-length}
@@ -92,6 +92,15 @@ pub most-few : (pre legs each : ℕ) → (pre ≤ maxCount) × (legs ≤ maxCoun
 most-few pre legs each h = mul-le-mul (h .1) (h .2)
 
 module _ (schedule : Schedule) (mechanisms : ℕ) (cv vm vo : List ℕ) where
+  -- what an iteration writes goes by the edges and by the mechanisms' messages: the checks make no difference
+  pub each-same : (c c′ : ℕ) (co co′ vc vc′ : List ℕ) → storesEach schedule (graph c mechanisms cv co vc vm vo) ≡ storesEach schedule (graph c′ mechanisms cv co′ vc′ vm vo)
+  unfolding squaredDegrees degree
+  each-same c c′ co co′ vc vc′ = by schedule
+    where
+      by : (s : Schedule) → storesEach s (graph c mechanisms cv co vc vm vo) ≡ storesEach s (graph c′ mechanisms cv co′ vc′ vm vo)
+      by Flooding = refl
+      by CheckSerial = refl
+
   -- what an iteration writes, as the code has it: Flooding
   pub each-flooding : schedule ≡ Flooding → 2 * length cv ≡ storesEach schedule (walked 0 mechanisms cv [] vm vo)
   each-flooding e = ap (λ s. storesEach s (walked 0 mechanisms cv [] vm vo)) (sym e)

@@ -14,7 +14,8 @@ use Rattle.relay_decode.proofs.all_legs.run_legs.Tie as tie
 
 abbrev Inv-loop : tie.InvT-loop
 Inv-loop t gammas seed syndrome priors check-var check-offset var-message var-offset order leg-state₀ leg-iterations₀ leg-weight₀ rows₀ correction₀ posterior₀
-    gamma₀ bias₀ c-to-v₀ v-to-c₀ each num-legs stop tally₀ leg₀ leg-state leg-iterations leg-weight rows correction posterior gamma bias c-to-v v-to-c tally leg =
+    gamma₀ bias₀ c-to-v₀ v-to-c₀ each num-legs stop tally₀ leg₀ leg-state leg-iterations leg-weight rows correction posterior gamma bias c-to-v v-to-c tally leg
+    =
     (leg ≤ suc (t .«num_legs»)) × (length leg-state ≡ length leg-state₀) ×
     (length leg-iterations ≡ length leg-iterations₀) × (length leg-weight ≡ length leg-weight₀) ×
     (length rows ≡ length rows₀) × (length correction ≡ length correction₀) × (length posterior ≡ length posterior₀) × (length gamma ≡ length gamma₀) ×
@@ -25,7 +26,8 @@ Inv-loop t gammas seed syndrome priors check-var check-offset var-message var-of
 
 abbrev μ-loop : tie.MeasureT-loop
 μ-loop t gammas seed syndrome priors check-var check-offset var-message var-offset order leg-state₀ leg-iterations₀ leg-weight₀ rows₀ correction₀ posterior₀
-    gamma₀ bias₀ c-to-v₀ v-to-c₀ each num-legs stop tally₀ leg₀ leg-state leg-iterations leg-weight rows correction posterior gamma bias c-to-v v-to-c tally leg =
+    gamma₀ bias₀ c-to-v₀ v-to-c₀ each num-legs stop tally₀ leg₀ leg-state leg-iterations leg-weight rows correction posterior gamma bias c-to-v v-to-c tally leg
+    =
     suc (t .«num_legs») - leg
 
 loop-holds : tie.Need-loop-holds Inv-loop μ-loop
@@ -104,10 +106,22 @@ ends-requires c κs = search needs
 
 answer-requires : tie.Need-answer-requires Inv-loop μ-loop
 answer-requires c κs =
-    let s = c .before .before .before .before .before .before .before .before .before .before .before .before .before .before .before .before .before .before .before .before .before .before .before .before .before .before .before .before .before .before .before .before .before .before .before .before .before .before .before .before .before .before .before .before .before .before .before .before .before .before .before .before .before .before .before in
+    let s = c .before .before .before .before .before .before .before .before .before .before .before .before .before .before .before .before .before .before
+    .before .before .before .before .before .before .before .before .before .before .before .before .before .before .before .before .before .before .before
+    .before .before .before .before .before .before .before .before .before .before .before .before .before .before .before .before .before .before in
     let a = s .args in
-    let l = c .before .before .before .before .before .before .before .before .before .before .before .before .before .before .before .before .before .before .before .before .before .before .before .before .before .before .before .before .before .before .before .before .before .before .before .before .loop in
-    run-fits (shotOf (a .t) (a .gammas .now) (a .seed) (a .syndrome .now) (a .priors .now) (a .check-var .now) (a .check-offset .now) (a .var-message .now) (a .var-offset .now) (a .order .now)) _ _ _ _ _ _ _ _ _ (l .leg) (kept (bestOf (l .tally .found) (l .tally .weight)) (l .tally .«num_converged») (l .tally .«total_iterations») (l .leg) (l .leg-state) (l .leg-iterations) (l .leg-weight) (l .rows) (l .correction) (l .posterior)) (l .inv .11) (omega (arith, c .before .before .before .before .before .before .before .before .before .before .before .before .before .before .before .before .before .before .before .before .before .before .before .before .before .before .before .before .before .before .before .before .before .before .before .loop-test .taken)) (c .before .before .before .before .before .before .before .before .before .before .before .before .before .before .before .before .before .before .before .before .before .before .before .before .next-leg .ensures .0) (a .each) (s .pre .1 .1 .1 .1 .0)
+    let l = c .before .before .before .before .before .before .before .before .before .before .before .before .before .before .before .before .before .before
+    .before .before .before .before .before .before .before .before .before .before .before .before .before .before .before .before .before .before .loop in
+    run-fits (shotOf (a .t) (a .gammas .now) (a .seed) (a .syndrome .now) (a .priors .now) (a .check-var .now) (a .check-offset .now) (a .var-message .now) (a
+    .var-offset .now) (a .order .now)) _ _ _ _ _ _ _ _ _ (l .leg) (kept (bestOf (l .tally .found) (l .tally .weight)) (l .tally .«num_converged») (l .tally
+    .«total_iterations») (l .leg) (l .leg-state) (l .leg-iterations) (l .leg-weight) (l .rows) (l .correction) (l .posterior)) (l .inv .11) (omega (
+      arith,
+      c
+          .before .before .before .before .before .before .before .before .before .before .before .before .before .before .before .before .before .before .before
+          .before .before .before .before .before .before .before .before .before .before .before .before .before .before .before .before .loop-test .taken,
+    )) (c
+    .before .before .before .before .before .before .before .before .before .before .before .before .before .before .before .before .before .before .before
+    .before .before .before .before .before .next-leg .ensures .0) (a .each) (s .pre .1 .1 .1 .1 .0)
 
 same-length : tie.Need-same-length Inv-loop μ-loop
 same-length c = c .before .before .before .before .before .before .before .before .before .before .before .before .before .before .before .before .before
@@ -183,7 +197,8 @@ returns c =
     let x = c .before .before .before .before .before .before .before .before .before .before .before .before .before .before .before .before .before .before
     .before .before .before .before .before .before .before .next-leg in
     run-ended (shotOf (a .t) (a .gammas .now) (a .seed) (a .syndrome .now)
-    (a .priors .now) (a .check-var .now) (a .check-offset .now) (a .var-message .now) (a .var-offset .now) (a .order .now)) _ _ _ _ _ _ _ _ _ (a .each) (l .leg) (kept
+    (a .priors .now) (a .check-var .now) (a .check-offset .now) (a .var-message .now) (a .var-offset .now) (a .order .now)) _ _ _ _ _ _ _ _ _ (a .each) (l .leg)
+    (kept
     (bestOf (l .tally .found) (l .tally .weight)) (l .tally .«num_converged»)
     (l .tally .«total_iterations») (l .leg) (l .leg-state) (l .leg-iterations) (l .leg-weight) (l .rows) (l .correction) (l .posterior)) (l .inv .11) (omega (
       arith,
@@ -241,10 +256,12 @@ loop-again c =
 
 answer-run-requires : tie.Need-answer-run-requires Inv-loop μ-loop
 answer-run-requires c κs =
-    let s = c .before .before .before .before .before .before .before .before .before .before .before .before .before .before .before .before .before .before .before .before in
+    let s = c .before .before .before .before .before .before .before .before .before .before .before .before .before .before .before .before .before .before
+    .before .before in
     let a = s .args in
     let l = c .before .loop in
-    all-fit (shotOf (a .t) (a .gammas .now) (a .seed) (a .syndrome .now) (a .priors .now) (a .check-var .now) (a .check-offset .now) (a .var-message .now) (a .var-offset .now) (a .order .now)) _ _ _ _ _ _ _ _ _ (l .leg) (l .inv .11) (l .inv .0) (a .each) (s .pre .1 .1 .1 .1 .0)
+    all-fit (shotOf (a .t) (a .gammas .now) (a .seed) (a .syndrome .now) (a .priors .now) (a .check-var .now) (a .check-offset .now) (a .var-message .now) (a
+    .var-offset .now) (a .order .now)) _ _ _ _ _ _ _ _ _ (l .leg) (l .inv .11) (l .inv .0) (a .each) (s .pre .1 .1 .1 .1 .0)
 
 same-length-11 : tie.Need-same-length-11 Inv-loop μ-loop
 same-length-11 c = c .before .before .loop .inv .1
@@ -283,7 +300,8 @@ returns-2 c =
     let l = c .before .before .loop in
     run-over (shotOf (a .t) (a .gammas .now) (a .seed) (a .syndrome .now)
     (a .priors .now) (a .check-var .now) (a .check-offset .now) (a .var-message .now)
-    (a .var-offset .now) (a .order .now)) _ _ _ _ _ _ _ _ _ (a .each) (l .leg) _ (l .inv .11) (omega (arith, c .before .loop-test .left)) (c .answer-run .ensures)
+    (a .var-offset .now) (a .order .now)) _ _ _ _ _ _ _ _ _ (a .each) (l .leg) _ (l .inv .11) (omega (arith, c .before .loop-test .left)) (c .answer-run
+    .ensures)
 
 pub run-legs-spec : {M : Type 1} → statement M
 run-legs-spec =
