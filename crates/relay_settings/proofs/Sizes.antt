@@ -1,4 +1,4 @@
--- Within the limit of mechanisms the public test of settings is 10 to 19 alone. Assumes nothing.
+-- Within the limit of mechanisms the public test of settings is 9 to 19 alone. Assumes nothing.
 use mathlib.Core.Path.{_≡_}
 use mathlib.Core.List.{List}
 use Prim.Native.Nat.{ℕ, _≤_}

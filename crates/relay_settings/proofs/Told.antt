@@ -37,7 +37,8 @@ module _ (t : Settings) (m : ℕ) (flat : List Float) where
   pub settings-told : settingsFault t m flat ≡ Done → SettingsTold
   unfolding settingsFault preGood legIterationsGood setsGood sourceFault
   settings-told h =
-      let a1 = or-done _ _ h in
+      let a0 = or-done _ _ h in
+      let a1 = or-done _ _ (a0 .1) in
       let a2 = or-done _ _ (a1 .1) in
       let a3 = or-done _ _ (a2 .1) in
       let a4 = or-done _ _ (a3 .1) in

@@ -1,18 +1,20 @@
--- Relay's settings: the published operating point, and their tests, 1 and 10 to 19 of docs/REFERENCE.md in their order. Definitions only. Assumes nothing.
+-- Relay's settings: the published operating point, and their tests, 1 and 9 to 19 of docs/REFERENCE.md in their order. Definitions only. Assumes nothing.
 use Prim.Native.Nat.{ℕ, _*_}
-use mathlib.Core.Bool.{Bool, _&&_, _||_}
+use mathlib.Core.Bool.{Bool, true, _&&_, _||_}
 use mathlib.Core.List.{List}
 use lib.Dec.{eqb, leb}
 use lib.Ieee.{Float, nan, binary64, ofBits, lt, le}
 use lib.ListN.{length, getD}
 use Rattle.numbers.specs.Limits.{maxMechanisms, maxCount}
 use Rattle.numbers.specs.Floats.{_-ᶠ_, zero⁺, one⁺, isFinite}
-use Rattle.refusals.specs.declared.Refusal.the-variants.{SizeAboveLimit, BadAlpha, BadGamma0, BadIterations, TooManyLegs, BadLegIterations, BadGammaInterval, BadStop, NoGammaSets, GammaSetsLength, GammaNotFinite}
+use Rattle.refusals.specs.declared.Refusal.the-variants.{SizeAboveLimit, BadClip, BadAlpha, BadGamma0, BadIterations, TooManyLegs, BadLegIterations, BadGammaInterval, BadStop, NoGammaSets, GammaSetsLength, GammaNotFinite}
 use Rattle.refusals.specs.declared.Answer.{Answer}
 use Rattle.refusals.specs.declared.Answer.the-variants.{Done}
 use Rattle.refusals.specs.Tests.{unless, orElse, firstOf}
 use Rattle.relay_settings.specs.declared.Settings.{Settings}
 use Rattle.relay_settings.specs.declared.Schedule.the-variants.{Flooding}
+use Rattle.relay_settings.specs.declared.Clip.{Clip}
+use Rattle.relay_settings.specs.declared.Clip.the-variants.{Off, On}
 use Rattle.relay_settings.specs.declared.GammaSource.{GammaSource}
 use Rattle.relay_settings.specs.declared.GammaSource.the-variants.{Explicit, Seeded}
 
@@ -22,6 +24,7 @@ published =
     record {
       schedule = Flooding;
       alpha = one⁺;
+      clip = Off;
       gamma0 = ofBits binary64 0x3FB999999999999A;
       «pre_iterations» = 80;
       «num_legs» = 40;
@@ -33,6 +36,11 @@ published =
     }
 
 -- ---- the tests
+
+-- 9: a clip that is on is finite and above 0
+unfoldable pub clipGood : Clip → Bool
+clipGood Off = true
+clipGood (On limit) = isFinite limit && lt zero⁺ limit
 
 -- 10: alpha is finite and above 0
 unfoldable pub alphaGood : Float → Bool
@@ -67,17 +75,18 @@ sourceFault (Explicit sets) legs mechanisms gammas =
     (orElse (unless (setsGood sets mechanisms (length gammas)) GammaSetsLength)
     (firstOf (length gammas) (gammaFault gammas)))
 
--- `validate_config`: 10 to 19
+-- 9, and `validate_config`: 10 to 19
 unfoldable pub settingsFault : Settings → ℕ → List Float → Answer
 settingsFault t mechanisms gammas =
-    orElse (unless (alphaGood (t .alpha)) BadAlpha)
+    orElse (unless (clipGood (t .clip)) BadClip)
+    (orElse (unless (alphaGood (t .alpha)) BadAlpha)
     (orElse (unless (isFinite (t .gamma0)) BadGamma0)
     (orElse (unless (preGood (t .«pre_iterations»)) BadIterations)
     (orElse (unless (leb (t .«num_legs») maxCount) TooManyLegs)
     (orElse (unless (legIterationsGood (t .«num_legs») (t .«leg_iterations»)) BadLegIterations)
     (orElse (unless (intervalGood (t .«gamma_low») (t .«gamma_high»)) BadGammaInterval)
-    (orElse (unless (leb 1 (t .«stop_after_converged»)) BadStop) (sourceFault (t .«gamma_source») (t .«num_legs») mechanisms gammas)))))))
+    (orElse (unless (leb 1 (t .«stop_after_converged»)) BadStop) (sourceFault (t .«gamma_source») (t .«num_legs») mechanisms gammas))))))))
 
--- `check_settings`: 1, so that a place of 19 is below 2 ^ 32, then 10 to 19
+-- `check_settings`: 1, so that a place of 19 is below 2 ^ 32, then 9 to 19
 unfoldable pub checkSettings : Settings → ℕ → List Float → Answer
 checkSettings t mechanisms gammas = orElse (unless (leb mechanisms maxMechanisms) SizeAboveLimit) (settingsFault t mechanisms gammas)

@@ -1,4 +1,4 @@
-// Relay's settings, for users: the published operating point, and their test, 10 to 19. Each number is decided by itself and the first
+// Relay's settings, for users: the published operating point, and their test, 9 to 19. Each number is decided by itself and the first
 // that refuses is answered, so that no test waits on another's branch. What they mean stands in specs/.
 ghost use mathlib.Core.Path.{_≡_};
 ghost use mathlib.Core.Bool.{_||_};
@@ -8,7 +8,7 @@ ghost use lib.Ieee.{le};
 ghost use lib.ListN.{length};
 ghost use Rattle.refusals.specs.Tests.{firstOf};
 ghost use Rattle.relay_settings.specs.Settings.{published, checkSettings, preGood, legIterationsGood, intervalGood, setsGood};
-ghost use Rattle.relay_settings.specs.Settings.{gammaFault};
+ghost use Rattle.relay_settings.specs.Settings.{clipGood, gammaFault};
 ghost use Rattle.relay_settings.specs.Settings.{sourceFault, settingsFault};
 use numbers::is_finite;
 use numbers::limits::MAX_COUNT;
@@ -29,6 +29,14 @@ pub enum Schedule {
     CheckSerial,
 }
 
+// How far a check's message goes.
+pub enum Clip {
+    // As far as it comes out: the Rust's own.
+    Off,
+    // To this magnitude: one that is beyond it becomes it, with its sign.
+    On(f64),
+}
+
 // Where the gammas of relayed legs come from.
 pub enum GammaSource {
     // The given number of sets, one after the other in the flat list that is lent beside the settings.
@@ -37,10 +45,11 @@ pub enum GammaSource {
     Seeded,
 }
 
-// `RelayConfig`, with the interval's two ends and the gammas' source.
+// `RelayConfig`, with the clip, the interval's two ends and the gammas' source.
 pub struct Settings {
     pub schedule: Schedule,
     pub alpha: f64,
+    pub clip: Clip,
     pub gamma0: f64,
     pub pre_iterations: usize,
     pub num_legs: usize,
@@ -59,6 +68,7 @@ impl Settings {
         Self {
             schedule: Schedule::Flooding,
             alpha: 1.0,
+            clip: Clip::Off,
             gamma0: 0.1,
             pre_iterations: 80,
             num_legs: 40,
@@ -68,6 +78,16 @@ impl Settings {
             stop_after_converged: 1,
             gamma_source: GammaSource::Seeded,
         }
+    }
+}
+
+// 9: a magnitude is looked at where there is one.
+pub fn clip_good(clip: Clip) -> bool
+    ensures { λ r. ⌜ r ≡ clipGood clip ⌝ }
+{
+    match clip {
+        Clip::Off => true,
+        Clip::On(limit) => finite_positive(limit),
     }
 }
 
@@ -171,10 +191,11 @@ fn source_fault(source: GammaSource, legs: usize, mechanisms: usize, gammas: &[f
     }
 }
 
-// `validate_config`: 10 to 19.
+// 9, and `validate_config`: 10 to 19.
 fn settings_fault(t: Settings, mechanisms: usize, gammas: &[f64]) -> Answer
     ensures { λ r. ⌜ r ≡ settingsFault t mechanisms (now (gammas .entry)) ⌝ }
 {
+    let clip = t.clip;
     let source = t.gamma_source;
     let counts = or_else(
         unless(pre_good(t.pre_iterations), Refusal::BadIterations),
@@ -198,13 +219,13 @@ fn settings_fault(t: Settings, mechanisms: usize, gammas: &[f64]) -> Answer
             ),
         ),
     );
-    or_else(
-        unless(finite_positive(t.alpha), Refusal::BadAlpha),
-        or_else(unless(is_finite(t.gamma0), Refusal::BadGamma0), counts),
-    )
+    let clip_fault = unless(clip_good(clip), Refusal::BadClip);
+    let alpha_fault = unless(finite_positive(t.alpha), Refusal::BadAlpha);
+    let others = or_else(unless(is_finite(t.gamma0), Refusal::BadGamma0), counts);
+    or_else(clip_fault, or_else(alpha_fault, others))
 }
 
-// 1, then 10 to 19. Without the size a place of 19 could pass 32 bits.
+// 1, then 9 to 19. Without the size a place of 19 could pass 32 bits.
 pub fn check_settings(t: Settings, mechanisms: usize, gammas: &[f64]) -> Answer
     ensures { λ r. ⌜ r ≡ checkSettings t mechanisms (now (gammas .entry)) ⌝ }
 {

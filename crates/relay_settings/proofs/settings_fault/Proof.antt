@@ -52,17 +52,23 @@ or-else-requires-4 c κs = search needs
 or-else-requires-5 : tie.Need-or-else-requires-5
 or-else-requires-5 c κs = search needs
 
-finite-positive-requires : tie.Need-finite-positive-requires
-finite-positive-requires c κs = search needs
+clip-good-requires : tie.Need-clip-good-requires
+clip-good-requires c κs = search needs
 
 unless-requires-6 : tie.Need-unless-requires-6
 unless-requires-6 c κs = search needs
 
-is-finite-requires : tie.Need-is-finite-requires
-is-finite-requires c κs = search needs
+finite-positive-requires : tie.Need-finite-positive-requires
+finite-positive-requires c κs = search needs
 
 unless-requires-7 : tie.Need-unless-requires-7
 unless-requires-7 c κs = search needs
+
+is-finite-requires : tie.Need-is-finite-requires
+is-finite-requires c κs = search needs
+
+unless-requires-8 : tie.Need-unless-requires-8
+unless-requires-8 c κs = search needs
 
 or-else-requires-6 : tie.Need-or-else-requires-6
 or-else-requires-6 c κs = search needs
@@ -70,45 +76,37 @@ or-else-requires-6 c κs = search needs
 or-else-requires-7 : tie.Need-or-else-requires-7
 or-else-requires-7 c κs = search needs
 
+or-else-requires-8 : tie.Need-or-else-requires-8
+or-else-requires-8 c κs = search needs
+
 returns : tie.Need-returns
 unfolding settingsFault alphaGood
 returns c = rw (
-  c .or-else7 .ensures,
-  c .before .or-else6 .ensures,
-  c .before .before .unless7 .ensures,
-  c .before .before .before .is-finite .ensures,
-  c
-      .before .before .before .before .unless6 .ensures,
-  c .before .before .before .before .before .finite-positive .ensures,
-  c .before .before .before .before
-      .before .before .or-else5 .ensures,
-  c .before .before .before .before .before .before .before .or-else4 .ensures,
-  c .before .before .before .before .before
-      .before .before .before .or-else3 .ensures,
-  c .before .before .before .before .before .before .before .before .before .or-else2 .ensures,
-  c .before .before
-      .before .before .before .before .before .before .before .before .or-else .ensures,
-  c .before .before .before .before .before .before .before .before .before
-      .before .before .source-fault .ensures,
-  c .before .before .before .before .before .before .before .before .before .before .before .before .unless5 .ensures,
-  c .before .before .before .before .before .before .before .before .before .before .before .before .before .at-most2 .ensures,
-  c .before .before .before
-      .before .before .before .before .before .before .before .before .before .before .before .unless4 .ensures,
-  c .before .before .before .before .before .before
-      .before .before .before .before .before .before .before .before .before .interval-good .ensures,
-  c .before .before .before .before .before .before .before
-      .before .before .before .before .before .before .before .before .before .unless3 .ensures,
-  c .before .before .before .before .before .before .before .before
-      .before .before .before .before .before .before .before .before .before .leg-iterations-good .ensures,
-  c .before .before .before .before .before .before
-      .before .before .before .before .before .before .before .before .before .before .before .before .unless2 .ensures,
-  c .before .before .before .before .before
-      .before .before .before .before .before .before .before .before .before .before .before .before .before .before .at-most .ensures,
-  c .before .before .before
-      .before .before .before .before .before .before .before .before .before .before .before .before .before .before .before .before .before .unless .ensures,
-  c
-      .before .before .before .before .before .before .before .before .before .before .before .before .before .before .before .before .before .before .before
-      .before .before .pre-good .ensures,
+  c .or-else8 .ensures,
+  c .before .or-else7 .ensures,
+  c .before .before .or-else6 .ensures,
+  c .before .before .before .unless8 .ensures,
+  c .before .before .before .before .is-finite .ensures,
+  c .before .before .before .before .before .unless7 .ensures,
+  c .before .before .before .before .before .before .finite-positive .ensures,
+  c .before .before .before .before .before .before .before .unless6 .ensures,
+  c .before .before .before .before .before .before .before .before .clip-good .ensures,
+  c .before .before .before .before .before .before .before .before .before .or-else5 .ensures,
+  c .before .before .before .before .before .before .before .before .before .before .or-else4 .ensures,
+  c .before .before .before .before .before .before .before .before .before .before .before .or-else3 .ensures,
+  c .before .before .before .before .before .before .before .before .before .before .before .before .or-else2 .ensures,
+  c .before .before .before .before .before .before .before .before .before .before .before .before .before .or-else .ensures,
+  c .before .before .before .before .before .before .before .before .before .before .before .before .before .before .source-fault .ensures,
+  c .before .before .before .before .before .before .before .before .before .before .before .before .before .before .before .unless5 .ensures,
+  c .before .before .before .before .before .before .before .before .before .before .before .before .before .before .before .before .at-most2 .ensures,
+  c .before .before .before .before .before .before .before .before .before .before .before .before .before .before .before .before .before .unless4 .ensures,
+  c .before .before .before .before .before .before .before .before .before .before .before .before .before .before .before .before .before .before .interval-good .ensures,
+  c .before .before .before .before .before .before .before .before .before .before .before .before .before .before .before .before .before .before .before .unless3 .ensures,
+  c .before .before .before .before .before .before .before .before .before .before .before .before .before .before .before .before .before .before .before .before .leg-iterations-good .ensures,
+  c .before .before .before .before .before .before .before .before .before .before .before .before .before .before .before .before .before .before .before .before .before .unless2 .ensures,
+  c .before .before .before .before .before .before .before .before .before .before .before .before .before .before .before .before .before .before .before .before .before .before .at-most .ensures,
+  c .before .before .before .before .before .before .before .before .before .before .before .before .before .before .before .before .before .before .before .before .before .before .before .unless .ensures,
+  c .before .before .before .before .before .before .before .before .before .before .before .before .before .before .before .before .before .before .before .before .before .before .before .before .pre-good .ensures,
 )
 
 pub settings-fault-spec : {M : Type 1} → statement M
@@ -131,10 +129,13 @@ settings-fault-spec =
     or-else-requires-3
     or-else-requires-4
     or-else-requires-5
-    finite-positive-requires
+    clip-good-requires
     unless-requires-6
-    is-finite-requires
+    finite-positive-requires
     unless-requires-7
+    is-finite-requires
+    unless-requires-8
     or-else-requires-6
     or-else-requires-7
+    or-else-requires-8
     returns)
