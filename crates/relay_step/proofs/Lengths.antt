@@ -7,12 +7,13 @@ use lib.Ieee.{Float, nan}
 use lib.ListN.{length, getD, set, length-set}
 use Rattle.numbers.specs.Floats.{_-ᶠ_}
 use Rattle.numbers.proofs.Loops.{length-table}
+use Rattle.relay_settings.specs.declared.Clip.{Clip}
 use Rattle.relay_step.specs.Step.{sentTo, checkMessages, written}
 
 -- a check sends as many messages as it has
-pub length-sent : (alpha : Float) (odd : Bool) (vs : List ℕ) (xs : List Float) → length (checkMessages alpha odd vs xs) ≡ length xs
+pub length-sent : (alpha : Float) (clip : Clip) (odd : Bool) (vs : List ℕ) (xs : List Float) → length (checkMessages alpha clip odd vs xs) ≡ length xs
 unfolding checkMessages sentTo
-length-sent alpha odd vs xs = length-table (length xs) _
+length-sent alpha clip odd vs xs = length-table (length xs) _
 
 -- writing keeps the length
 pub written-length : (p : Float) (cToV l : List Float) (ms : List ℕ) → length (written p cToV l ms) ≡ length l

@@ -17,7 +17,8 @@ use Rattle.numbers.proofs.Loops.{tables-agree, but-one}
 use Rattle.graph_lists.specs.Messages.{Scan, scanOf, lowered, flippedBy}
 use Rattle.graph_lists.specs.Messages as first
 use Rattle.graph_messages.specs.Needs.{Rises}
-use Rattle.relay_step.specs.Step.{noVariable, scanned, scan, saturated, sent, sentTo, checkMessages}
+use Rattle.relay_settings.specs.declared.Clip.{Clip}
+use Rattle.relay_step.specs.Step.{noVariable, scanned, scan, saturated, weighed, clipped, sent, sentTo, checkMessages}
 use Rattle.relay_step.specs.Places.{bySigns}
 
 -- a sign: 1 or -1
@@ -91,7 +92,7 @@ rise-apart xs i j r h k n = ne-eqb _ _ (λ e. ⊎-elim (λ (l : i < j). absurd (
     back : j ≤ i → getD xs i 0 ≡ getD xs j 0 → i ≡ j
     back l e = ⊎-elim (λ (m : j < i). absurd (omega (arith, r .rises j i m h, e))) (λ (m : i ≤ j). omega (arith, l, m)) (less-or-not j i)
 
-module _ (alpha sign min1 min2 : Float) (variables : List ℕ) (messages : List Float) (variable least : ℕ) (r : Rises variables) (many : length messages ≡ length variables)
+module _ (alpha : Float) (clip : Clip) (sign min1 min2 : Float) (variables : List ℕ) (messages : List Float) (variable least : ℕ) (r : Rises variables) (many : length messages ≡ length variables)
     (whose : ((least < length messages) × (variable ≡ getD variables least 0)) ⊎ (min1 ≡ min2)) where
   -- the next minimum is for the least's place
   own : cond (eqb (getD variables least 0) variable) min2 min1 ≡ min2
@@ -108,47 +109,47 @@ module _ (alpha sign min1 min2 : Float) (variables : List ℕ) (messages : List 
       )) (λ (w : min1 ≡ min2). either-way (eqb (getD variables i 0) variable) min1 min2 w) whose
 
   -- what a sign chooses
-  chosen : (x minus plus : Float) (b : Bool) → lt x zero⁺ ≡ b → minus ≡ alpha *ᶠ (sign *ᶠ one⁻) *ᶠ saturated min1 → plus ≡ alpha *ᶠ (sign *ᶠ one⁺) *ᶠ saturated min1
-      → cond b minus plus ≡ alpha *ᶠ (sign *ᶠ messageSign x) *ᶠ saturated min1
+  chosen : (x minus plus : Float) (b : Bool) → lt x zero⁺ ≡ b → minus ≡ clipped clip (alpha *ᶠ (sign *ᶠ one⁻) *ᶠ saturated min1) → plus ≡ clipped clip (alpha *ᶠ (sign *ᶠ one⁺) *ᶠ saturated min1)
+      → cond b minus plus ≡ clipped clip (alpha *ᶠ (sign *ᶠ messageSign x) *ᶠ saturated min1)
   unfolding messageSign
   chosen x minus plus true h p q = rw (h, p)
   chosen x minus plus false h p q = rw (h, q)
 
-  module _ (minus plus : Float) (p : minus ≡ alpha *ᶠ (sign *ᶠ one⁻) *ᶠ saturated min1) (q : plus ≡ alpha *ᶠ (sign *ᶠ one⁺) *ᶠ saturated min1) where
+  module _ (minus plus : Float) (p : minus ≡ clipped clip (alpha *ᶠ (sign *ᶠ one⁻) *ᶠ saturated min1)) (q : plus ≡ clipped clip (alpha *ᶠ (sign *ᶠ one⁺) *ᶠ saturated min1)) where
     -- elsewhere
     elsewhere : (i : ℕ) → i < length messages → (i ≡ least → ⊥)
-        → cond (lt (getD messages i nan) zero⁺) minus plus ≡ sent alpha (scanOf sign min1 min2 variable) (getD variables i 0) (getD messages i nan)
-    unfolding sent
+        → cond (lt (getD messages i nan) zero⁺) minus plus ≡ sent alpha clip (scanOf sign min1 min2 variable) (getD variables i 0) (getD messages i nan)
+    unfolding sent weighed
     elsewhere i h n = chosen (getD messages i nan) minus plus (lt (getD messages i nan) zero⁺) refl p q ∙ rw (others i h n)
 
     -- the least's place put right
-    least-put : (x : Float) → least < length messages → x ≡ alpha *ᶠ (sign *ᶠ messageSign (getD messages least nan)) *ᶠ saturated min2
-        → set (bySigns minus plus messages (length messages)) least x ≡ sentTo alpha (scanOf sign min1 min2 variable) variables messages (length messages)
-    unfolding bySigns sentTo sent
+    least-put : (x : Float) → least < length messages → x ≡ clipped clip (alpha *ᶠ (sign *ᶠ messageSign (getD messages least nan)) *ᶠ saturated min2)
+        → set (bySigns minus plus messages (length messages)) least x ≡ sentTo alpha clip (scanOf sign min1 min2 variable) variables messages (length messages)
+    unfolding bySigns sentTo sent weighed
     least-put x h e =
-        let w : x ≡ sent alpha (scanOf sign min1 min2 variable) (getD variables least 0) (getD messages least nan) = e ∙ rw own in
-        rw w (but-one (length messages) (λ i. sent alpha (scanOf sign min1 min2 variable)
+        let w : x ≡ sent alpha clip (scanOf sign min1 min2 variable) (getD variables least 0) (getD messages least nan) = e ∙ rw own in
+        rw w (but-one (length messages) (λ i. sent alpha clip (scanOf sign min1 min2 variable)
         (getD variables i 0) (getD messages i nan)) (λ i. cond (lt (getD messages i nan) zero⁺) minus plus) least nan h elsewhere)
 
     -- and where there is none
-    least-nowhere : length messages ≤ least → bySigns minus plus messages (length messages) ≡ sentTo alpha (scanOf sign min1 min2 variable) variables messages (length messages)
+    least-nowhere : length messages ≤ least → bySigns minus plus messages (length messages) ≡ sentTo alpha clip (scanOf sign min1 min2 variable) variables messages (length messages)
     unfolding bySigns sentTo
     least-nowhere h = tables-agree (length messages) _ _ (λ i k. elsewhere i k (λ e. absurd (omega arith)))
 
 -- all that a check sends, in each case
-module _ (alpha : Float) (odd : Bool) (variables : List ℕ) (messages out : List Float) (sign min1 min2 : Float) (least : ℕ) (minus plus : Float)
+module _ (alpha : Float) (clip : Clip) (odd : Bool) (variables : List ℕ) (messages out : List Float) (sign min1 min2 : Float) (least : ℕ) (minus plus : Float)
     (r : Rises variables) (many : length messages ≡ length variables)
     (s : scanOf sign min1 min2 least ≡ first.scan odd messages (length messages))
-    (p : minus ≡ alpha *ᶠ (sign *ᶠ one⁻) *ᶠ saturated min1) (q : plus ≡ alpha *ᶠ (sign *ᶠ one⁺) *ᶠ saturated min1)
+    (p : minus ≡ clipped clip (alpha *ᶠ (sign *ᶠ one⁻) *ᶠ saturated min1)) (q : plus ≡ clipped clip (alpha *ᶠ (sign *ᶠ one⁺) *ᶠ saturated min1))
     (o : out ≡ bySigns minus plus messages (length messages)) where
   f : Found odd variables messages (length messages) (scanOf sign min1 min2 least)
   f = rw s (found odd variables messages (length messages))
 
-  pub sends-next : (x : Float) → least < length messages → x ≡ alpha *ᶠ (sign *ᶠ messageSign (getD messages least nan)) *ᶠ saturated min2
-      → set out least x ≡ checkMessages alpha odd variables messages
+  pub sends-next : (x : Float) → least < length messages → x ≡ clipped clip (alpha *ᶠ (sign *ᶠ messageSign (getD messages least nan)) *ᶠ saturated min2)
+      → set out least x ≡ checkMessages alpha clip odd variables messages
   unfolding checkMessages
-  sends-next x h e = rw (o, f .is) (least-put alpha sign min1 min2 variables messages (f .variable) least r many (f .whose) minus plus p q x h e)
+  sends-next x h e = rw (o, f .is) (least-put alpha clip sign min1 min2 variables messages (f .variable) least r many (f .whose) minus plus p q x h e)
 
-  pub sends-least : length messages ≤ least → out ≡ checkMessages alpha odd variables messages
+  pub sends-least : length messages ≤ least → out ≡ checkMessages alpha clip odd variables messages
   unfolding checkMessages
-  sends-least h = rw (o, f .is) (least-nowhere alpha sign min1 min2 variables messages (f .variable) least r many (f .whose) minus plus p q h)
+  sends-least h = rw (o, f .is) (least-nowhere alpha clip sign min1 min2 variables messages (f .variable) least r many (f .whose) minus plus p q h)

@@ -13,6 +13,7 @@ ghost use Rattle.relay_step.specs.Leg.{leg as legOf, runLeg, cost as cos
 ghost use Rattle.relay_step.specs.Places.{LegLists};
 use crate::step::step;
 use graph_lists::indices::at;
+use relay_settings::Clip;
 use relay_settings::Schedule;
 
 // A bit is 1 when its posterior is below 0.
@@ -133,6 +134,7 @@ pub fn run_leg(
     limit: usize,
     schedule: Schedule,
     alpha: f64,
+    clip: Clip,
     syndrome: &[u8],
     priors: &[f64],
     gamma: &[f64],
@@ -159,7 +161,7 @@ pub fn run_leg(
         let before = state (now («c_to_v» .entry)) (now («v_to_c» .entry)) (now (posterior .entry)) in
         let after = state (now («c_to_v» .exit)) (now («v_to_c» .exit)) (now (posterior .exit)) in
         ⌜ legOf (r .converged) (r .iterations) after
-        ≡ runLeg (iteration schedule byPlace g alpha (now (syndrome .entry)) (now (priors .entry)) (now (gamma .entry))
+        ≡ runLeg (iteration schedule byPlace g alpha clip (now (syndrome .entry)) (now (priors .entry)) (now (gamma .entry))
         (now (order .entry)))
         (satisfiedBy gChecks (now (syndrome .entry))) limit false 0 before ⌝ }
     ensures bits { λ _. ⌜ (0 < limit → now (bits .exit) ≡ hardDecision (now (posterior .exit))) ⌝ }
@@ -169,6 +171,7 @@ pub fn run_leg(
         step(
             schedule,
             alpha,
+            clip,
             syndrome,
             priors,
             gamma,

@@ -13,6 +13,7 @@ use crate::check::update_part;
 use crate::variable::update_variable;
 use crate::variable::update_variables;
 use graph_lists::indices::at;
+use relay_settings::Clip;
 use relay_settings::Schedule;
 
 // A variable's bias.
@@ -41,6 +42,7 @@ fn compute_bias(priors: &[f64], gamma: &[f64], posterior: &[f64], bias: &mut [f6
 fn update_one(
     c: usize,
     alpha: f64,
+    clip: Clip,
     syndrome: &[u8],
     check_var: &[u32],
     check_offset: &[u32],
@@ -54,12 +56,13 @@ fn update_one(
     ensures { λ _.
         let g = ofChecks (length (now (syndrome .entry))) (now («check_var» .entry)) (now («check_offset» .entry)) in
         let before = state (now («c_to_v» .entry)) (now («v_to_c» .entry)) [] in
-        ⌜ state (now («c_to_v» .exit)) (now («v_to_c» .entry)) [] ≡ updateCheck byPlace g alpha (now (syndrome .entry)) before c ⌝ }
+        ⌜ state (now («c_to_v» .exit)) (now («v_to_c» .entry)) [] ≡ updateCheck byPlace g alpha clip (now (syndrome .entry)) before c ⌝ }
 {
     let start = at(check_offset, c);
     let end = at(check_offset, c + 1);
     update_part(
         alpha,
+        clip,
         syndrome[c] != 0,
         start,
         end,
@@ -72,6 +75,7 @@ fn update_one(
 // The checks in the order given.
 fn check_pass(
     alpha: f64,
+    clip: Clip,
     syndrome: &[u8],
     check_var: &[u32],
     check_offset: &[u32],
@@ -87,12 +91,21 @@ fn check_pass(
         let g = ofChecks (length (now (syndrome .entry))) (now («check_var» .entry)) (now («check_offset» .entry)) in
         let before = state (now («c_to_v» .entry)) (now («v_to_c» .entry)) [] in
         ⌜ state (now («c_to_v» .exit)) (now («v_to_c» .entry)) []
-        ≡ checkPass byPlace g alpha (now (syndrome .entry)) (now (order .entry)) before ⌝ }
+        ≡ checkPass byPlace g alpha clip (now (syndrome .entry)) (now (order .entry)) before ⌝ }
 {
     let mut i = 0;
     while i < order.len() {
-        let c = at(order, i);
-        update_one(c, alpha, syndrome, check_var, check_offset, v_to_c, c_to_v);
+        let check = at(order, i);
+        update_one(
+            check,
+            alpha,
+            clip,
+            syndrome,
+            check_var,
+            check_offset,
+            v_to_c,
+            c_to_v,
+        );
         i += 1;
     }
 }
@@ -125,6 +138,7 @@ fn variable_pass(
 // `flooding_iteration`.
 fn flooding_iteration(
     alpha: f64,
+    clip: Clip,
     syndrome: &[u8],
     priors: &[f64],
     gamma: &[f64],
@@ -148,11 +162,12 @@ fn flooding_iteration(
         (now («check_offset» .entry)) (now («var_message» .entry)) (now («var_offset» .entry)) in
         let before = state (now («c_to_v» .entry)) (now («v_to_c» .entry)) (now (posterior .entry)) in
         ⌜ state (now («c_to_v» .exit)) (now («v_to_c» .exit)) (now (posterior .exit))
-        ≡ floodingIteration byPlace g alpha (now (syndrome .entry)) (now (priors .entry)) (now (gamma .entry))
+        ≡ floodingIteration byPlace g alpha clip (now (syndrome .entry)) (now (priors .entry)) (now (gamma .entry))
         (now (order .entry)) before ⌝ }
 {
     check_pass(
         alpha,
+        clip,
         syndrome,
         check_var,
         check_offset,
@@ -168,6 +183,7 @@ fn flooding_iteration(
 fn serial_check(
     c: usize,
     alpha: f64,
+    clip: Clip,
     syndrome: &[u8],
     bias: &[f64],
     check_var: &[u32],
@@ -188,19 +204,12 @@ fn serial_check(
         (now («check_offset» .entry)) (now («var_message» .entry)) (now («var_offset» .entry)) in
         let before = state (now («c_to_v» .entry)) (now («v_to_c» .entry)) (now (posterior .entry)) in
         ⌜ state (now («c_to_v» .exit)) (now («v_to_c» .exit)) (now (posterior .exit))
-        ≡ serialCheck byPlace g alpha (now (syndrome .entry)) (now (bias .entry)) before c ⌝ }
+        ≡ serialCheck byPlace g alpha clip (now (syndrome .entry)) (now (bias .entry)) before c ⌝ }
 {
     let start = at(check_offset, c);
     let end = at(check_offset, c + 1);
-    update_part(
-        alpha,
-        syndrome[c] != 0,
-        start,
-        end,
-        check_var,
-        v_to_c,
-        c_to_v,
-    );
+    let odd = syndrome[c] != 0;
+    update_part(alpha, clip, odd, start, end, check_var, v_to_c, c_to_v);
     update_variables(
         &check_var[start..end],
         bias,
@@ -215,6 +224,7 @@ fn serial_check(
 // The checks of a serial iteration, in the order given.
 fn serial_pass(
     alpha: f64,
+    clip: Clip,
     syndrome: &[u8],
     bias: &[f64],
     check_var: &[u32],
@@ -236,7 +246,7 @@ fn serial_pass(
         (now («check_offset» .entry)) (now («var_message» .entry)) (now («var_offset» .entry)) in
         let before = state (now («c_to_v» .entry)) (now («v_to_c» .entry)) (now (posterior .entry)) in
         ⌜ state (now («c_to_v» .exit)) (now («v_to_c» .exit)) (now (posterior .exit))
-        ≡ serialPass byPlace g alpha (now (syndrome .entry)) (now (bias .entry)) (now (order .entry)) before ⌝ }
+        ≡ serialPass byPlace g alpha clip (now (syndrome .entry)) (now (bias .entry)) (now (order .entry)) before ⌝ }
 {
     let mut i = 0;
     while i < order.len() {
@@ -244,6 +254,7 @@ fn serial_pass(
         serial_check(
             c,
             alpha,
+            clip,
             syndrome,
             bias,
             check_var,
@@ -261,6 +272,7 @@ fn serial_pass(
 // `check_serial_iteration`.
 fn check_serial_iteration(
     alpha: f64,
+    clip: Clip,
     syndrome: &[u8],
     priors: &[f64],
     gamma: &[f64],
@@ -284,12 +296,13 @@ fn check_serial_iteration(
         (now («check_offset» .entry)) (now («var_message» .entry)) (now («var_offset» .entry)) in
         let before = state (now («c_to_v» .entry)) (now («v_to_c» .entry)) (now (posterior .entry)) in
         ⌜ state (now («c_to_v» .exit)) (now («v_to_c» .exit)) (now (posterior .exit))
-        ≡ checkSerialIteration byPlace g alpha (now (syndrome .entry)) (now (priors .entry)) (now (gamma .entry))
+        ≡ checkSerialIteration byPlace g alpha clip (now (syndrome .entry)) (now (priors .entry)) (now (gamma .entry))
         (now (order .entry)) before ⌝ }
 {
     compute_bias(priors, gamma, posterior, bias);
     serial_pass(
         alpha,
+        clip,
         syndrome,
         bias,
         check_var,
@@ -307,6 +320,7 @@ fn check_serial_iteration(
 pub fn step(
     schedule: Schedule,
     alpha: f64,
+    clip: Clip,
     syndrome: &[u8],
     priors: &[f64],
     gamma: &[f64],
@@ -330,12 +344,13 @@ pub fn step(
         (now («check_offset» .entry)) (now («var_message» .entry)) (now («var_offset» .entry)) in
         let before = state (now («c_to_v» .entry)) (now («v_to_c» .entry)) (now (posterior .entry)) in
         ⌜ state (now («c_to_v» .exit)) (now («v_to_c» .exit)) (now (posterior .exit))
-        ≡ iteration schedule byPlace g alpha (now (syndrome .entry)) (now (priors .entry)) (now (gamma .entry))
+        ≡ iteration schedule byPlace g alpha clip (now (syndrome .entry)) (now (priors .entry)) (now (gamma .entry))
         (now (order .entry)) before ⌝ }
 {
     match schedule {
         Schedule::Flooding => flooding_iteration(
             alpha,
+            clip,
             syndrome,
             priors,
             gamma,
@@ -351,6 +366,7 @@ pub fn step(
         ),
         Schedule::CheckSerial => check_serial_iteration(
             alpha,
+            clip,
             syndrome,
             priors,
             gamma,

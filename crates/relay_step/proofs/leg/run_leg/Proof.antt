@@ -17,16 +17,16 @@ use Rattle.relay_step.proofs.leg.run_leg.Statement.{statement}
 use Rattle.relay_step.proofs.leg.run_leg.Tie as tie
 
 abbrev Inv-loop : tie.InvT-loop
-Inv-loop limit schedule alpha syndrome priors gamma check-var check-offset var-message var-offset order bias₀ c-to-v₀ v-to-c₀ posterior₀ bits₀ k₀ bias c-to-v v-to-c posterior bits k =
+Inv-loop limit schedule alpha clip syndrome priors gamma check-var check-offset var-message var-offset order bias₀ c-to-v₀ v-to-c₀ posterior₀ bits₀ k₀ bias c-to-v v-to-c posterior bits k =
     (k ≤ limit) × (length bias ≡ length bias₀) × (length c-to-v ≡ length c-to-v₀) × (length v-to-c ≡ length v-to-c₀) × (length posterior ≡ length posterior₀) × (length bits ≡ length bits₀)
-    × (runLeg (iteration schedule byPlace (walked (length syndrome) (length priors) check-var check-offset var-message var-offset) alpha syndrome priors gamma order)
+    × (runLeg (iteration schedule byPlace (walked (length syndrome) (length priors) check-var check-offset var-message var-offset) alpha clip syndrome priors gamma order)
     (satisfied (ofChecks (length syndrome) check-var check-offset) syndrome) (limit - k) false k (state c-to-v v-to-c posterior)
-    ≡ runLeg (iteration schedule byPlace (walked (length syndrome) (length priors) check-var check-offset var-message var-offset) alpha syndrome priors gamma order)
+    ≡ runLeg (iteration schedule byPlace (walked (length syndrome) (length priors) check-var check-offset var-message var-offset) alpha clip syndrome priors gamma order)
     (satisfied (ofChecks (length syndrome) check-var check-offset) syndrome) limit false 0 (state c-to-v₀ v-to-c₀ posterior₀))
     × (0 < k → bits ≡ hardDecision posterior)
 
 abbrev μ-loop : tie.MeasureT-loop
-μ-loop limit schedule alpha syndrome priors gamma check-var check-offset var-message var-offset order bias₀ c-to-v₀ v-to-c₀ posterior₀ bits₀ k₀ bias c-to-v v-to-c posterior bits k = limit - k
+μ-loop limit schedule alpha clip syndrome priors gamma check-var check-offset var-message var-offset order bias₀ c-to-v₀ v-to-c₀ posterior₀ bits₀ k₀ bias c-to-v v-to-c posterior bits k = limit - k
 
 -- one iteration, and the test, as they stand at the start
 abbrev Step : tie.Start Inv-loop μ-loop → State → State
@@ -34,6 +34,7 @@ Step s =
     iteration (s .args .schedule) byPlace (walked (length (s .args .syndrome .now))
     (length (s .args .priors .now)) (s .args .check-var .now) (s .args .check-offset .now) (s .args .var-message .now) (s .args .var-offset .now))
     (s .args .alpha)
+    (s .args .clip)
     (s .args .syndrome .now)
     (s .args .priors .now)
     (s .args .gamma .now)
@@ -96,26 +97,26 @@ satisfied-requires c κs =
     let l = c .before .before .before .before .before .before .before .before .before .before .before .before .before .before .before .before .loop in
     let p = s .pre .1 .1 .1 in
     let k = c .before .before .before .before .before .before .before .before .before .before .step
-    .kept .1 .1 .1 .1 .1 .1 .1 .1 .1 .1 .1 .1 .1 .0 ∙ l .inv .4 ∙ p .0 .values .posteriors in
+    .kept .1 .1 .1 .1 .1 .1 .1 .1 .1 .1 .1 .1 .1 .1 .0 ∙ l .inv .4 ∙ p .0 .values .posteriors in
     (walks-along _ _ _ _ _ (sym k) (s .pre .0), l .inv .5 ∙ p .0 .decisions ∙ sym k)
 
 same-length : tie.Need-same-length Inv-loop μ-loop
-same-length c = c .before .before .before .before .before .before .before .before .before .before .before .before .before .before .step .kept .1 .1 .1 .1 .1 .1
+same-length c = c .before .before .before .before .before .before .before .before .before .before .before .before .before .before .step .kept .1 .1 .1 .1 .1 .1 .1
     .1 .1 .1 .1 .0 ∙ c .before .before .before .before .before .before .before .before .before .before .before .before .before .before .before .before .before
     .before .before .before .loop .inv .1
 
 same-length-2 : tie.Need-same-length-2 Inv-loop μ-loop
-same-length-2 c = c .before .before .before .before .before .before .before .before .before .before .before .before .before .before .step .kept .1 .1 .1 .1 .1
+same-length-2 c = c .before .before .before .before .before .before .before .before .before .before .before .before .before .before .step .kept .1 .1 .1 .1 .1 .1
     .1 .1 .1 .1 .1 .1 .0 ∙ c .before .before .before .before .before .before .before .before .before .before .before .before .before .before .before .before
     .before .before .before .before .loop .inv .2
 
 same-length-3 : tie.Need-same-length-3 Inv-loop μ-loop
-same-length-3 c = c .before .before .before .before .before .before .before .before .before .before .before .before .before .before .step .kept .1 .1 .1 .1 .1
+same-length-3 c = c .before .before .before .before .before .before .before .before .before .before .before .before .before .before .step .kept .1 .1 .1 .1 .1 .1
     .1 .1 .1 .1 .1 .1 .1 .0 ∙ c .before .before .before .before .before .before .before .before .before .before .before .before .before .before .before .before
     .before .before .before .before .loop .inv .3
 
 same-length-4 : tie.Need-same-length-4 Inv-loop μ-loop
-same-length-4 c = c .before .before .before .before .before .before .before .before .before .before .before .before .before .before .step .kept .1 .1 .1 .1 .1
+same-length-4 c = c .before .before .before .before .before .before .before .before .before .before .before .before .before .before .step .kept .1 .1 .1 .1 .1 .1
     .1 .1 .1 .1 .1 .1 .1 .1 .0 ∙ c .before .before .before .before .before .before .before .before .before .before .before .before .before .before .before
     .before .before .before .before .before .loop .inv .4
 
@@ -167,10 +168,10 @@ loop-again c =
         c .before .before .before .before .before .before .before .before .before .before .before .before .before .before .before
             .before .before .before .before .loop-test .taken,
       ),
-      u .step .kept .1 .1 .1 .1 .1 .1 .1 .1 .1 .1 .0 ∙ l .inv .1,
-      u .step .kept .1 .1 .1 .1 .1 .1 .1 .1 .1 .1 .1 .0 ∙ l .inv .2,
-      u .step .kept .1 .1 .1 .1 .1 .1 .1 .1 .1 .1 .1 .1 .0 ∙ l .inv .3,
-      u .step .kept .1 .1 .1 .1 .1 .1 .1 .1 .1 .1 .1 .1 .1 .0 ∙ l .inv .4,
+      u .step .kept .1 .1 .1 .1 .1 .1 .1 .1 .1 .1 .1 .0 ∙ l .inv .1,
+      u .step .kept .1 .1 .1 .1 .1 .1 .1 .1 .1 .1 .1 .1 .0 ∙ l .inv .2,
+      u .step .kept .1 .1 .1 .1 .1 .1 .1 .1 .1 .1 .1 .1 .1 .0 ∙ l .inv .3,
+      u .step .kept .1 .1 .1 .1 .1 .1 .1 .1 .1 .1 .1 .1 .1 .1 .0 ∙ l .inv .4,
       c .before .before .before .satisfied .kept .1 .1 .1 .1 .0 ∙ l .inv .5,
       sym (leg-turn (Step (c .before .before .before .before .before .before .before .before .before .before .before .before .before .before .before .before
           .before .before .before .before .before .before .before .before .before .before .before .before .before .before .before .before .before .before))

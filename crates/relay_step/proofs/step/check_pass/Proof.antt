@@ -13,12 +13,12 @@ use Rattle.relay_step.proofs.step.check_pass.Statement.{statement}
 use Rattle.relay_step.proofs.step.check_pass.Tie as tie
 
 abbrev Inv-loop : tie.InvT-loop
-Inv-loop alpha syndrome check-var check-offset order v-to-c c-to-v₀ i₀ c-to-v i =
+Inv-loop alpha clip syndrome check-var check-offset order v-to-c c-to-v₀ i₀ c-to-v i =
     (i ≤ length order) × (length c-to-v ≡ length c-to-v₀)
-    × (state c-to-v v-to-c [] ≡ checkPass byPlace (ofChecks (length syndrome) check-var check-offset) alpha syndrome (take i order) (state c-to-v₀ v-to-c []))
+    × (state c-to-v v-to-c [] ≡ checkPass byPlace (ofChecks (length syndrome) check-var check-offset) alpha clip syndrome (take i order) (state c-to-v₀ v-to-c []))
 
 abbrev μ-loop : tie.MeasureT-loop
-μ-loop alpha syndrome check-var check-offset order v-to-c c-to-v₀ i₀ c-to-v i = length order - i
+μ-loop alpha clip syndrome check-var check-offset order v-to-c c-to-v₀ i₀ c-to-v i = length order - i
 
 loop-holds : tie.Need-loop-holds Inv-loop μ-loop
 unfolding checkPass
@@ -51,8 +51,8 @@ loop-again c =
     let l = c .before .before .before .before .before .before .loop in
     let u = c .before .before .update-one in (
       omega arith,
-      u .kept .1 .1 .1 .1 .1 .1 .0 ∙ l .inv .1,
-      checks-turn _ _ _ _ _ _ _
+      u .kept .1 .1 .1 .1 .1 .1 .1 .0 ∙ l .inv .1,
+      checks-turn _ _ _ _ _ _ _ _
           (l .i) _ (c .before .before .before .before .before .loop-test .taken) (c .before .before .before .before .at .ensures) (l .inv .2) (u .ensures),
     )
 
@@ -60,7 +60,7 @@ same-length : tie.Need-same-length Inv-loop μ-loop
 same-length c = omega arith
 
 returns : tie.Need-returns Inv-loop μ-loop
-returns c = checks-done _ _ _ _ _ _ (c .before .loop .i) (c .loop-test .left) (c .before .loop .inv .2)
+returns c = checks-done _ _ _ _ _ _ _ (c .before .loop .i) (c .loop-test .left) (c .before .loop .inv .2)
 
 pub check-pass-spec : {M : Type 1} → statement M
 check-pass-spec =

@@ -23,7 +23,7 @@ variable-pass-requires c κs =
     let p = s .pre .1 .1 .1 in
     let b = c .before .before .before .before .before .before .compute-bias .kept .1 .1 .1 .0 ∙ p .0 .biases in
     let k = c .before .before .before .before .before .before .before .before .before .before .before .check-pass
-    .kept .1 .1 .1 .1 .1 .1 .0 ∙ p .1 .to-variables in
+    .kept .1 .1 .1 .1 .1 .1 .1 .0 ∙ p .1 .to-variables in
     (p .0 .posteriors ∙ sym b, (walks-both _ _ _ _ _ _ (sym b) (sym k) (s .pre .1 .0), p .1 .to-checks ∙ sym k))
 
 same-length : tie.Need-same-length
@@ -42,7 +42,7 @@ returns : tie.Need-returns
 returns c =
     let p = c .before .before .before .before .before .before .before .before .before .before .before .before .before .before .before .before .before .before
     .before .before .before .before .before .before .before .before .before .before .before .before .before .pre .1 .1 .1 in
-    flooding-is _ _ _ _ _ _ _ _ _ _ _ _ _ _ _ _ _ (c .before .before .before .before .before .before .before .before .before .before .before .before .before
+    flooding-is _ _ _ _ _ _ _ _ _ _ _ _ _ _ _ _ _ _ (c .before .before .before .before .before .before .before .before .before .before .before .before .before
     .before .before .before .check-pass .ensures) (c .before .before .before .before .before .before .before .before .before .before .before .compute-bias
     .ensures) (c .before .before .before .before .before .before .before .before .before .before .before .compute-bias .kept .1 .1 .1 .0 ∙ p .0 .biases)
     (c .before .before .before .before .variable-pass .ensures)

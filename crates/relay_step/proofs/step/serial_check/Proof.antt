@@ -27,8 +27,8 @@ add-at c = search needs
 at-requires-2 : tie.Need-at-requires-2
 at-requires-2 c κs = search needs
 
-shared-slice-read-update-part : tie.Need-shared-slice-read-update-part
-shared-slice-read-update-part c = search needs
+shared-slice-read-odd : tie.Need-shared-slice-read-odd
+shared-slice-read-odd c = search needs
 
 update-part-requires : tie.Need-update-part-requires
 update-part-requires c κs =
@@ -60,7 +60,7 @@ update-variables-requires c κs =
     let s = c .before .before .before .before .before .before .before .before .before .before .before .before .before .before .before .before
     .before .before .before .before .before in
     let p = s .pre .1 .1 .1 in
-    let k = c .before .before .before .before .before .before .update-part .kept .1 .1 .1 .1 .1 .1 .0 in (
+    let k = c .before .before .before .before .before .before .update-part .kept .1 .1 .1 .1 .1 .1 .1 .0 in (
       part-names _ _ _ _ (s .pre .1 .0 .named) (within (c .before .before .before .before .before .before .before .before .before .before) .1),
       (
         p .0,
@@ -79,7 +79,7 @@ same-length-3 c = search needs
 
 returns : tie.Need-returns
 returns c =
-    serial-is _ _ _ _ _ _ _ _ _ _ _ _ (c .before .before .before .before .before .before .before .before .before .before .before .before .before .before .before
+    serial-is _ _ _ _ _ _ _ _ _ _ _ _ _ (c .before .before .before .before .before .before .before .before .before .before .before .before .before .before .before
     .before .before .before .before .before .before .before .before .before .before .before .args .c) _ _
     (c .before .before .before .before .before .before .before .before .before .before .before .before .before .before .before .before .at .ensures)
     (c .before .before .before .before .before .before .before .before .before .before .before .before .before .before .before .at2 .ensures)
@@ -93,7 +93,7 @@ serial-check-spec =
     at-requires
     add-at
     at-requires-2
-    shared-slice-read-update-part
+    shared-slice-read-odd
     update-part-requires
     mul-update-variables
     sub-update-variables

@@ -12,13 +12,13 @@ use Rattle.relay_step.proofs.step.serial_pass.Statement.{statement}
 use Rattle.relay_step.proofs.step.serial_pass.Tie as tie
 
 abbrev Inv-loop : tie.InvT-loop
-Inv-loop alpha syndrome bias check-var check-offset var-message var-offset order c-to-v₀ v-to-c₀ posterior₀ i₀ c-to-v v-to-c posterior i =
+Inv-loop alpha clip syndrome bias check-var check-offset var-message var-offset order c-to-v₀ v-to-c₀ posterior₀ i₀ c-to-v v-to-c posterior i =
     (i ≤ length order) × (length c-to-v ≡ length c-to-v₀) × (length v-to-c ≡ length v-to-c₀) × (length posterior ≡ length posterior₀)
     × (state c-to-v v-to-c posterior
-    ≡ serialPass byPlace (walked (length syndrome) (length bias) check-var check-offset var-message var-offset) alpha syndrome bias (take i order) (state c-to-v₀ v-to-c₀ posterior₀))
+    ≡ serialPass byPlace (walked (length syndrome) (length bias) check-var check-offset var-message var-offset) alpha clip syndrome bias (take i order) (state c-to-v₀ v-to-c₀ posterior₀))
 
 abbrev μ-loop : tie.MeasureT-loop
-μ-loop alpha syndrome bias check-var check-offset var-message var-offset order c-to-v₀ v-to-c₀ posterior₀ i₀ c-to-v v-to-c posterior i =
+μ-loop alpha clip syndrome bias check-var check-offset var-message var-offset order c-to-v₀ v-to-c₀ posterior₀ i₀ c-to-v v-to-c posterior i =
     length order - i
 
 loop-holds : tie.Need-loop-holds Inv-loop μ-loop
@@ -59,10 +59,10 @@ loop-again c =
     let l = c .before .before .before .before .before .before .before .before .before .before .before .before .loop in
     let u = c .before .before .before .before .before .before .serial-check in (
       omega arith,
-      u .kept .1 .1 .1 .1 .1 .1 .1 .1 .0 ∙ l .inv .1,
-      u .kept .1 .1 .1 .1 .1 .1 .1 .1 .1 .0 ∙ l .inv .2,
-      u .kept .1 .1 .1 .1 .1 .1 .1 .1 .1 .1 .0 ∙ l .inv .3,
-      serial-turn _ _ _ _ _ _ _ _ (l .i) _ (c .before .before .before .before .before .before .before .before .before .before .before .loop-test .taken)
+      u .kept .1 .1 .1 .1 .1 .1 .1 .1 .1 .0 ∙ l .inv .1,
+      u .kept .1 .1 .1 .1 .1 .1 .1 .1 .1 .1 .0 ∙ l .inv .2,
+      u .kept .1 .1 .1 .1 .1 .1 .1 .1 .1 .1 .1 .0 ∙ l .inv .3,
+      serial-turn _ _ _ _ _ _ _ _ _ (l .i) _ (c .before .before .before .before .before .before .before .before .before .before .before .loop-test .taken)
           (c .before .before .before .before .before .before .before .before .before .before .at .ensures) (l .inv .4) (u .ensures),
     )
 
@@ -76,7 +76,7 @@ same-length-3 : tie.Need-same-length-3 Inv-loop μ-loop
 same-length-3 c = omega arith
 
 returns : tie.Need-returns Inv-loop μ-loop
-returns c = serial-done _ _ _ _ _ _ _ (c .before .loop .i) (c .loop-test .left) (c .before .loop .inv .4)
+returns c = serial-done _ _ _ _ _ _ _ _ (c .before .loop .i) (c .loop-test .left) (c .before .loop .inv .4)
 
 pub serial-pass-spec : {M : Type 1} → statement M
 serial-pass-spec =

@@ -39,7 +39,7 @@ same-length : tie.Need-same-length
 same-length c = search needs
 
 returns : tie.Need-returns
-returns c = check-is _ _ _ _ _ _ _ _ _ _ _ _ (c .before .before .before .before .before .before .before .before .before .before .before .before .args .c) _ _
+returns c = check-is _ _ _ _ _ _ _ _ _ _ _ _ _ (c .before .before .before .before .before .before .before .before .before .before .before .before .args .c) _ _
     (c .before .before .before .before .before .before .at .ensures)
     (c .before .before .before .before .before .at2 .ensures) (c .before .before .update-part .ensures)
 
