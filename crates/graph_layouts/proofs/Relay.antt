@@ -9,6 +9,7 @@ use lib.ListN.{length, getD}
 use Rattle.graph_lists.specs.Graph.{Graph, checkEntries}
 use Rattle.graph_lists.specs.Messages.{byPlace}
 use Rattle.graph_lists.proofs.Sound.{Sound}
+use Rattle.relay_settings.specs.declared.Clip.{Clip}
 use Rattle.relay_settings.specs.declared.Schedule.{Schedule}
 use Rattle.relay_settings.specs.declared.Schedule.the-variants.{Flooding, CheckSerial}
 use Rattle.relay_step.specs.Step.{State, state, checkMessages, updateCheck, updateVariable, computeBias, checkPass, variablePass, floodingIteration, serialCheck, serialPass, checkSerialIteration, iteration}
@@ -28,41 +29,41 @@ use Rattle.graph_layouts.proofs.Loops.{folds-agree}
 
 -- ---- one iteration
 
-module _ (g : Graph) (sound : Sound g) (alpha : Float) (syndrome : List ℕ) where
+module _ (g : Graph) (sound : Sound g) (alpha : Float) (clip : Clip) (syndrome : List ℕ) where
   -- a check
-  check-agrees : (c : ℕ) → c < g .checks → (s : State) → Sized g s → updateCheck byPlace g alpha syndrome s c ≡ updateCheck (own g) g alpha syndrome s c
+  check-agrees : (c : ℕ) → c < g .checks → (s : State) → Sized g s → updateCheck byPlace g alpha clip syndrome s c ≡ updateCheck (own g) g alpha clip syndrome s c
   unfolding updateCheck
   check-agrees c h s z =
       let odd = not (eqb (getD syndrome c 0) 0) in
       ap (λ (x : List Float). state x (s .vToC) (s .posterior))
-      (update-agrees g (sound .check-parts) c h (checkMessages alpha odd (checkEntries g c)) (length-sent alpha odd (checkEntries g c)) (s .vToC) (s .cToV) (z .back) (z .out))
+      (update-agrees g (sound .check-parts) c h (checkMessages alpha clip odd (checkEntries g c)) (length-sent alpha clip odd (checkEntries g c)) (s .vToC) (s .cToV) (z .back) (z .out))
 
   module _ (prior gamma : List Float) (order : List ℕ) (below : All (λ k. k < g .checks) order) (s : State) (z : Sized g s) where
     -- the checks of a flooding iteration
-    pass-agrees : checkPass byPlace g alpha syndrome order s ≡ checkPass (own g) g alpha syndrome order s
+    pass-agrees : checkPass byPlace g alpha clip syndrome order s ≡ checkPass (own g) g alpha clip syndrome order s
     unfolding checkPass
     pass-agrees =
-        folds-agree (Sized g) (updateCheck byPlace g alpha syndrome) (updateCheck (own g) g alpha syndrome)
-        (all-map (λ c h t y. (check-agrees c h t y, keep-check g sound alpha syndrome [] c h t y)) below) s z
+        folds-agree (Sized g) (updateCheck byPlace g alpha clip syndrome) (updateCheck (own g) g alpha clip syndrome)
+        (all-map (λ c h t y. (check-agrees c h t y, keep-check g sound alpha clip syndrome [] c h t y)) below) s z
 
     -- a flooding iteration
-    flooding-agrees : floodingIteration byPlace g alpha syndrome prior gamma order s ≡ floodingIteration (own g) g alpha syndrome prior gamma order s
+    flooding-agrees : floodingIteration byPlace g alpha clip syndrome prior gamma order s ≡ floodingIteration (own g) g alpha clip syndrome prior gamma order s
     unfolding floodingIteration
     flooding-agrees = ap (λ (t : State). variablePass g (computeBias prior gamma (t .posterior)) t (g .mechanisms)) pass-agrees
 
     -- a serial one
-    serial-agrees : checkSerialIteration byPlace g alpha syndrome prior gamma order s ≡ checkSerialIteration (own g) g alpha syndrome prior gamma order s
+    serial-agrees : checkSerialIteration byPlace g alpha clip syndrome prior gamma order s ≡ checkSerialIteration (own g) g alpha clip syndrome prior gamma order s
     unfolding checkSerialIteration serialPass serialCheck
     serial-agrees =
         let bias = computeBias prior gamma (s .posterior) in
-        folds-agree (Sized g) (serialCheck byPlace g alpha syndrome bias) (serialCheck (own g) g alpha syndrome bias)
+        folds-agree (Sized g) (serialCheck byPlace g alpha clip syndrome bias) (serialCheck (own g) g alpha clip syndrome bias)
         (all-map
-        (λ c h t y. (ap (λ (u : State). foldl (updateVariable g bias) u (checkEntries g c)) (check-agrees c h t y), keep-serial g sound alpha syndrome bias c h t y)) below)
+        (λ c h t y. (ap (λ (u : State). foldl (updateVariable g bias) u (checkEntries g c)) (check-agrees c h t y), keep-serial g sound alpha clip syndrome bias c h t y)) below)
         s z
 
     -- either
     pub iteration-agrees : (schedule : Schedule)
-        → iteration schedule byPlace g alpha syndrome prior gamma order s ≡ iteration schedule (own g) g alpha syndrome prior gamma order s
+        → iteration schedule byPlace g alpha clip syndrome prior gamma order s ≡ iteration schedule (own g) g alpha clip syndrome prior gamma order s
     iteration-agrees Flooding = flooding-agrees
     iteration-agrees CheckSerial = serial-agrees
 
@@ -75,8 +76,8 @@ module _ (x : Shot) (sound : Sound (x .graph)) (names : NamesOnce (x .graph .che
   executed-agrees r posterior =
       let gamma = gammaOf (x .settings) (x .gammas) (x .graph .mechanisms) (x .seed) r in
       leg-same (Sized (x .graph)) _ _
-      (λ s z. iteration-agrees (x .graph) sound (x .settings .alpha) (x .syndrome) (x .prior) gamma (x .order) (names-below names) s z (x .settings .schedule))
-      (keep-iteration (x .graph) sound (x .order) names (x .settings .alpha) (x .syndrome) (x .settings .schedule) (x .prior) gamma)
+      (λ s z. iteration-agrees (x .graph) sound (x .settings .alpha) (x .settings .clip) (x .syndrome) (x .prior) gamma (x .order) (names-below names) s z (x .settings .schedule))
+      (keep-iteration (x .graph) sound (x .order) names (x .settings .alpha) (x .settings .clip) (x .syndrome) (x .settings .schedule) (x .prior) gamma)
       (satisfied (x .graph) (x .syndrome)) (iterationLimit (x .settings) r) false 0 (startLeg (x .graph) (x .prior) posterior) (start-sized (x .graph) (x .prior) posterior)
 
   -- recorded and judged

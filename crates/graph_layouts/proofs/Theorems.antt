@@ -24,6 +24,7 @@ use Rattle.graph_lists.proofs.GraphTests.{graph-told}
 use Rattle.graph_lists.proofs.Sameness.{tells}
 use Rattle.graph_lists.proofs.Sound.{Sound, passes-sound}
 use Rattle.min_sum.specs.Beliefs.{BeliefsLists, beliefsOutcome, beliefsRest, beliefsFault, ran, beliefsBy, beliefs}
+use Rattle.relay_settings.specs.declared.Clip.{Clip}
 use Rattle.relay_settings.specs.declared.Schedule.{Schedule}
 use Rattle.relay_stores.specs.Stores.{storesEach}
 use Rattle.relay_stores.proofs.EachIteration.{by-place-full}
@@ -111,7 +112,7 @@ module _ (edges : ℕ) (priors : List Float) (g : Graph) (syndrome : List ℕ) (
       beliefs-past (beliefsFault edges priors g syndrome iterations l) refl
       ∙ ap (λ (a : Answer). beliefsBy (own g) (orElse a (beliefsRest edges g syndrome iterations l)) edges priors g syndrome iterations scale serial l) (check-graph-equal edges priors g)
 
-module _ (edges : ℕ) (prior : List Float) (g : Graph) (schedule : Schedule) (alpha : Float) (gamma : List Float) (syndrome order : List ℕ) (l : StepLists) where
+module _ (edges : ℕ) (prior : List Float) (g : Graph) (schedule : Schedule) (alpha : Float) (clip : Clip) (gamma : List Float) (syndrome order : List ℕ) (l : StepLists) where
   -- lists that 22 takes have a message for each edge
   messages-fit : stepFits edges g gamma l ≡ true → (length (l .now .cToV) ≡ edges) × (length (l .now .vToC) ≡ edges)
   unfolding stepFits
@@ -122,11 +123,11 @@ module _ (edges : ℕ) (prior : List Float) (g : Graph) (schedule : Schedule) (a
       (eqb-true _ _ (b .0), eqb-true _ _ (c .0))
 
   -- what the tests tell of the state and the order, where they refuse nothing
-  step-told : stepFault edges prior g alpha gamma syndrome order l ≡ Done → Sound g × Sized g (l .now) × NamesOnce (g .checks) order
+  step-told : stepFault edges prior g alpha clip gamma syndrome order l ≡ Done → Sound g × Sized g (l .now) × NamesOnce (g .checks) order
   unfolding stepFault
   step-told h =
       let a = or-done _ _ h in
-      let d = or-done _ _ (or-done _ _ (or-done _ _ (a .1) .1) .1) in
+      let d = or-done _ _ (or-done _ _ (or-done _ _ (or-done _ _ (a .1) .1) .1) .1) in
       let f = messages-fit (unless-done _ LentListLength (d .0)) in
       let t = graph-told edges prior g (a .0) in
       let many : length (g .checkVar) ≡ edges = t .long .check-var in (
@@ -136,19 +137,19 @@ module _ (edges : ℕ) (prior : List Float) (g : Graph) (schedule : Schedule) (a
       )
 
   -- whatever they answer
-  iteration-past : (a : Answer) → stepFault edges prior g alpha gamma syndrome order l ≡ a
-      → iterationBy byPlace a edges prior g schedule alpha gamma syndrome order l ≡ iterationBy (own g) a edges prior g schedule alpha gamma syndrome order l
+  iteration-past : (a : Answer) → stepFault edges prior g alpha clip gamma syndrome order l ≡ a
+      → iterationBy byPlace a edges prior g schedule alpha clip gamma syndrome order l ≡ iterationBy (own g) a edges prior g schedule alpha clip gamma syndrome order l
   iteration-past (Refused r) h = refl
   iteration-past Done h =
       let t = step-told h in
-      ap (stepped edges g) (iteration-agrees g (t .0) alpha syndrome prior gamma order (names-below (t .2)) (l .now) (t .1) schedule)
+      ap (stepped edges g) (iteration-agrees g (t .0) alpha clip syndrome prior gamma order (names-below (t .2)) (l .now) (t .1) schedule)
 
   -- `iteration`
-  pub iteration-equal : iterationCall edges prior g schedule alpha gamma syndrome order l ≡ numberedIteration edges prior (withNumbers g) schedule alpha gamma syndrome order l
+  pub iteration-equal : iterationCall edges prior g schedule alpha clip gamma syndrome order l ≡ numberedIteration edges prior (withNumbers g) schedule alpha clip gamma syndrome order l
   unfolding iterationCall numberedIteration stepFault
   iteration-equal =
-      iteration-past (stepFault edges prior g alpha gamma syndrome order l) refl
-      ∙ ap (λ (a : Answer). iterationBy (own g) (orElse a (stepRest edges g alpha gamma syndrome order l)) edges prior g schedule alpha gamma syndrome order l)
+      iteration-past (stepFault edges prior g alpha clip gamma syndrome order l) refl
+      ∙ ap (λ (a : Answer). iterationBy (own g) (orElse a (stepRest edges g alpha clip gamma syndrome order l)) edges prior g schedule alpha clip gamma syndrome order l)
       (check-graph-equal edges prior g)
 
 module _ (edges : ℕ) (x : Shot) (l : DecodeLists) where
@@ -158,7 +159,7 @@ module _ (edges : ℕ) (x : Shot) (l : DecodeLists) where
   decode-past (Refused r) h = refl
   decode-past Done h =
       let a = or-done _ _ h in
-      let d = or-done _ _ (or-done _ _ (or-done _ _ (a .1) .1) .1) in
+      let d = or-done _ _ (or-done _ _ (or-done _ _ (or-done _ _ (a .1) .1) .1) .1) in
       let sound = sound-of edges (x .prior) (x .graph) (a .0) in
       let names = names-told (x .graph .checks) (x .order) (or-done _ _ (d .1) .0) in
       formula-stands byPlace x sound (by-place-full (x .graph) sound) names edges l
@@ -189,11 +190,11 @@ module _ (o : Numbered) (passes : isNumbered o ≡ true) where
       sym (beliefs-equal edges priors (withoutNumbers o) syndrome iterations scale serial l
       ∙ ap (λ (p : Numbered). numberedBeliefs edges priors p syndrome iterations scale serial l) (back-again o passes))
 
-  pub numbered-iteration-equal : (edges : ℕ) (prior : List Float) (schedule : Schedule) (alpha : Float) (gamma : List Float) (syndrome order : List ℕ) (l : StepLists)
-      → numberedIteration edges prior o schedule alpha gamma syndrome order l ≡ iterationCall edges prior (withoutNumbers o) schedule alpha gamma syndrome order l
-  numbered-iteration-equal edges prior schedule alpha gamma syndrome order l =
-      sym (iteration-equal edges prior (withoutNumbers o) schedule alpha gamma syndrome order l
-      ∙ ap (λ (p : Numbered). numberedIteration edges prior p schedule alpha gamma syndrome order l) (back-again o passes))
+  pub numbered-iteration-equal : (edges : ℕ) (prior : List Float) (schedule : Schedule) (alpha : Float) (clip : Clip) (gamma : List Float) (syndrome order : List ℕ) (l : StepLists)
+      → numberedIteration edges prior o schedule alpha clip gamma syndrome order l ≡ iterationCall edges prior (withoutNumbers o) schedule alpha clip gamma syndrome order l
+  numbered-iteration-equal edges prior schedule alpha clip gamma syndrome order l =
+      sym (iteration-equal edges prior (withoutNumbers o) schedule alpha clip gamma syndrome order l
+      ∙ ap (λ (p : Numbered). numberedIteration edges prior p schedule alpha clip gamma syndrome order l) (back-again o passes))
 
   module _ (edges : ℕ) (x : Shot) (l : DecodeLists) where
     pub numbered-decode-in-order-equal : numberedDecodeInOrder edges o x l ≡ decodeInOrder edges (withGraph x (withoutNumbers o)) l
@@ -213,8 +214,8 @@ pub record AllRefuse (r : Refusal) (edges : ℕ) (priors : List Float) (o : Numb
   pub check-graph : numberedFault edges priors o ≡ Refused r
   pub beliefs : (syndrome : List ℕ) (iterations : ℕ) (scale : Float) (serial : Bool) (l : BeliefsLists)
       → numberedBeliefs edges priors o syndrome iterations scale serial l ≡ beliefsOutcome (Refused r) l
-  pub iteration : (schedule : Schedule) (alpha : Float) (gamma : List Float) (syndrome order : List ℕ) (l : StepLists)
-      → numberedIteration edges priors o schedule alpha gamma syndrome order l ≡ stepOutcome (Refused r) l
+  pub iteration : (schedule : Schedule) (alpha : Float) (clip : Clip) (gamma : List Float) (syndrome order : List ℕ) (l : StepLists)
+      → numberedIteration edges priors o schedule alpha clip gamma syndrome order l ≡ stepOutcome (Refused r) l
   pub decode-in-order : (x : Shot) (l : DecodeLists) → x .prior ≡ priors → numberedDecodeInOrder edges o x l ≡ decodeOutcome (Decoded.Refused r) l
   pub decode : (x : Shot) (l : DecodeLists) → x .prior ≡ priors → numberedDecode edges o x l ≡ decodeOutcome (Decoded.Refused r) l
 
@@ -225,7 +226,7 @@ all-refuse r edges priors o h =
     record {
       check-graph = h;
       beliefs = λ syndrome iterations scale serial l. rw h;
-      iteration = λ schedule alpha gamma syndrome order l. rw h;
+      iteration = λ schedule alpha clip gamma syndrome order l. rw h;
       decode-in-order = λ x l e. rw (e, h);
       decode = λ x l e. rw (e, h);
     }

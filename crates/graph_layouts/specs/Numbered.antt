@@ -16,6 +16,7 @@ use Rattle.graph_lists.specs.Graph.{Graph, graph, entries, graphOf}
 use Rattle.graph_lists.specs.Messages.{Access}
 use Rattle.graph_lists.specs.Model.{graphFits, sameGraph, graphTests}
 use Rattle.min_sum.specs.Beliefs.{BeliefsLists, BeliefsOutcome, beliefsRest, beliefsBy}
+use Rattle.relay_settings.specs.declared.Clip.{Clip}
 use Rattle.relay_settings.specs.declared.Schedule.{Schedule}
 use Rattle.relay_calls.specs.Decode.{Shot, shot}
 use Rattle.relay_calls.specs.Calls.{StepLists, StepOutcome, stepRest, iterationBy, DecodeLists, DecodeOutcome, decodeRest, decodeBy, withOrder}
@@ -107,11 +108,11 @@ numberedBeliefs edges priors o syndrome iterations scale serial l =
     beliefsBy (byNumber (o .checkMessage)) tested edges priors g syndrome iterations scale serial l
 
 -- `iteration`
-unfoldable pub numberedIteration : ℕ → List Float → Numbered → Schedule → Float → List Float → List ℕ → List ℕ → StepLists → StepOutcome
-numberedIteration edges prior o schedule alpha gamma syndrome order l =
+unfoldable pub numberedIteration : ℕ → List Float → Numbered → Schedule → Float → Clip → List Float → List ℕ → List ℕ → StepLists → StepOutcome
+numberedIteration edges prior o schedule alpha clip gamma syndrome order l =
     let g = withoutNumbers o in
-    let tested = orElse (numberedFault edges prior o) (stepRest edges g alpha gamma syndrome order l) in
-    iterationBy (byNumber (o .checkMessage)) tested edges prior g schedule alpha gamma syndrome order l
+    let tested = orElse (numberedFault edges prior o) (stepRest edges g alpha clip gamma syndrome order l) in
+    iterationBy (byNumber (o .checkMessage)) tested edges prior g schedule alpha clip gamma syndrome order l
 
 -- the shot x over other lists
 abbrev pub withGraph : Shot → Graph → Shot

@@ -17,6 +17,7 @@ use Rattle.graph_lists.specs.Graph.{Graph, checkEntries, varEntries}
 use Rattle.graph_lists.specs.Messages.{byPlace, total}
 use Rattle.graph_lists.proofs.Sound.{Sound}
 use Rattle.graph_lists.proofs.Cuts.{offsets-rise, row-end}
+use Rattle.relay_settings.specs.declared.Clip.{Clip}
 use Rattle.relay_step.specs.Step.{State, state, checkMessages, updateCheck, written, updateVariable, serialCheck}
 use Rattle.relay_orders.specs.Order.{shares}
 use Rattle.relay_orders.proofs.All.{All, nil, cons, all-map, all-places, all-at, all-head, all-tail, any-none, or-left, or-right}
@@ -109,10 +110,10 @@ all-swap (y ∷ ys) h = cons (all-map (λ x t. all-head t) h) (all-swap ys (all-
 state-is : {c c′ v v′ p p′ : List Float} → c ≡ c′ → v ≡ v′ → p ≡ p′ → state c v p ≡ state c′ v′ p′
 state-is h k l = λ i. state (h i) (k i) (l i)
 
-module _ (g : Graph) (sound : Sound g) (alpha : Float) (syndrome : List ℕ) (bias : List Float) where
+module _ (g : Graph) (sound : Sound g) (alpha : Float) (clip : Clip) (syndrome : List ℕ) (bias : List Float) where
   -- the check c
   abbrev check : State → ℕ → State
-  check = updateCheck byPlace g alpha syndrome
+  check = updateCheck byPlace g alpha clip syndrome
 
   -- the variable v
   abbrev variable : State → ℕ → State
@@ -124,7 +125,7 @@ module _ (g : Graph) (sound : Sound g) (alpha : Float) (syndrome : List ℕ) (bi
 
   -- what the check c sends in the state s
   abbrev new : State → ℕ → List Float
-  new s c = checkMessages alpha (not (eqb (getD syndrome c 0) 0)) (checkEntries g c) (row (g .checkOffset) c (s .vToC))
+  new s c = checkMessages alpha clip (not (eqb (getD syndrome c 0) 0)) (checkEntries g c) (row (g .checkOffset) c (s .vToC))
 
   -- ---- the graph
 
@@ -172,7 +173,7 @@ module _ (g : Graph) (sound : Sound g) (alpha : Float) (syndrome : List ℕ) (bi
 
   -- a check's new messages fit its part
   new-length : (c : ℕ) → c < g .checks → (s : State) → Sized g s → length (new s c) ≡ start (suc c) - start c
-  new-length c h s z = length-sent alpha _ (checkEntries g c) (row (g .checkOffset) c (s .vToC)) ∙ length-part (start c) (start (suc c)) (s .vToC) (omega (arith, part-ends c h, z .back))
+  new-length c h s z = length-sent alpha clip _ (checkEntries g c) (row (g .checkOffset) c (s .vToC)) ∙ length-part (start c) (start (suc c)) (s .vToC) (omega (arith, part-ends c h, z .back))
 
   -- a check keeps the sizes
   pub keep-check : (c : ℕ) → c < g .checks → (s : State) → Sized g s → Sized g (check s c)
@@ -214,7 +215,7 @@ module _ (g : Graph) (sound : Sound g) (alpha : Float) (syndrome : List ℕ) (bi
       let p-is : getD bias v nan +ᶠ total wide ms ≡ p = ap (λ x. getD bias v nan +ᶠ x) (total-same wide old same) in
       let at-is : row (g .checkOffset) c (written p old (s .vToC) ms) ≡ row (g .checkOffset) c (s .vToC) = part-written (start c) (start (suc c)) p old (s .vToC) (sound .check-parts .rises c h) o in
       state-is
-      (ap (λ x. spliced old (start c) (start (suc c)) (checkMessages alpha odd (checkEntries g c) x)) (sym at-is))
+      (ap (λ x. spliced old (start c) (start (suc c)) (checkMessages alpha clip odd (checkEntries g c) x)) (sym at-is))
       (ap (λ x. written x wide (s .vToC) ms) p-is ∙ written-same p wide old (s .vToC) same)
       (ap (set (s .posterior) v) p-is)
 
@@ -262,13 +263,13 @@ module _ (g : Graph) (sound : Sound g) (alpha : Float) (syndrome : List ℕ) (bi
       ap (λ u. foldl variable u ws) (sym (variable-past w h vs b t s z)) ∙ variables-past vs b ws hs ts (variable s w) (keep-variable w s z)
 
   -- a check of a serial iteration keeps the sizes
-  pub keep-serial : (c : ℕ) → c < g .checks → (s : State) → Sized g s → Sized g (serialCheck byPlace g alpha syndrome bias s c)
+  pub keep-serial : (c : ℕ) → c < g .checks → (s : State) → Sized g s → Sized g (serialCheck byPlace g alpha clip syndrome bias s c)
   unfolding serialCheck
   keep-serial c h s z = keep-variables (checkEntries g c) (check s c) (keep-check c h s z)
 
   -- checks that share no mechanism change places
   pub swap-serial : (a b : ℕ) → b < a → a < g .checks → shares (checkEntries g) b a ≡ false → (s : State) → Sized g s
-      → serialCheck byPlace g alpha syndrome bias (serialCheck byPlace g alpha syndrome bias s a) b ≡ serialCheck byPlace g alpha syndrome bias (serialCheck byPlace g alpha syndrome bias s b) a
+      → serialCheck byPlace g alpha clip syndrome bias (serialCheck byPlace g alpha clip syndrome bias s a) b ≡ serialCheck byPlace g alpha clip syndrome bias (serialCheck byPlace g alpha clip syndrome bias s b) a
   unfolding serialCheck shares
   swap-serial a b h k q s z =
       let l : b < g .checks = omega arith in

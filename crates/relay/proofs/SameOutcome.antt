@@ -10,6 +10,7 @@ use Rattle.refusals.specs.declared.Answer.the-variants.{Done}
 use Rattle.graph_lists.specs.Graph.{Graph, checkEntries}
 use Rattle.graph_lists.specs.Messages.{byPlace, fromVariables, cleared}
 use Rattle.graph_lists.proofs.Sound.{Sound}
+use Rattle.relay_settings.specs.declared.Clip.{Clip}
 use Rattle.relay_settings.specs.declared.Schedule.{Schedule}
 use Rattle.relay_settings.specs.declared.Schedule.the-variants.{Flooding, CheckSerial}
 use Rattle.relay_step.specs.Step.{State, updateCheck, computeBias, checkPass, variablePass, floodingIteration, serialCheck, serialPass, checkSerialIteration, iteration}
@@ -27,38 +28,38 @@ use Rattle.relay.proofs.Exchange.{Sized, keep-check, keep-variable, kee
 
 -- ---- one iteration
 
-module _ (g : Graph) (sound : Sound g) (order : List ℕ) (names : NamesOnce (g .checks) order) (alpha : Float) (syndrome : List ℕ) where
+module _ (g : Graph) (sound : Sound g) (order : List ℕ) (names : NamesOnce (g .checks) order) (alpha : Float) (clip : Clip) (syndrome : List ℕ) where
   -- nothing asked of two checks
   abbrev Any : ℕ → ℕ → Type 0
   Any x y = Unit
 
   -- the checks of a flooding iteration, in any order that names each once
-  pass-same : (s : State) → Sized g s → checkPass byPlace g alpha syndrome order s ≡ checkPass byPlace g alpha syndrome (upto (g .checks)) s
+  pass-same : (s : State) → Sized g s → checkPass byPlace g alpha clip syndrome order s ≡ checkPass byPlace g alpha clip syndrome (upto (g .checks)) s
   unfolding checkPass
   pass-same s z =
-      same (updateCheck byPlace g alpha syndrome) (g .checks) (Sized g) (FreeIf Any) (λ a b t. t .0) (keep-check g sound alpha syndrome [])
-      (λ a b h t u y. sym (swap-checks g sound alpha syndrome [] b a (t .0) h u y)) (orders Any (g .checks) order names (keeps-any order)) (omega arith) s z
+      same (updateCheck byPlace g alpha clip syndrome) (g .checks) (Sized g) (FreeIf Any) (λ a b t. t .0) (keep-check g sound alpha clip syndrome [])
+      (λ a b h t u y. sym (swap-checks g sound alpha clip syndrome [] b a (t .0) h u y)) (orders Any (g .checks) order names (keeps-any order)) (omega arith) s z
 
   -- a flooding iteration
   flooding-same : (prior gamma : List Float) (s : State) → Sized g s
-      → floodingIteration byPlace g alpha syndrome prior gamma order s ≡ floodingIteration byPlace g alpha syndrome prior gamma (upto (g .checks)) s
+      → floodingIteration byPlace g alpha clip syndrome prior gamma order s ≡ floodingIteration byPlace g alpha clip syndrome prior gamma (upto (g .checks)) s
   unfolding floodingIteration
   flooding-same prior gamma s z = ap (λ t. variablePass g (computeBias prior gamma (t .posterior)) t (g .mechanisms)) (pass-same s z)
 
   -- a serial iteration, in an order in which nothing is exchanged
   serial-same : exchanged (checkEntries g) [] order ≡ Done → (prior gamma : List Float) (s : State) → Sized g s
-      → checkSerialIteration byPlace g alpha syndrome prior gamma order s ≡ checkSerialIteration byPlace g alpha syndrome prior gamma (upto (g .checks)) s
+      → checkSerialIteration byPlace g alpha clip syndrome prior gamma order s ≡ checkSerialIteration byPlace g alpha clip syndrome prior gamma (upto (g .checks)) s
   unfolding checkSerialIteration serialPass
   serial-same e prior gamma s z =
       let bias = computeBias prior gamma (s .posterior) in
       let R = Apart (checkEntries g) in
-      same (serialCheck byPlace g alpha syndrome bias) (g .checks) (Sized g) (FreeIf R) (λ a b t. t .0) (keep-serial g sound alpha syndrome bias)
-      (λ a b h t u y. swap-serial g sound alpha syndrome bias a b (t .0) h (t .1) u y) (orders R (g .checks) order names (keeps-order (checkEntries g) order e))
+      same (serialCheck byPlace g alpha clip syndrome bias) (g .checks) (Sized g) (FreeIf R) (λ a b t. t .0) (keep-serial g sound alpha clip syndrome bias)
+      (λ a b h t u y. swap-serial g sound alpha clip syndrome bias a b (t .0) h (t .1) u y) (orders R (g .checks) order names (keeps-order (checkEntries g) order e))
       (omega arith) s z
 
   -- an iteration of either schedule
   iteration-same : (schedule : Schedule) → exchangeFault schedule g order ≡ Done → (prior gamma : List Float) (s : State) → Sized g s
-      → iteration schedule byPlace g alpha syndrome prior gamma order s ≡ iteration schedule byPlace g alpha syndrome prior gamma (upto (g .checks)) s
+      → iteration schedule byPlace g alpha clip syndrome prior gamma order s ≡ iteration schedule byPlace g alpha clip syndrome prior gamma (upto (g .checks)) s
   unfolding exchangeFault
   iteration-same Flooding e prior gamma s z = flooding-same prior gamma s z
   iteration-same CheckSerial e prior gamma s z = serial-same e prior gamma s z
@@ -69,20 +70,20 @@ module _ (g : Graph) (sound : Sound g) (order : List ℕ) (names : NamesOnce (g 
   keep-pass : (bias : List Float) (s : State) (n : ℕ) → Sized g s → Sized g (variablePass g bias s n)
   unfolding variablePass
   keep-pass bias s zero z = z
-  keep-pass bias s (suc n) z = keep-variable g sound alpha syndrome bias n (variablePass g bias s n) (keep-pass bias s n z)
+  keep-pass bias s (suc n) z = keep-variable g sound alpha clip syndrome bias n (variablePass g bias s n) (keep-pass bias s n z)
 
   -- so does an iteration
-  pub keep-iteration : (schedule : Schedule) (prior gamma : List Float) (s : State) → Sized g s → Sized g (iteration schedule byPlace g alpha syndrome prior gamma order s)
+  pub keep-iteration : (schedule : Schedule) (prior gamma : List Float) (s : State) → Sized g s → Sized g (iteration schedule byPlace g alpha clip syndrome prior gamma order s)
   unfolding floodingIteration checkSerialIteration serialPass checkPass
   keep-iteration Flooding prior gamma s z =
-      keep-pass (computeBias prior gamma (checkPass byPlace g alpha syndrome order s .posterior)) (checkPass byPlace g alpha syndrome order s) (g .mechanisms)
-      (keeps (updateCheck byPlace g alpha syndrome) (g .checks) (Sized g) (FreeIf Any) (λ a b t. t .0) (keep-check g sound alpha syndrome [])
-      (λ a b h t u y. sym (swap-checks g sound alpha syndrome [] b a (t .0) h u y)) order (names-below names) s z)
+      keep-pass (computeBias prior gamma (checkPass byPlace g alpha clip syndrome order s .posterior)) (checkPass byPlace g alpha clip syndrome order s) (g .mechanisms)
+      (keeps (updateCheck byPlace g alpha clip syndrome) (g .checks) (Sized g) (FreeIf Any) (λ a b t. t .0) (keep-check g sound alpha clip syndrome [])
+      (λ a b h t u y. sym (swap-checks g sound alpha clip syndrome [] b a (t .0) h u y)) order (names-below names) s z)
   keep-iteration CheckSerial prior gamma s z =
       let bias = computeBias prior gamma (s .posterior) in
       let R = Apart (checkEntries g) in
-      keeps (serialCheck byPlace g alpha syndrome bias) (g .checks) (Sized g) (FreeIf R) (λ a b t. t .0) (keep-serial g sound alpha syndrome bias)
-      (λ a b h t u y. swap-serial g sound alpha syndrome bias a b (t .0) h (t .1) u y) order (names-below names) s z
+      keeps (serialCheck byPlace g alpha clip syndrome bias) (g .checks) (Sized g) (FreeIf R) (λ a b t. t .0) (keep-serial g sound alpha clip syndrome bias)
+      (λ a b h t u y. swap-serial g sound alpha clip syndrome bias a b (t .0) h (t .1) u y) order (names-below names) s z
 
 -- ---- a leg
 
@@ -112,8 +113,8 @@ module _ (x : Shot) (sound : Sound (x .graph)) (names : NamesOnce (x .graph .che
   unfolding executedLeg stepOf
   executed-same r posterior =
       let gamma = gammaOf (x .settings) (x .gammas) (x .graph .mechanisms) (x .seed) r in
-      leg-same (Sized (x .graph)) _ _ (iteration-same (x .graph) sound (x .order) names (x .settings .alpha) (x .syndrome) (x .settings .schedule) free (x .prior) gamma)
-      (keep-iteration (x .graph) sound (x .order) names (x .settings .alpha) (x .syndrome) (x .settings .schedule) (x .prior) gamma)
+      leg-same (Sized (x .graph)) _ _ (iteration-same (x .graph) sound (x .order) names (x .settings .alpha) (x .settings .clip) (x .syndrome) (x .settings .schedule) free (x .prior) gamma)
+      (keep-iteration (x .graph) sound (x .order) names (x .settings .alpha) (x .settings .clip) (x .syndrome) (x .settings .schedule) (x .prior) gamma)
       (satisfied (x .graph) (x .syndrome)) (iterationLimit (x .settings) r) false 0 (startLeg (x .graph) (x .prior) posterior) (start-sized (x .graph) (x .prior) posterior)
 
   -- one leg, recorded and judged

@@ -12,6 +12,7 @@ use Rattle.refusals.specs.declared.Answer.{Answer}
 use Rattle.refusals.specs.declared.Answer.the-variants.{Done, Refused}
 use Rattle.graph_lists.specs.Graph.{Graph, checkEntries}
 use Rattle.graph_lists.specs.Messages.{byPlace}
+use Rattle.relay_settings.specs.declared.Clip.{Clip}
 use Rattle.relay_settings.specs.declared.Schedule.{Schedule}
 use Rattle.relay_settings.specs.declared.Schedule.the-variants.{Flooding, CheckSerial}
 use Rattle.relay_calls.specs.declared.LegRecord.{LegRecord}
@@ -27,11 +28,11 @@ use Rattle.relay_orders.proofs.OrderWords.{exchanged-is}
 use Rattle.relay.proofs.AnyOrder.{order-free, flooding-takes, serial-takes}
 
 -- two results that the contract of `iteration` allows for one input coincide: the answer, and each lent list
-pub one-step : (edges : ℕ) (prior : List Float) (g : Graph) (schedule : Schedule) (alpha : Float) (gamma : List Float) (syndrome order : List ℕ) (l : StepLists)
-    (a b : Answer) (p q : StepLists) → stepOutcome a p ≡ iterationCall edges prior g schedule alpha gamma syndrome order l
-    → stepOutcome b q ≡ iterationCall edges prior g schedule alpha gamma syndrome order l
+pub one-step : (edges : ℕ) (prior : List Float) (g : Graph) (schedule : Schedule) (alpha : Float) (clip : Clip) (gamma : List Float) (syndrome order : List ℕ) (l : StepLists)
+    (a b : Answer) (p q : StepLists) → stepOutcome a p ≡ iterationCall edges prior g schedule alpha clip gamma syndrome order l
+    → stepOutcome b q ≡ iterationCall edges prior g schedule alpha clip gamma syndrome order l
     → (a ≡ b) × (p .now .cToV ≡ q .now .cToV) × (p .now .vToC ≡ q .now .vToC) × (p .now .posterior ≡ q .now .posterior) × (p .bias ≡ q .bias)
-one-step edges prior g schedule alpha gamma syndrome order l a b p q h k =
+one-step edges prior g schedule alpha clip gamma syndrome order l a b p q h k =
     let e = h ∙ sym k in (
       ap (λ (o : StepOutcome). o .answer) e,
       ap (λ (o : StepOutcome). o .left .now .cToV) e,
@@ -59,17 +60,17 @@ one-decode edges x l a b p q h k = let e = h ∙ sym k in (ap (λ (o : DecodeOut
 
 -- a leg of a decode repeats the step that a single iteration takes, with the leg's gammas, until the test is passed or the limit reached
 pub decode-repeats : (x : Shot) (r : ℕ) (posterior : List Float) (step : State → State)
-    → step ≡ iteration (x .settings .schedule) byPlace (x .graph) (x .settings .alpha) (x .syndrome) (x .prior) (gammaOf (x .settings) (x .gammas) (x .graph .mechanisms) (x .seed) r) (x .order)
+    → step ≡ iteration (x .settings .schedule) byPlace (x .graph) (x .settings .alpha) (x .settings .clip) (x .syndrome) (x .prior) (gammaOf (x .settings) (x .gammas) (x .graph .mechanisms) (x .seed) r) (x .order)
     → executedLeg byPlace x r posterior ≡ runLeg step (satisfied (x .graph) (x .syndrome)) (iterationLimit (x .settings) r) false 0 (startLeg (x .graph) (x .prior) posterior)
 unfolding executedLeg stepOf
 decode-repeats x r posterior step e = rw e
 
 -- and that is the step of the single iteration's call, past its tests
-pub iteration-steps : (edges : ℕ) (prior : List Float) (g : Graph) (schedule : Schedule) (alpha : Float) (gamma : List Float) (syndrome order : List ℕ) (l : StepLists)
-    → stepFault edges prior g alpha gamma syndrome order l ≡ Done
-    → iterationCall edges prior g schedule alpha gamma syndrome order l ≡ stepped edges g (iteration schedule byPlace g alpha syndrome prior gamma order (l .now))
+pub iteration-steps : (edges : ℕ) (prior : List Float) (g : Graph) (schedule : Schedule) (alpha : Float) (clip : Clip) (gamma : List Float) (syndrome order : List ℕ) (l : StepLists)
+    → stepFault edges prior g alpha clip gamma syndrome order l ≡ Done
+    → iterationCall edges prior g schedule alpha clip gamma syndrome order l ≡ stepped edges g (iteration schedule byPlace g alpha clip syndrome prior gamma order (l .now))
 unfolding iterationCall
-iteration-steps edges prior g schedule alpha gamma syndrome order l h = rw h
+iteration-steps edges prior g schedule alpha clip gamma syndrome order l h = rw h
 
 -- ---- demand 3 (docs/PROMISES.md): an order that is taken gives the index order's outcome
 

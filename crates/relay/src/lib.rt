@@ -15,6 +15,8 @@ use refusals_tests::is_done;
 // The settings' types, which `relay_settings` declares.
 pub type Schedule = relay_settings::Schedule;
 
+pub type Clip = relay_settings::Clip;
+
 pub type GammaSource = relay_settings::GammaSource;
 
 pub type Settings = relay_settings::Settings;
@@ -57,6 +59,7 @@ pub fn iteration(
     var_offset: &[u32],
     schedule: Schedule,
     alpha: f64,
+    clip: Clip,
     gamma: &[f64],
     syndrome: &[u8],
     order: &[u32],
@@ -71,7 +74,7 @@ pub fn iteration(
         let before = stepLists (state (now («c_to_v» .entry)) (now («v_to_c» .entry)) (now (posterior .entry))) (now (bias .entry)) in
         let after = stepLists (state (now («c_to_v» .exit)) (now («v_to_c» .exit)) (now (posterior .exit))) (now (bias .exit)) in
         ⌜ stepOutcome r after
-        ≡ iterationCall (size .edges) (now (priors .entry)) g schedule alpha (now (gamma .entry)) (now (syndrome .entry))
+        ≡ iterationCall (size .edges) (now (priors .entry)) g schedule alpha clip (now (gamma .entry)) (now (syndrome .entry))
         (now (order .entry)) before ⌝ }
 {
     let a = relay_calls::tests::fault(
@@ -83,6 +86,7 @@ pub fn iteration(
         var_message,
         var_offset,
         alpha,
+        clip,
         gamma,
         syndrome,
         order,
@@ -97,6 +101,7 @@ pub fn iteration(
     relay_calls::iterate::stepped(
         schedule,
         alpha,
+        clip,
         syndrome,
         priors,
         gamma,

@@ -25,6 +25,7 @@ use Rattle.graph_lists.specs.Sound.{Keys}
 use Rattle.graph_messages.specs.Needs.{Walks, walked, ofVariables}
 use Rattle.graph_messages.proofs.Parts.{walks-both, entries-along}
 use Rattle.graph_messages.proofs.Walks.{graph-walks}
+use Rattle.relay_settings.specs.declared.Clip.{Clip}
 use Rattle.relay_settings.specs.declared.Schedule.{Schedule}
 use Rattle.relay_settings.specs.declared.Schedule.the-variants.{Flooding, CheckSerial}
 use Rattle.relay_calls.specs.declared.LegRecord.{LegRecord}
@@ -94,11 +95,11 @@ stepped-is edges checks mechanisms cv co vm vo s t u bias a e n m k b h l =
 
 -- ---- a step reads four of the five lists
 
-module _ (checks mechanisms : ℕ) (cv co vc vm vo : List ℕ) (alpha : Float) (syndrome : List ℕ) (prior gamma : List Float) (order : List ℕ) where
+module _ (checks mechanisms : ℕ) (cv co vc vm vo : List ℕ) (alpha : Float) (clip : Clip) (syndrome : List ℕ) (prior gamma : List Float) (order : List ℕ) where
   -- the step of the whole graph is that of the four
   pub same-step : (schedule : Schedule)
-      → iteration schedule byPlace (walked checks mechanisms cv co vm vo) alpha syndrome prior gamma order
-      ≡ iteration schedule byPlace (graph checks mechanisms cv co vc vm vo) alpha syndrome prior gamma order
+      → iteration schedule byPlace (walked checks mechanisms cv co vm vo) alpha clip syndrome prior gamma order
+      ≡ iteration schedule byPlace (graph checks mechanisms cv co vc vm vo) alpha clip syndrome prior gamma order
   unfolding floodingIteration checkSerialIteration checkPass variablePass serialPass serialCheck updateCheck updateVariable
   same-step Flooding = refl
   same-step CheckSerial = refl
@@ -109,11 +110,11 @@ module _ (checks mechanisms : ℕ) (cv co vc vm vo : List ℕ) (alpha : Float) (
   same-end edges s = refl
 
 -- as many checks, mechanisms and edges, however they are counted
-stepped-counted : (edges edges′ checks checks′ mechanisms mechanisms′ : ℕ) (cv co vm vo : List ℕ) (schedule : Schedule) (alpha : Float) (syndrome : List ℕ)
+stepped-counted : (edges edges′ checks checks′ mechanisms mechanisms′ : ℕ) (cv co vm vo : List ℕ) (schedule : Schedule) (alpha : Float) (clip : Clip) (syndrome : List ℕ)
     (prior gamma : List Float) (order : List ℕ) (s : State) → edges ≡ edges′ → checks ≡ checks′ → mechanisms ≡ mechanisms′
-    → stepped edges (walked checks mechanisms cv co vm vo) (iteration schedule byPlace (walked checks mechanisms cv co vm vo) alpha syndrome prior gamma order s)
-    ≡ stepped edges′ (walked checks′ mechanisms′ cv co vm vo) (iteration schedule byPlace (walked checks′ mechanisms′ cv co vm vo) alpha syndrome prior gamma order s)
-stepped-counted edges edges′ checks checks′ mechanisms mechanisms′ cv co vm vo schedule alpha syndrome prior gamma order s p q r = rw (p, q, r)
+    → stepped edges (walked checks mechanisms cv co vm vo) (iteration schedule byPlace (walked checks mechanisms cv co vm vo) alpha clip syndrome prior gamma order s)
+    ≡ stepped edges′ (walked checks′ mechanisms′ cv co vm vo) (iteration schedule byPlace (walked checks′ mechanisms′ cv co vm vo) alpha clip syndrome prior gamma order s)
+stepped-counted edges edges′ checks checks′ mechanisms mechanisms′ cv co vm vo schedule alpha clip syndrome prior gamma order s p q r = rw (p, q, r)
 
 -- ---- the single iteration
 
@@ -136,14 +137,14 @@ pub record Passed (edges checks mechanisms : ℕ) (cv co vm vo : List ℕ) (prio
   pub c-many : length (l .now .cToV) ≡ length cv
   pub v-many : length (l .now .vToC) ≡ length cv
 
-module _ (edges checks mechanisms : ℕ) (cv co vc vm vo : List ℕ) (prior : List Float) (alpha : Float) (gamma : List Float) (syndrome order : List ℕ) (l : StepLists) where
+module _ (edges checks mechanisms : ℕ) (cv co vc vm vo : List ℕ) (prior : List Float) (alpha : Float) (clip : Clip) (gamma : List Float) (syndrome order : List ℕ) (l : StepLists) where
   -- where none refuses, they tell all that the step asks
-  pub passed : (a : Answer) (b : Bool) → a ≡ stepFault edges prior (graph checks mechanisms cv co vc vm vo) alpha gamma syndrome order l → b ≡ isDone a
+  pub passed : (a : Answer) (b : Bool) → a ≡ stepFault edges prior (graph checks mechanisms cv co vc vm vo) alpha clip gamma syndrome order l → b ≡ isDone a
       → not b ≡ false → Passed edges checks mechanisms cv co vm vo prior gamma syndrome order l
   unfolding stepFault stepFits syndromeFault
   passed a b e d h =
       let t1 = or-done _ _ (sym e ∙ done-is a (sym d ∙ not-false b h)) in
-      let t2 = or-done _ _ (t1 .1) in
+      let t2 = or-done _ _ (or-done _ _ (t1 .1) .1) in
       let t3 = or-done _ _ (t2 .1) in
       let t4 = or-done _ _ (t3 .1) in
       let t5 = or-done _ _ (t4 .1) in
@@ -170,27 +171,27 @@ module _ (edges checks mechanisms : ℕ) (cv co vc vm vo : List ℕ) (prior : Li
 
   module _ (schedule : Schedule) where
     -- a call that is refused
-    pub iteration-refused : (a : Answer) (b : Bool) → a ≡ stepFault edges prior (graph checks mechanisms cv co vc vm vo) alpha gamma syndrome order l
+    pub iteration-refused : (a : Answer) (b : Bool) → a ≡ stepFault edges prior (graph checks mechanisms cv co vc vm vo) alpha clip gamma syndrome order l
         → b ≡ isDone a → not b ≡ true
-        → stepOutcome a l ≡ iterationCall edges prior (graph checks mechanisms cv co vc vm vo) schedule alpha gamma syndrome order l
+        → stepOutcome a l ≡ iterationCall edges prior (graph checks mechanisms cv co vc vm vo) schedule alpha clip gamma syndrome order l
     unfolding iterationCall
     iteration-refused a b e d h = rw (← e) (leaves a _ l (sym d ∙ not-true b h))
 
     -- one that is not
-    pub iteration-ran : (a : Answer) (b : Bool) (o : StepOutcome) → a ≡ stepFault edges prior (graph checks mechanisms cv co vc vm vo) alpha gamma syndrome order l
+    pub iteration-ran : (a : Answer) (b : Bool) (o : StepOutcome) → a ≡ stepFault edges prior (graph checks mechanisms cv co vc vm vo) alpha clip gamma syndrome order l
         → b ≡ isDone a → not b ≡ false
         → o ≡ stepped (length cv) (walked (length syndrome) (length prior) cv co vm vo)
-        (iteration schedule byPlace (walked (length syndrome) (length prior) cv co vm vo) alpha syndrome prior gamma order (l .now))
-        → o ≡ iterationCall edges prior (graph checks mechanisms cv co vc vm vo) schedule alpha gamma syndrome order l
+        (iteration schedule byPlace (walked (length syndrome) (length prior) cv co vm vo) alpha clip syndrome prior gamma order (l .now))
+        → o ≡ iterationCall edges prior (graph checks mechanisms cv co vc vm vo) schedule alpha clip gamma syndrome order l
     unfolding iterationCall
     iteration-ran a b o e d h q =
         let t = passed a b e d h in
-        let done : stepFault edges prior (graph checks mechanisms cv co vc vm vo) alpha gamma syndrome order l ≡ Done = sym e ∙ done-is a (sym d ∙ not-false b h) in
+        let done : stepFault edges prior (graph checks mechanisms cv co vc vm vo) alpha clip gamma syndrome order l ≡ Done = sym e ∙ done-is a (sym d ∙ not-false b h) in
         rw done
         (q
-        ∙ stepped-counted _ _ _ _ _ _ cv co vm vo schedule alpha syndrome prior gamma order (l .now) (t .edges-many) (t .checks-many) (t .mechanisms-many)
-        ∙ ap (λ step. stepped edges (walked checks mechanisms cv co vm vo) (step (l .now))) (same-step checks mechanisms cv co vc vm vo alpha syndrome prior gamma order schedule)
-        ∙ same-end checks mechanisms cv co vc vm vo alpha syndrome prior gamma order edges _)
+        ∙ stepped-counted _ _ _ _ _ _ cv co vm vo schedule alpha clip syndrome prior gamma order (l .now) (t .edges-many) (t .checks-many) (t .mechanisms-many)
+        ∙ ap (λ step. stepped edges (walked checks mechanisms cv co vm vo) (step (l .now))) (same-step checks mechanisms cv co vc vm vo alpha clip syndrome prior gamma order schedule)
+        ∙ same-end checks mechanisms cv co vc vm vo alpha clip syndrome prior gamma order edges _)
 
 -- ---- the legs
 

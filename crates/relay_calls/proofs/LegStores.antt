@@ -97,10 +97,10 @@ module _ (had : Access) (x : Shot) (sound : Sound (x .graph)) (full : Full had (
       let gamma = gammaOf (x .settings) (x .gammas) (x .graph .mechanisms) (x .seed) r in (
         omega (
           arith,
-          iteration-stores (x .settings .schedule) had (x .graph) sound full (x .order) names (x .settings .alpha) (x .syndrome) (x .prior) gamma t (w .1),
+          iteration-stores (x .settings .schedule) had (x .graph) sound full (x .order) names (x .settings .alpha) (x .settings .clip) (x .syndrome) (x .prior) gamma t (w .1),
           w .0,
         ),
-        iteration-keeps (x .settings .schedule) had (x .graph) (x .settings .alpha) (x .syndrome) (x .prior) gamma (x .order) t ∙ w .1,
+        iteration-keeps (x .settings .schedule) had (x .graph) (x .settings .alpha) (x .settings .clip) (x .syndrome) (x .prior) gamma (x .order) t ∙ w .1,
       )
 
   -- a leg

@@ -9,17 +9,18 @@ use lib.Ieee.{Float, nan}
 use lib.ListN.{length, getD, replicate}
 use Rattle.numbers.specs.Floats.{zero⁺, isFinite}
 use Rattle.numbers.specs.Loops.{every, over, upto}
-use Rattle.refusals.specs.declared.Refusal.the-variants.{BadAlpha, SyndromeLength, SyndromeNotBinary, LentListLength, StateNotFinite, NonFinite}
+use Rattle.refusals.specs.declared.Refusal.the-variants.{BadClip, BadAlpha, SyndromeLength, SyndromeNotBinary, LentListLength, StateNotFinite, NonFinite}
 use Rattle.refusals.specs.declared.Answer.{Answer}
 use Rattle.refusals.specs.declared.Answer.the-variants.{Done, Refused}
 use Rattle.refusals.specs.Tests.{unless, orElse, firstOf, unlessRefused}
 use Rattle.graph_lists.specs.Graph.{Graph, varEntries}
 use Rattle.graph_lists.specs.Messages.{Access, byPlace}
 use Rattle.graph_lists.specs.Model.{graphFault}
+use Rattle.relay_settings.specs.declared.Clip.{Clip}
 use Rattle.relay_settings.specs.declared.Schedule.{Schedule}
 use Rattle.relay_calls.specs.declared.Decoded.{Decoded}
 use Rattle.relay_calls.specs.declared.Decoded.the-variants as Decoded
-use Rattle.relay_settings.specs.Settings.{alphaGood, settingsFault}
+use Rattle.relay_settings.specs.Settings.{clipGood, alphaGood, settingsFault}
 use Rattle.relay_step.specs.Step.{State, state, iteration}
 use Rattle.relay_orders.specs.Order.{namesFault, exchangeFault}
 use Rattle.relay_stores.specs.Stores.{storesFault}
@@ -70,17 +71,18 @@ allFinite xs = every (length xs) (finiteAt xs)
 unfoldable pub stateFinite : List Float → State → Bool
 stateFinite gamma s = allFinite (s .cToV) && (allFinite (s .vToC) && (allFinite (s .posterior) && allFinite gamma))
 
--- the tests of `iteration` behind those of the graph: 10, 20, 21, 22, 23, 25
-abbrev pub stepRest : ℕ → Graph → Float → List Float → List ℕ → List ℕ → StepLists → Answer
-stepRest edges g alpha gamma syndrome order l =
-    orElse (unless (alphaGood alpha) BadAlpha)
+-- the tests of `iteration` behind those of the graph: 9, 10, 20, 21, 22, 23, 25
+abbrev pub stepRest : ℕ → Graph → Float → Clip → List Float → List ℕ → List ℕ → StepLists → Answer
+stepRest edges g alpha clip gamma syndrome order l =
+    orElse (unless (clipGood clip) BadClip)
+    (orElse (unless (alphaGood alpha) BadAlpha)
     (orElse (syndromeFault (g .checks) syndrome)
     (orElse (unless (stepFits edges g gamma l) LentListLength)
-    (orElse (namesFault (g .checks) order) (unless (stateFinite gamma (l .now)) StateNotFinite))))
+    (orElse (namesFault (g .checks) order) (unless (stateFinite gamma (l .now)) StateNotFinite)))))
 
--- the tests of `iteration`: 1, 2, 4, 7, 10, 20, 21, 22, 23, 25
-unfoldable pub stepFault : ℕ → List Float → Graph → Float → List Float → List ℕ → List ℕ → StepLists → Answer
-stepFault edges prior g alpha gamma syndrome order l = orElse (graphFault edges prior g) (stepRest edges g alpha gamma syndrome order l)
+-- the tests of `iteration`: 1, 2, 4, 7, 9, 10, 20, 21, 22, 23, 25
+unfoldable pub stepFault : ℕ → List Float → Graph → Float → Clip → List Float → List ℕ → List ℕ → StepLists → Answer
+stepFault edges prior g alpha clip gamma syndrome order l = orElse (graphFault edges prior g) (stepRest edges g alpha clip gamma syndrome order l)
 
 -- both messages that the i-th of these entries names are finite
 unfoldable pub messageFinite : State → List ℕ → ℕ → Bool
@@ -111,15 +113,15 @@ afterStepTests Done o l = o
 afterStepTests (Refused r) o l = stepOutcome (Refused r) l
 
 -- a call whose tests answer `tested`, with a check's messages had so
-abbrev pub iterationBy : Access → Answer → ℕ → List Float → Graph → Schedule → Float → List Float → List ℕ → List ℕ → StepLists → StepOutcome
-iterationBy had tested edges prior g schedule alpha gamma syndrome order l =
-    let o = stepped edges g (iteration schedule had g alpha syndrome prior gamma order (l .now)) in
+abbrev pub iterationBy : Access → Answer → ℕ → List Float → Graph → Schedule → Float → Clip → List Float → List ℕ → List ℕ → StepLists → StepOutcome
+iterationBy had tested edges prior g schedule alpha clip gamma syndrome order l =
+    let o = stepped edges g (iteration schedule had g alpha clip syndrome prior gamma order (l .now)) in
     afterStepTests tested o l
 
 -- `iteration`: one step of the schedule in the order given
-unfoldable pub iterationCall : ℕ → List Float → Graph → Schedule → Float → List Float → List ℕ → List ℕ → StepLists → StepOutcome
-iterationCall edges prior g schedule alpha gamma syndrome order l =
-    iterationBy byPlace (stepFault edges prior g alpha gamma syndrome order l) edges prior g schedule alpha gamma syndrome order l
+unfoldable pub iterationCall : ℕ → List Float → Graph → Schedule → Float → Clip → List Float → List ℕ → List ℕ → StepLists → StepOutcome
+iterationCall edges prior g schedule alpha clip gamma syndrome order l =
+    iterationBy byPlace (stepFault edges prior g alpha clip gamma syndrome order l) edges prior g schedule alpha clip gamma syndrome order l
 
 -- ---- decode
 
@@ -174,7 +176,7 @@ decodeListsFit edges x l =
     && (eqb (length (l .gamma)) mechanisms
     && (eqb (length (l .bias)) mechanisms && (eqb (length (l .cToV)) edges && eqb (length (l .vToC)) edges))))))))
 
--- the tests of a decode behind those of the graph: 10 to 24, and 29
+-- the tests of a decode behind those of the graph: 9 to 24, and 29
 abbrev pub decodeRest : ℕ → Shot → DecodeLists → Answer
 decodeRest edges x l =
     orElse (settingsFault (x .settings) (x .graph .mechanisms) (x .gammas))
@@ -183,7 +185,7 @@ decodeRest edges x l =
     (orElse (namesFault (x .graph .checks) (x .order))
     (orElse (exchangeFault (x .settings .schedule) (x .graph) (x .order)) (storesFault (x .settings) (x .graph))))))
 
--- the tests of a decode: 1, 2, 4, 7, 10 to 24, 29
+-- the tests of a decode: 1, 2, 4, 7, 9 to 24, 29
 unfoldable pub decodeFault : ℕ → Shot → DecodeLists → Answer
 decodeFault edges x l = orElse (graphFault edges (x .prior) (x .graph)) (decodeRest edges x l)
 

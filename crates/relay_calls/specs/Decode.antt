@@ -46,7 +46,7 @@ iterationLimit t (suc r) = t .«leg_iterations»
 -- one iteration of the leg r: the public single iteration's step, with the leg's gammas
 unfoldable pub stepOf : Access → Shot → ℕ → State → State
 stepOf had x r =
-    iteration (x .settings .schedule) had (x .graph) (x .settings .alpha) (x .syndrome) (x .prior)
+    iteration (x .settings .schedule) had (x .graph) (x .settings .alpha) (x .settings .clip) (x .syndrome) (x .prior)
     (gammaOf (x .settings) (x .gammas) (x .graph .mechanisms) (x .seed) r)
     (x .order)
 
@@ -159,7 +159,7 @@ decodeLegs had x = legsFrom had x (suc (x .settings .«num_legs»)) (running (st
 -- one iteration of the leg r, with each store counted: its state is that of `stepOf`
 unfoldable pub countedStepOf : Access → Shot → ℕ → Counted → Counted
 countedStepOf had x r =
-    countedIteration (x .settings .schedule) had (x .graph) (x .settings .alpha) (x .syndrome) (x .prior)
+    countedIteration (x .settings .schedule) had (x .graph) (x .settings .alpha) (x .settings .clip) (x .syndrome) (x .prior)
     (gammaOf (x .settings) (x .gammas) (x .graph .mechanisms) (x .seed) r)
     (x .order)
 

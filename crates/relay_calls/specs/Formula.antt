@@ -12,7 +12,7 @@ use Rattle.relay_stores.specs.Stores.{storesEach, storesFault}
 use Rattle.relay_calls.specs.Decode.{Shot, Ended, decoded, refused, decodeLegs}
 use Rattle.relay_calls.specs.Calls.{DecodeLists, DecodeOutcome, syndromeFault, decodeListsFit, afterLegs, afterDecodeTests}
 
--- the tests of a decode before 29: 1, 2, 4, 7, 10 to 24
+-- the tests of a decode before 29: 1, 2, 4, 7, 9 to 24
 unfoldable pub takenFault : ℕ → Shot → DecodeLists → Answer
 takenFault edges x l =
     orElse (graphFault edges (x .prior) (x .graph))

@@ -20,6 +20,7 @@ use refusals::Answer;
 use refusals::Refusal;
 use refusals_tests::both;
 use refusals_tests::is_done;
+use relay_settings::Clip;
 use relay_settings::Schedule;
 use relay_step::step::step;
 
@@ -124,6 +125,7 @@ fn ended(
 pub fn stepped(
     schedule: Schedule,
     alpha: f64,
+    clip: Clip,
     syndrome: &[u8],
     priors: &[f64],
     gamma: &[f64],
@@ -149,12 +151,13 @@ pub fn stepped(
         let after = stepLists (state (now («c_to_v» .exit)) (now («v_to_c» .exit)) (now (posterior .exit))) (now (bias .exit)) in
         ⌜ stepOutcome r after
         ≡ steppedOf (length (now («check_var» .entry))) g
-        (iteration schedule byPlace g alpha (now (syndrome .entry)) (now (priors .entry)) (now (gamma .entry))
+        (iteration schedule byPlace g alpha clip (now (syndrome .entry)) (now (priors .entry)) (now (gamma .entry))
         (now (order .entry)) before) ⌝ }
 {
     step(
         schedule,
         alpha,
+        clip,
         syndrome,
         priors,
         gamma,

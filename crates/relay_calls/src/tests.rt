@@ -5,11 +5,11 @@ ghost use Prim.Native.Nat.{_≤_};
 ghost use lib.Dec.{leb};
 ghost use lib.ListN.{length};
 ghost use Rattle.numbers.specs.Limits.{maxChecks};
-ghost use Rattle.refusals.specs.declared.Refusal.the-variants.{BadAlpha, LentListLength, StateNotFinite};
+ghost use Rattle.refusals.specs.declared.Refusal.the-variants.{BadClip, BadAlpha, LentListLength, StateNotFinite};
 ghost use Rattle.refusals.specs.Tests.{unless as unlessOf, orElse, firstOf};
 ghost use Rattle.graph_lists.specs.Graph.{graph};
 ghost use Rattle.graph_messages.specs.Needs.{ofVariables};
-ghost use Rattle.relay_settings.specs.Settings.{alphaGood};
+ghost use Rattle.relay_settings.specs.Settings.{clipGood, alphaGood};
 ghost use Rattle.relay_step.specs.Step.{state};
 ghost use Rattle.relay_orders.specs.Order.{namesFault};
 ghost use Rattle.relay_calls.specs.Calls.{byteFault, syndromeFault, allFinite, stepFits, stateFinite, stepLists, stepFault};
@@ -23,6 +23,8 @@ use refusals_tests::or_else;
 use refusals_tests::same_number;
 use refusals_tests::unless;
 use relay_orders::names_fault;
+use relay_settings::Clip;
+use relay_settings::clip_good;
 
 // A byte of a syndrome is 0 or 1.
 fn is_bit(b: u8) -> bool
@@ -109,10 +111,11 @@ fn state_finite(gamma: &[f64], c_to_v: &[f64], v_to_c: &[f64], posterior: &[f64]
     )
 }
 
-// 10, 20, 21, 22, 23 and 25, of as many checks as a graph may have.
+// 9, 10, 20, 21, 22, 23 and 25, of as many checks as a graph may have.
 fn step_fault(
     size: graph::Size,
     alpha: f64,
+    clip: Clip,
     gamma: &[f64],
     syndrome: &[u8],
     order: &[u32],
@@ -125,11 +128,12 @@ fn step_fault(
     ensures { λ r.
         let before = stepLists (state (now («c_to_v» .entry)) (now («v_to_c» .entry)) (now (posterior .entry))) (now (bias .entry)) in
         ⌜ r
-        ≡ orElse (unlessOf (alphaGood alpha) BadAlpha) (orElse (syndromeFault (size .checks) (now (syndrome .entry))) (orElse
+        ≡ orElse (unlessOf (clipGood clip) BadClip) (orElse (unlessOf (alphaGood alpha) BadAlpha)
+        (orElse (syndromeFault (size .checks) (now (syndrome .entry))) (orElse
         (unlessOf (stepFits (size .edges) (ofVariables (size .mechanisms) [] []) (now (gamma .entry)) before) LentListLength)
         (orElse (namesFault (size .checks) (now (order .entry))) (unlessOf (stateFinite (now (gamma .entry))
         (state (now («c_to_v» .entry)) (now («v_to_c» .entry)) (now (posterior .entry))))
-        StateNotFinite)))) ⌝ }
+        StateNotFinite))))) ⌝ }
 {
     let fit = lists_fit(
         size.mechanisms,
@@ -146,13 +150,13 @@ fn step_fault(
         unless(finite, Refusal::StateNotFinite),
     );
     let lists = or_else(unless(fit, Refusal::LentListLength), names);
-    or_else(
-        unless(finite_positive(alpha), Refusal::BadAlpha),
-        or_else(syndrome_fault(size.checks, syndrome), lists),
-    )
+    let clip_fault = unless(clip_good(clip), Refusal::BadClip);
+    let alpha_fault = unless(finite_positive(alpha), Refusal::BadAlpha);
+    let others = or_else(syndrome_fault(size.checks, syndrome), lists);
+    or_else(clip_fault, or_else(alpha_fault, others))
 }
 
-// The tests of a single iteration: 1, 2, 4, 7, 10, 20 to 23 and 25.
+// The tests of a single iteration: 1, 2, 4, 7, 9, 10, 20 to 23 and 25.
 pub fn fault(
     size: graph::Size,
     priors: &[f64],
@@ -162,6 +166,7 @@ pub fn fault(
     var_message: &[u32],
     var_offset: &[u32],
     alpha: f64,
+    clip: Clip,
     gamma: &[f64],
     syndrome: &[u8],
     order: &[u32],
@@ -175,7 +180,7 @@ pub fn fault(
         (now («check_offset» .entry)) (now («var_check» .entry)) (now («var_message» .entry)) (now («var_offset» .entry)) in
         let before = stepLists (state (now («c_to_v» .entry)) (now («v_to_c» .entry)) (now (posterior .entry))) (now (bias .entry)) in
         ⌜ r
-        ≡ stepFault (size .edges) (now (priors .entry)) g alpha (now (gamma .entry)) (now (syndrome .entry)) (now (order .entry)) before ⌝ }
+        ≡ stepFault (size .edges) (now (priors .entry)) g alpha clip (now (gamma .entry)) (now (syndrome .entry)) (now (order .entry)) before ⌝ }
 {
     let a = graph::check_graph(
         size,
@@ -192,6 +197,7 @@ pub fn fault(
     step_fault(
         size,
         alpha,
+        clip,
         gamma,
         syndrome,
         order,

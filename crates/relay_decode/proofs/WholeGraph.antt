@@ -40,7 +40,7 @@ module _ (t : Settings) (flat : List Float) (seed : ℕ) (syndrome : List ℕ) (
     executed-whole r p =
         ap
         (λ step. runLeg step (satisfied (graph checks mechanisms cv co vc vm vo) syndrome) (iterationLimit t r) false 0 (startLeg (graph checks mechanisms cv co vc vm vo) prior p))
-        (same-step checks mechanisms cv co vc vm vo (t .alpha) syndrome prior (gammaOf t flat mechanisms seed r) order (t .schedule))
+        (same-step checks mechanisms cv co vc vm vo (t .alpha) (t .clip) syndrome prior (gammaOf t flat mechanisms seed r) order (t .schedule))
 
     -- one leg, recorded and judged
     after-whole : (r : ℕ) (run : Run) → afterLeg byPlace (few checks mechanisms) r run ≡ afterLeg byPlace (whole checks mechanisms) r run

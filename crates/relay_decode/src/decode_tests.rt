@@ -92,7 +92,7 @@ fn work_fits(
     )
 }
 
-// The tests of both calls: 1, 2, 4, 7, 10 to 22.
+// The tests of both calls: 1, 2, 4, 7, 9 to 22.
 pub fn shot_fault(
     size: graph::Size,
     priors: &[f64],
@@ -190,7 +190,7 @@ fn order_fault(
     exchange_fault(schedule, checks, check_var, check_offset, order)
 }
 
-// The tests of `decode_in_order` before 29: 1, 2, 4, 7, 10 to 24.
+// The tests of `decode_in_order` before 29: 1, 2, 4, 7, 9 to 24.
 pub fn taken_fault(
     size: graph::Size,
     priors: &[f64],

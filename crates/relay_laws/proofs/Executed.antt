@@ -11,6 +11,7 @@ use Rattle.numbers.specs.Loops.{turns}
 use Rattle.graph_lists.specs.Graph.{Graph, checkEntries}
 use Rattle.graph_lists.specs.Messages.{Access, byPlace}
 use Rattle.graph_lists.specs.Model.{priorGood}
+use Rattle.relay_settings.specs.declared.Clip.{Clip}
 use Rattle.relay_settings.specs.declared.Schedule.{Schedule}
 use Rattle.relay_settings.specs.declared.Schedule.the-variants.{Flooding, CheckSerial}
 use Rattle.relay_step.specs.Step.{State, updateCheck, updateVariable, computeBias, checkPass, variablePass, floodingIteration, serialCheck, serialPass, checkSerialIteration, iteration}
@@ -40,26 +41,26 @@ variable-keeps : (g : Graph) (bias : List Float) (v : ℕ) → Keeps (λ s. upda
 unfolding updateVariable
 variable-keeps g bias v s = length-set (s .posterior) v _
 
-check-keeps : (had : Access) (g : Graph) (alpha : Float) (syndrome : List ℕ) (c : ℕ) → Keeps (λ s. updateCheck had g alpha syndrome s c)
+check-keeps : (had : Access) (g : Graph) (alpha : Float) (clip : Clip) (syndrome : List ℕ) (c : ℕ) → Keeps (λ s. updateCheck had g alpha clip syndrome s c)
 unfolding updateCheck
-check-keeps had g alpha syndrome c s = refl
+check-keeps had g alpha clip syndrome c s = refl
 
-serial-keeps : (had : Access) (g : Graph) (alpha : Float) (syndrome : List ℕ) (bias : List Float) (c : ℕ) → Keeps (λ s. serialCheck had g alpha syndrome bias s c)
+serial-keeps : (had : Access) (g : Graph) (alpha : Float) (clip : Clip) (syndrome : List ℕ) (bias : List Float) (c : ℕ) → Keeps (λ s. serialCheck had g alpha clip syndrome bias s c)
 unfolding serialCheck
-serial-keeps had g alpha syndrome bias c s =
-    fold-keeps (updateVariable g bias) (variable-keeps g bias) (checkEntries g c) (updateCheck had g alpha syndrome s c) ∙ check-keeps had g alpha syndrome c s
+serial-keeps had g alpha clip syndrome bias c s =
+    fold-keeps (updateVariable g bias) (variable-keeps g bias) (checkEntries g c) (updateCheck had g alpha clip syndrome s c) ∙ check-keeps had g alpha clip syndrome c s
 
 -- either schedule's
-iteration-keeps : (schedule : Schedule) (had : Access) (g : Graph) (alpha : Float) (syndrome : List ℕ) (prior gamma : List Float) (order : List ℕ)
-    → Keeps (iteration schedule had g alpha syndrome prior gamma order)
+iteration-keeps : (schedule : Schedule) (had : Access) (g : Graph) (alpha : Float) (clip : Clip) (syndrome : List ℕ) (prior gamma : List Float) (order : List ℕ)
+    → Keeps (iteration schedule had g alpha clip syndrome prior gamma order)
 unfolding floodingIteration checkSerialIteration checkPass variablePass serialPass
-iteration-keeps Flooding had g alpha syndrome prior gamma order s =
-    let t = checkPass had g alpha syndrome order s in
+iteration-keeps Flooding had g alpha clip syndrome prior gamma order s =
+    let t = checkPass had g alpha clip syndrome order s in
     let bias = computeBias prior gamma (t .posterior) in
     turns-keeps (λ v u. updateVariable g bias u v) (variable-keeps g bias) (g .mechanisms) t
-    ∙ fold-keeps (updateCheck had g alpha syndrome) (check-keeps had g alpha syndrome) order s
-iteration-keeps CheckSerial had g alpha syndrome prior gamma order s =
-    fold-keeps (serialCheck had g alpha syndrome (computeBias prior gamma (s .posterior))) (serial-keeps had g alpha syndrome _) order s
+    ∙ fold-keeps (updateCheck had g alpha clip syndrome) (check-keeps had g alpha clip syndrome) order s
+iteration-keeps CheckSerial had g alpha clip syndrome prior gamma order s =
+    fold-keeps (serialCheck had g alpha clip syndrome (computeBias prior gamma (s .posterior))) (serial-keeps had g alpha clip syndrome _) order s
 
 -- ---- a leg
 

@@ -20,6 +20,7 @@ use Rattle.graph_lists.specs.Graph.{Graph}
 use Rattle.graph_lists.specs.Model.{isGraph}
 use Rattle.graph_lists.proofs.GraphTests.{graph-told}
 use Rattle.graph_lists.proofs.Sound.{passes-sound}
+use Rattle.relay_settings.specs.declared.Clip.{Clip}
 use Rattle.relay_settings.specs.declared.Schedule.{Schedule}
 use Rattle.relay_settings.specs.declared.Schedule.the-variants.{CheckSerial}
 use Rattle.relay_settings.specs.declared.Settings.{Settings}
@@ -171,8 +172,8 @@ least-once f b c = omega (arith, not-after b c, not-after c b)
 -- ---- how many messages were written
 
 -- an iteration that counts its stores leaves the state that the iteration leaves, in any order and over any graph
-pub counting-changes-nothing : (schedule : Schedule) (g : Graph) (alpha : Float) (syndrome : List ℕ) (prior gamma : List Float) (order : List ℕ) (s : Counted)
-    → countedIteration schedule byPlace g alpha syndrome prior gamma order s .now ≡ iteration schedule byPlace g alpha syndrome prior gamma order (s .now)
+pub counting-changes-nothing : (schedule : Schedule) (g : Graph) (alpha : Float) (clip : Clip) (syndrome : List ℕ) (prior gamma : List Float) (order : List ℕ) (s : Counted)
+    → countedIteration schedule byPlace g alpha clip syndrome prior gamma order s .now ≡ iteration schedule byPlace g alpha clip syndrome prior gamma order (s .now)
 counting-changes-nothing schedule g = counted-state schedule byPlace g
 
 -- and what is counted of a leg are the iterations that led to what the leg left
@@ -183,8 +184,8 @@ counted-leg-is-leg = leg-state
 -- "for Flooding, total iterations times twice the edges; for CheckSerial, total iterations times the sum of the edges and all squared mechanism degrees": one iteration,
 -- on every graph that passes 7, in every order that names each check once
 pub iteration-writes : (schedule : Schedule) (g : Graph) → isGraph g ≡ true → (order : List ℕ) → NamesOnce (g .checks) order
-    → (alpha : Float) (syndrome : List ℕ) (prior gamma : List Float) (s : Counted) → length (s .now .vToC) ≡ length (g .checkVar)
-    → countedIteration schedule byPlace g alpha syndrome prior gamma order s .stores ≡ s .stores + storesEach schedule g
+    → (alpha : Float) (clip : Clip) (syndrome : List ℕ) (prior gamma : List Float) (s : Counted) → length (s .now .vToC) ≡ length (g .checkVar)
+    → countedIteration schedule byPlace g alpha clip syndrome prior gamma order s .stores ≡ s .stores + storesEach schedule g
 iteration-writes schedule g is = let sound = passes-sound g is in iteration-stores schedule byPlace g sound (by-place-full g sound)
 
 module _ (edges : ℕ) (x : Shot) (l : DecodeLists) (a : Decoded) (left : DecodeLists) (e : decodeOutcome a left ≡ decodeInOrder edges x l) (h : summaryOf a .refusal ≡ Done) where

@@ -71,13 +71,13 @@ module _ (t : Settings) (flat : List Float) (seed : ℕ) (syndrome : List ℕ) (
   -- it is the definition's leg, and takes no more iterations than its limit
   pub executed-is : (r limit : ℕ) (gamma c v p : List Float) (l : Leg) → gamma ≡ gammaOf t flat (length prior) seed r
       → state c v [] ≡ startLeg (walked 0 0 cv [] [] []) prior [] → limit ≡ iterationLimit t r
-      → l ≡ runLeg (iteration (t .schedule) byPlace (walked (length syndrome) (length prior) cv co vm vo) (t .alpha) syndrome prior gamma order) (satisfied (ofChecks
+      → l ≡ runLeg (iteration (t .schedule) byPlace (walked (length syndrome) (length prior) cv co vm vo) (t .alpha) (t .clip) syndrome prior gamma order) (satisfied (ofChecks
       (length syndrome) cv co) syndrome) limit false 0 (state c v p)
       → (l ≡ executedLeg byPlace (shotOf t flat seed syndrome prior cv co vm vo order) r p) × (l .iterations ≤ iterationLimit t r)
   unfolding executedLeg stepOf startLeg cleared fromVariables satisfied matches
   executed-is r limit gamma c v p l g s e q =
       let u : state c v p ≡ startLeg (walked (length syndrome) (length prior) cv co vm vo) prior p = ap (λ (z : State). state (z .cToV) (z .vToC) p) s in
-      let few = leg-few (iteration (t .schedule) byPlace (walked (length syndrome) (length prior) cv co vm vo) (t .alpha) syndrome prior gamma order) (satisfied
+      let few = leg-few (iteration (t .schedule) byPlace (walked (length syndrome) (length prior) cv co vm vo) (t .alpha) (t .clip) syndrome prior gamma order) (satisfied
       (ofChecks (length syndrome) cv co) syndrome) limit false 0 (state c v p) in
       (q ∙ rw (g, e, u), omega (arith, ap (λ (y : Leg). y .iterations) q, few, e))
 

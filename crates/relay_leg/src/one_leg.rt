@@ -79,6 +79,7 @@ fn execute_leg(
 {
     let schedule = t.schedule;
     let alpha = t.alpha;
+    let clip = t.clip;
     let limit = iteration_limit(t, leg);
     prepare_gamma(t, gammas, seed, leg, gamma);
     start_leg(check_var, priors, c_to_v, v_to_c);
@@ -86,6 +87,7 @@ fn execute_leg(
         limit,
         schedule,
         alpha,
+        clip,
         syndrome,
         priors,
         gamma,

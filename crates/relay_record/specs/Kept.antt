@@ -206,7 +206,7 @@ started x =
 
 -- ---- the tests
 
--- those of both calls: 1, 2, 4, 7, 10 to 22
+-- those of both calls: 1, 2, 4, 7, 9 to 22
 unfoldable pub shotFault : ℕ → Shot → DecodeLists → Answer
 shotFault edges x l =
     orElse (graphFault edges (x .prior) (x .graph))

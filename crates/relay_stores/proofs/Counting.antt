@@ -8,6 +8,7 @@ use Rattle.numbers.specs.Floats.{_+ᶠ_, _-ᶠ_}
 use Rattle.numbers.specs.Loops.{turns}
 use Rattle.graph_lists.specs.Graph.{Graph, checkEntries, varEntries}
 use Rattle.graph_lists.specs.Messages.{Access, total}
+use Rattle.relay_settings.specs.declared.Clip.{Clip}
 use Rattle.relay_settings.specs.declared.Schedule.{Schedule}
 use Rattle.relay_settings.specs.declared.Schedule.the-variants.{Flooding, CheckSerial}
 use Rattle.relay_step.specs.Step.{State, state, written, updateCheck, updateVariable, computeBias, checkPass, variablePass, floodingIteration, serialCheck, serialPass, checkSerialIteration, iteration}
@@ -39,25 +40,25 @@ variable-state g bias s v =
     let p = getD bias v nan +ᶠ total (t .cToV) (varEntries g v) in
     ap (λ (l : List Float). state (t .cToV) l (set (t .posterior) v p)) (written-messages p (t .cToV) (varEntries g v) _)
 
-module _ (had : Access) (g : Graph) (alpha : Float) (syndrome : List ℕ) where
+module _ (had : Access) (g : Graph) (alpha : Float) (clip : Clip) (syndrome : List ℕ) where
   -- a check
-  check-state : (s : Counted) (c : ℕ) → countedCheck had g alpha syndrome s c .now ≡ updateCheck had g alpha syndrome (s .now) c
+  check-state : (s : Counted) (c : ℕ) → countedCheck had g alpha clip syndrome s c .now ≡ updateCheck had g alpha clip syndrome (s .now) c
   unfolding countedCheck updateCheck
   check-state s c = refl
 
   -- a check of a serial iteration
-  serial-state : (bias : List Float) (s : Counted) (c : ℕ) → countedSerialCheck had g alpha syndrome bias s c .now ≡ serialCheck had g alpha syndrome bias (s .now) c
+  serial-state : (bias : List Float) (s : Counted) (c : ℕ) → countedSerialCheck had g alpha clip syndrome bias s c .now ≡ serialCheck had g alpha clip syndrome bias (s .now) c
   unfolding countedSerialCheck serialCheck
   serial-state bias s c =
-      fold-state _ _ (variable-state g bias) (checkEntries g c) (countedCheck had g alpha syndrome s c)
+      fold-state _ _ (variable-state g bias) (checkEntries g c) (countedCheck had g alpha clip syndrome s c)
       ∙ ap (λ t. foldl (updateVariable g bias) t (checkEntries g c)) (check-state s c)
 
 -- an iteration
-pub counted-state : (schedule : Schedule) (had : Access) (g : Graph) (alpha : Float) (syndrome : List ℕ) (prior gamma : List Float) (order : List ℕ) (s : Counted)
-    → countedIteration schedule had g alpha syndrome prior gamma order s .now ≡ iteration schedule had g alpha syndrome prior gamma order (s .now)
+pub counted-state : (schedule : Schedule) (had : Access) (g : Graph) (alpha : Float) (clip : Clip) (syndrome : List ℕ) (prior gamma : List Float) (order : List ℕ) (s : Counted)
+    → countedIteration schedule had g alpha clip syndrome prior gamma order s .now ≡ iteration schedule had g alpha clip syndrome prior gamma order (s .now)
 unfolding countedFlooding countedCheckPass countedVariablePass floodingIteration checkPass variablePass countedSerial countedSerialPass checkSerialIteration serialPass
-counted-state Flooding had g alpha syndrome prior gamma order s =
-    let t = countedCheckPass had g alpha syndrome order s in
+counted-state Flooding had g alpha clip syndrome prior gamma order s =
+    let t = countedCheckPass had g alpha clip syndrome order s in
     turns-state _ _ (variable-state g (computeBias prior gamma (t .now .posterior))) (g .mechanisms) t
-    ∙ ap (λ (u : State). variablePass g (computeBias prior gamma (u .posterior)) u (g .mechanisms)) (fold-state _ _ (check-state had g alpha syndrome) order s)
-counted-state CheckSerial had g alpha syndrome prior gamma order s = fold-state _ _ (serial-state had g alpha syndrome (computeBias prior gamma (s .now .posterior))) order s
+    ∙ ap (λ (u : State). variablePass g (computeBias prior gamma (u .posterior)) u (g .mechanisms)) (fold-state _ _ (check-state had g alpha clip syndrome) order s)
+counted-state CheckSerial had g alpha clip syndrome prior gamma order s = fold-state _ _ (serial-state had g alpha clip syndrome (computeBias prior gamma (s .now .posterior))) order s

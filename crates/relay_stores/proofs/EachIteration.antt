@@ -12,6 +12,7 @@ use Rattle.graph_lists.specs.Graph.{Graph, checkEntries, varEntries}
 use Rattle.graph_lists.specs.Messages.{Access, byPlace}
 use Rattle.graph_lists.proofs.Cuts.{row-end}
 use Rattle.graph_lists.proofs.Sound.{Sound}
+use Rattle.relay_settings.specs.declared.Clip.{Clip}
 use Rattle.relay_settings.specs.declared.Schedule.{Schedule}
 use Rattle.relay_settings.specs.declared.Schedule.the-variants.{Flooding, CheckSerial}
 use Rattle.relay_step.specs.Step.{computeBias}
@@ -86,28 +87,28 @@ module _ (g : Graph) (bias : List Float) where
   unfolding countedVariable degree
   variable-stores s v = written-stores _ (s .now .cToV) (varEntries g v) _
 
-module _ (had : Access) (g : Graph) (alpha : Float) (syndrome : List ℕ) where
+module _ (had : Access) (g : Graph) (alpha : Float) (clip : Clip) (syndrome : List ℕ) where
   -- a check keeps how many there are
-  check-keeps : (s : Counted) (c : ℕ) → many (countedCheck had g alpha syndrome s c) ≡ many s
+  check-keeps : (s : Counted) (c : ℕ) → many (countedCheck had g alpha clip syndrome s c) ≡ many s
   unfolding countedCheck
   check-keeps s c = refl
 
   -- so does one of a serial iteration
-  serial-keeps : (bias : List Float) (s : Counted) (c : ℕ) → many (countedSerialCheck had g alpha syndrome bias s c) ≡ many s
+  serial-keeps : (bias : List Float) (s : Counted) (c : ℕ) → many (countedSerialCheck had g alpha clip syndrome bias s c) ≡ many s
   unfolding countedSerialCheck
-  serial-keeps bias s c = fold-keeps _ (variable-keeps g bias) (checkEntries g c) (countedCheck had g alpha syndrome s c) ∙ check-keeps s c
+  serial-keeps bias s c = fold-keeps _ (variable-keeps g bias) (checkEntries g c) (countedCheck had g alpha clip syndrome s c) ∙ check-keeps s c
 
   module _ (full : Full had g) (c : ℕ) (inside : c < g .checks) (s : Counted) (sized : many s ≡ length (g .checkVar)) where
     -- a check writes as many as its entries
-    check-stores : countedCheck had g alpha syndrome s c .stores ≡ s .stores + length (checkEntries g c)
+    check-stores : countedCheck had g alpha clip syndrome s c .stores ≡ s .stores + length (checkEntries g c)
     unfolding countedCheck
-    check-stores = ap (λ (n : ℕ). s .stores + n) (length-sent alpha _ (checkEntries g c) (had .messagesOf g c (s .now .vToC)) ∙ full .many c (s .now .vToC) inside sized)
+    check-stores = ap (λ (n : ℕ). s .stores + n) (length-sent alpha clip _ (checkEntries g c) (had .messagesOf g c (s .now .vToC)) ∙ full .many c (s .now .vToC) inside sized)
 
     -- one of a serial iteration, for each entry its own message and all of the mechanism
-    serial-stores : (bias : List Float) → countedSerialCheck had g alpha syndrome bias s c .stores ≡ s .stores + sumOver (λ v. 1 + degree g v) (checkEntries g c)
+    serial-stores : (bias : List Float) → countedSerialCheck had g alpha clip syndrome bias s c .stores ≡ s .stores + sumOver (λ v. 1 + degree g v) (checkEntries g c)
     unfolding countedSerialCheck
     serial-stores bias =
-        let t = countedCheck had g alpha syndrome s c in
+        let t = countedCheck had g alpha clip syndrome s c in
         let es = checkEntries g c in
         omega (
           arith,
@@ -120,12 +121,12 @@ module _ (had : Access) (g : Graph) (alpha : Float) (syndrome : List ℕ) where
 -- ---- an iteration
 
 -- it keeps how many messages variables send
-pub iteration-keeps : (schedule : Schedule) (had : Access) (g : Graph) (alpha : Float) (syndrome : List ℕ) (prior gamma : List Float) (order : List ℕ) (s : Counted)
-    → length (countedIteration schedule had g alpha syndrome prior gamma order s .now .vToC) ≡ length (s .now .vToC)
+pub iteration-keeps : (schedule : Schedule) (had : Access) (g : Graph) (alpha : Float) (clip : Clip) (syndrome : List ℕ) (prior gamma : List Float) (order : List ℕ) (s : Counted)
+    → length (countedIteration schedule had g alpha clip syndrome prior gamma order s .now .vToC) ≡ length (s .now .vToC)
 unfolding countedFlooding countedCheckPass countedVariablePass countedSerial countedSerialPass
-iteration-keeps Flooding had g alpha syndrome prior gamma order s =
-    turns-keep _ (variable-keeps g _) (g .mechanisms) (countedCheckPass had g alpha syndrome order s) ∙ fold-keeps _ (check-keeps had g alpha syndrome) order s
-iteration-keeps CheckSerial had g alpha syndrome prior gamma order s = fold-keeps _ (serial-keeps had g alpha syndrome _) order s
+iteration-keeps Flooding had g alpha clip syndrome prior gamma order s =
+    turns-keep _ (variable-keeps g _) (g .mechanisms) (countedCheckPass had g alpha clip syndrome order s) ∙ fold-keeps _ (check-keeps had g alpha clip syndrome) order s
+iteration-keeps CheckSerial had g alpha clip syndrome prior gamma order s = fold-keeps _ (serial-keeps had g alpha clip syndrome _) order s
 
 module _ (g : Graph) (sound : Sound g) where
   -- a mechanism's degree is how often it stands among the check entries
@@ -151,27 +152,27 @@ module _ (g : Graph) (sound : Sound g) where
 
 -- it writes what the formula says
 pub iteration-stores : (schedule : Schedule) (had : Access) (g : Graph) → Sound g → Full had g → (order : List ℕ) → NamesOnce (g .checks) order
-    → (alpha : Float) (syndrome : List ℕ) (prior gamma : List Float) (s : Counted) → length (s .now .vToC) ≡ length (g .checkVar)
-    → countedIteration schedule had g alpha syndrome prior gamma order s .stores ≡ s .stores + storesEach schedule g
+    → (alpha : Float) (clip : Clip) (syndrome : List ℕ) (prior gamma : List Float) (s : Counted) → length (s .now .vToC) ≡ length (g .checkVar)
+    → countedIteration schedule had g alpha clip syndrome prior gamma order s .stores ≡ s .stores + storesEach schedule g
 unfolding countedFlooding countedCheckPass countedVariablePass countedSerial countedSerialPass
-iteration-stores Flooding had g sound full order names alpha syndrome prior gamma s sized =
-    let t = countedCheckPass had g alpha syndrome order s in
+iteration-stores Flooding had g sound full order names alpha clip syndrome prior gamma s sized =
+    let t = countedCheckPass had g alpha clip syndrome order s in
     let bias = computeBias prior gamma (t .now .posterior) in
     omega (
       arith,
       turns-stores (countedVariable g bias) (degree g) (variable-stores g bias) (g .mechanisms) t,
-      fold-stores (countedCheck had g alpha syndrome) (check-keeps had g alpha syndrome) (λ c. length (checkEntries g c)) (length (g .checkVar))
-          (all-map (λ c h u e. check-stores had g alpha syndrome full c h u e) (names-below names)) s sized,
+      fold-stores (countedCheck had g alpha clip syndrome) (check-keeps had g alpha clip syndrome) (λ c. length (checkEntries g c)) (length (g .checkVar))
+          (all-map (λ c h u e. check-stores had g alpha clip syndrome full c h u e) (names-below names)) s sized,
       over-order (λ c. length (checkEntries g c)) names,
       rows-length (g .checks) (g .checkOffset) (g .checkVar) (sound .check-parts),
       degrees-sum g sound,
     )
-iteration-stores CheckSerial had g sound full order names alpha syndrome prior gamma s sized =
+iteration-stores CheckSerial had g sound full order names alpha clip syndrome prior gamma s sized =
     let bias = computeBias prior gamma (s .now .posterior) in
     omega (
       arith,
-      fold-stores (countedSerialCheck had g alpha syndrome bias) (serial-keeps had g alpha syndrome bias) (λ c. sumOver (λ v. 1 + degree g v) (checkEntries g c)) (length (g .checkVar))
-          (all-map (λ c h u e. serial-stores had g alpha syndrome full c h u e bias) (names-below names)) s sized,
+      fold-stores (countedSerialCheck had g alpha clip syndrome bias) (serial-keeps had g alpha clip syndrome bias) (λ c. sumOver (λ v. 1 + degree g v) (checkEntries g c)) (length (g .checkVar))
+          (all-map (λ c h u e. serial-stores had g alpha clip syndrome full c h u e bias) (names-below names)) s sized,
       entries-sum g sound (λ v. 1 + degree g v) order names,
       over-add (λ v. 1) (degree g) (g .checkVar),
       over-one (g .checkVar),

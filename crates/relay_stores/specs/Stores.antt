@@ -13,6 +13,7 @@ use Rattle.refusals.specs.declared.Answer.{Answer}
 use Rattle.refusals.specs.Tests.{unless}
 use Rattle.graph_lists.specs.Graph.{Graph, checkEntries, varEntries}
 use Rattle.graph_lists.specs.Messages.{Access, total}
+use Rattle.relay_settings.specs.declared.Clip.{Clip}
 use Rattle.relay_settings.specs.declared.Schedule.{Schedule}
 use Rattle.relay_settings.specs.declared.Schedule.the-variants.{Flooding, CheckSerial}
 use Rattle.relay_settings.specs.declared.Settings.{Settings}
@@ -30,10 +31,10 @@ abbrev pub counted : State → ℕ → Counted
 counted s n = record { now = s; stores = n }
 
 -- `updateCheck`: each message that the check sends is one store
-unfoldable pub countedCheck : Access → Graph → Float → List ℕ → Counted → ℕ → Counted
-countedCheck had g alpha syndrome s c =
+unfoldable pub countedCheck : Access → Graph → Float → Clip → List ℕ → Counted → ℕ → Counted
+countedCheck had g alpha clip syndrome s c =
     let t = s .now in
-    let new = checkMessages alpha (not (eqb (getD syndrome c 0) 0)) (checkEntries g c) (had .messagesOf g c (t .vToC)) in
+    let new = checkMessages alpha clip (not (eqb (getD syndrome c 0) 0)) (checkEntries g c) (had .messagesOf g c (t .vToC)) in
     counted (state (had .withMessages g c (t .cToV) new) (t .vToC) (t .posterior)) (s .stores + length new)
 
 -- a list of messages, and how many were written on the way to it
@@ -62,33 +63,33 @@ countedVariable g bias s v =
     counted (state (t .cToV) (w .messages) (set (t .posterior) v p)) (w .stores)
 
 -- `checkPass`
-unfoldable pub countedCheckPass : Access → Graph → Float → List ℕ → List ℕ → Counted → Counted
-countedCheckPass had g alpha syndrome order s = foldl (countedCheck had g alpha syndrome) s order
+unfoldable pub countedCheckPass : Access → Graph → Float → Clip → List ℕ → List ℕ → Counted → Counted
+countedCheckPass had g alpha clip syndrome order s = foldl (countedCheck had g alpha clip syndrome) s order
 
 -- `variablePass`
 unfoldable pub countedVariablePass : Graph → List Float → Counted → ℕ → Counted
 countedVariablePass g bias s n = turns n (λ v t. countedVariable g bias t v) s
 
 -- `floodingIteration`
-unfoldable pub countedFlooding : Access → Graph → Float → List ℕ → List Float → List Float → List ℕ → Counted → Counted
-countedFlooding had g alpha syndrome prior gamma order s =
-    let t = countedCheckPass had g alpha syndrome order s in
+unfoldable pub countedFlooding : Access → Graph → Float → Clip → List ℕ → List Float → List Float → List ℕ → Counted → Counted
+countedFlooding had g alpha clip syndrome prior gamma order s =
+    let t = countedCheckPass had g alpha clip syndrome order s in
     countedVariablePass g (computeBias prior gamma (t .now .posterior)) t (g .mechanisms)
 
 -- `serialCheck`
-unfoldable pub countedSerialCheck : Access → Graph → Float → List ℕ → List Float → Counted → ℕ → Counted
-countedSerialCheck had g alpha syndrome bias s c = foldl (countedVariable g bias) (countedCheck had g alpha syndrome s c) (checkEntries g c)
+unfoldable pub countedSerialCheck : Access → Graph → Float → Clip → List ℕ → List Float → Counted → ℕ → Counted
+countedSerialCheck had g alpha clip syndrome bias s c = foldl (countedVariable g bias) (countedCheck had g alpha clip syndrome s c) (checkEntries g c)
 
 -- `serialPass`
-unfoldable pub countedSerialPass : Access → Graph → Float → List ℕ → List Float → List ℕ → Counted → Counted
-countedSerialPass had g alpha syndrome bias order s = foldl (countedSerialCheck had g alpha syndrome bias) s order
+unfoldable pub countedSerialPass : Access → Graph → Float → Clip → List ℕ → List Float → List ℕ → Counted → Counted
+countedSerialPass had g alpha clip syndrome bias order s = foldl (countedSerialCheck had g alpha clip syndrome bias) s order
 
 -- `checkSerialIteration`
-unfoldable pub countedSerial : Access → Graph → Float → List ℕ → List Float → List Float → List ℕ → Counted → Counted
-countedSerial had g alpha syndrome prior gamma order s = countedSerialPass had g alpha syndrome (computeBias prior gamma (s .now .posterior)) order s
+unfoldable pub countedSerial : Access → Graph → Float → Clip → List ℕ → List Float → List Float → List ℕ → Counted → Counted
+countedSerial had g alpha clip syndrome prior gamma order s = countedSerialPass had g alpha clip syndrome (computeBias prior gamma (s .now .posterior)) order s
 
 -- `iteration`
-abbrev pub countedIteration : Schedule → Access → Graph → Float → List ℕ → List Float → List Float → List ℕ → Counted → Counted
+abbrev pub countedIteration : Schedule → Access → Graph → Float → Clip → List ℕ → List Float → List Float → List ℕ → Counted → Counted
 countedIteration Flooding = countedFlooding
 countedIteration CheckSerial = countedSerial
 

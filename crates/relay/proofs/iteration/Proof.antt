@@ -18,7 +18,7 @@ asked : (c : tie.Else1) → let a = c .before .before .before .before .before .b
     (a .check-offset .now) (a .var-message .now) (a .var-offset .now)
     (a .priors .now) (a .gamma .now) (a .syndrome .now) (a .order .now)
     (lent (c .before .before .before .before .before .before .before .before .before .before .before .before .before .before .before .before .before .before .before .before))
-asked c = passed _ _ _ _ _ _ _ _ _ _ _ _ _ (lent (c .before .before .before .before .before .before .before .before .before .before .before .before .before .before .before .before .before .before .before .before)) _ _ (c .before .before .fault .ensures) (c .before .is-done .ensures) (c .if1 .left)
+asked c = passed _ _ _ _ _ _ _ _ _ _ _ _ _ _ (lent (c .before .before .before .before .before .before .before .before .before .before .before .before .before .before .before .before .before .before .before .before)) _ _ (c .before .before .fault .ensures) (c .before .is-done .ensures) (c .if1 .left)
 
 fault-requires : tie.Need-fault-requires
 fault-requires c κs = search needs
@@ -39,7 +39,7 @@ same-length-4 : tie.Need-same-length-4
 same-length-4 c = search needs
 
 returns : tie.Need-returns
-returns c = iteration-refused _ _ _ _ _ _ _ _ _ _ _ _ _ (lent (c .before .before .before .before .before .before .before .before .before .before .before .before .before .before .before .before .before .before .before .before)) _ _ _
+returns c = iteration-refused _ _ _ _ _ _ _ _ _ _ _ _ _ _ (lent (c .before .before .before .before .before .before .before .before .before .before .before .before .before .before .before .before .before .before .before .before)) _ _ _
     (c .before .before .fault .ensures) (c .before .is-done .ensures) (c .if1 .taken)
 
 stepped-requires : tie.Need-stepped-requires
@@ -71,7 +71,7 @@ same-length-8 : tie.Need-same-length-8
 same-length-8 c = search needs
 
 returns-2 : tie.Need-returns-2
-returns-2 c = iteration-ran _ _ _ _ _ _ _ _ _ _ _ _ _ (lent (c .before .before .before .before .before .before .before .before .before .before .before
+returns-2 c = iteration-ran _ _ _ _ _ _ _ _ _ _ _ _ _ _ (lent (c .before .before .before .before .before .before .before .before .before .before .before
     .before .before .before .before .before .before .before .before .before .before .before .before .before .before .before .before .before .before
     .before .before .before .before)) _ _ _ _ (c .before .before .before .before .before .before .before .before .before .before .before .before .before
     .before .before

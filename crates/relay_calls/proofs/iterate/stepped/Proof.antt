@@ -19,7 +19,7 @@ ended-requires : tie.Need-ended-requires
 ended-requires c κs =
     let p = c .before .before .before .before .before .before .before .before .before .before .before .before .before .before .before .before .before .before
     .before .before .before .before .before .before .before .before .before .before .before .before .before .before .pre .1 .1 .1 in
-    let k = c .before .before .before .before .before .before .before .before .before .before .before .before .before .before .before .step .kept .1 .1 .1 .1 .1 .1 .1 .1 .1 .1 .1 in (
+    let k = c .before .before .before .before .before .before .before .before .before .before .before .before .before .before .before .step .kept .1 .1 .1 .1 .1 .1 .1 .1 .1 .1 .1 .1 in (
       walks-both _ _ _ _ _ _ (sym (k .1 .1 .0 ∙ p .0 .posteriors)) (sym (k .0 ∙ p .1 .to-variables))
           (c .before .before .before .before .before .before .before .before .before .before .before .before .before .before .before .before .before .before
           .before .before .before .before .before .before .before .before .before .before .before .before .before .before .pre .1 .0),
@@ -44,7 +44,7 @@ returns c =
     .before .before .before .before .before .before .before .before .before .before .before .before .before .before .before .before .before .before .before
     .before .before .pre .1 .1 .1 in
     let k = c .before .before .before .before .before .before .before .before .before .before .before .before .before .before .before .before .before .before
-    .before .before .before .before .step .kept .1 .1 .1 .1 .1 .1 .1 .1 .1 .1 in
+    .before .before .before .before .step .kept .1 .1 .1 .1 .1 .1 .1 .1 .1 .1 .1 in
     let e = c .before .before .before .before .before .before .ended .ensures in
     stepped-is _ _ _ _ _ _ _ _ _ _ _ _ (c .before .before .before .before .before .before .before .before .before .before .before .before .before .before
     .before .before .before .before .before .before .before .before .step .ensures)

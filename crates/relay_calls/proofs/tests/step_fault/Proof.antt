@@ -26,11 +26,17 @@ unless-requires-2 c κs = search needs
 or-else-requires-2 : tie.Need-or-else-requires-2
 or-else-requires-2 c κs = search needs
 
-finite-positive-requires : tie.Need-finite-positive-requires
-finite-positive-requires c κs = search needs
+clip-good-requires : tie.Need-clip-good-requires
+clip-good-requires c κs = search needs
 
 unless-requires-3 : tie.Need-unless-requires-3
 unless-requires-3 c κs = search needs
+
+finite-positive-requires : tie.Need-finite-positive-requires
+finite-positive-requires c κs = search needs
+
+unless-requires-4 : tie.Need-unless-requires-4
+unless-requires-4 c κs = search needs
 
 syndrome-fault-requires : tie.Need-syndrome-fault-requires
 syndrome-fault-requires c κs = search needs
@@ -41,26 +47,27 @@ or-else-requires-3 c κs = search needs
 or-else-requires-4 : tie.Need-or-else-requires-4
 or-else-requires-4 c κs = search needs
 
+or-else-requires-5 : tie.Need-or-else-requires-5
+or-else-requires-5 c κs = search needs
+
 returns : tie.Need-returns
 unfolding alphaGood
 returns c = rw (
-  c .or-else4 .ensures,
-  c .before .or-else3 .ensures,
-  c .before .before .syndrome-fault .ensures,
-  c .before .before .before .unless3 .ensures,
-  c
-      .before .before .before .before .finite-positive .ensures,
-  c .before .before .before .before .before .or-else2 .ensures,
-  c .before .before .before .before
-      .before .before .unless2 .ensures,
-  c .before .before .before .before .before .before .before .or-else .ensures,
-  c .before .before .before .before .before
-      .before .before .before .unless .ensures,
-  c .before .before .before .before .before .before .before .before .before .names-fault .ensures,
-  c .before .before
-      .before .before .before .before .before .before .before .before .state-finite .ensures,
-  c .before .before .before .before .before .before .before .before
-      .before .before .before .lists-fit .ensures,
+  c .or-else5 .ensures,
+  c .before .or-else4 .ensures,
+  c .before .before .or-else3 .ensures,
+  c .before .before .before .syndrome-fault .ensures,
+  c .before .before .before .before .unless4 .ensures,
+  c .before .before .before .before .before .finite-positive .ensures,
+  c .before .before .before .before .before .before .unless3 .ensures,
+  c .before .before .before .before .before .before .before .clip-good .ensures,
+  c .before .before .before .before .before .before .before .before .or-else2 .ensures,
+  c .before .before .before .before .before .before .before .before .before .unless2 .ensures,
+  c .before .before .before .before .before .before .before .before .before .before .or-else .ensures,
+  c .before .before .before .before .before .before .before .before .before .before .before .unless .ensures,
+  c .before .before .before .before .before .before .before .before .before .before .before .before .names-fault .ensures,
+  c .before .before .before .before .before .before .before .before .before .before .before .before .before .state-finite .ensures,
+  c .before .before .before .before .before .before .before .before .before .before .before .before .before .before .lists-fit .ensures,
 )
 
 pub step-fault-spec : {M : Type 1} → statement M
@@ -74,9 +81,12 @@ step-fault-spec =
     or-else-requires
     unless-requires-2
     or-else-requires-2
-    finite-positive-requires
+    clip-good-requires
     unless-requires-3
+    finite-positive-requires
+    unless-requires-4
     syndrome-fault-requires
     or-else-requires-3
     or-else-requires-4
+    or-else-requires-5
     returns)

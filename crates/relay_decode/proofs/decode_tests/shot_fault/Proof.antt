@@ -13,7 +13,7 @@ use borrow.Author.Needs.{needs}
 use Rattle.relay_decode.proofs.decode_tests.shot_fault.Statement.{statement}
 use Rattle.relay_decode.proofs.decode_tests.shot_fault.Tie as tie
 
--- the graph's test has passed, so that the settings' is 10 to 19
+-- the graph's test has passed, so that the settings' is 9 to 19
 settled : (c : tie.After-check-settings) → c .check-settings .result ≡ settingsFault
     (c .before .before .before .before .before .before .before .before .before .before .before .before .before .before .before .before .before .before
     .before .before .before .before .args .t) (c .before .before .before .before .before .before .before .before .before .before .before .before .before
