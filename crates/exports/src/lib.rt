@@ -17,7 +17,8 @@ ghost use Rattle.relay_step.specs.Step.{state};
 ghost use Rattle.relay_calls.specs.Records.{legRecord, valuesOf};
 ghost use Rattle.relay_calls.specs.Calls.{decodeLists, stepLists, iterationCall, decode as decodeOf, decodeInOrder};
 ghost use Rattle.stream_session.specs.Shots.{startSession, byteTaken, endText};
-ghost use Rattle.exports_values.specs.Codes.{codeOf, numberIn, placeIn, scheduleGiven, settingsGiven, byteOf, floatsIn, countsIn, version};
+ghost use Rattle.exports_values.specs.Codes.{codeOf, numberIn, placeIn, scheduleGiven, settingsGiven, byteOf};
+ghost use Rattle.exports_values.specs.Codes.{clipGiven, floatsIn, countsIn, version};
 ghost use Rattle.exports_session.specs.Words.{sessionOf, sessionWords, sessionFloats};
 ghost use Rattle.exports_bodies.specs.Answers.{graphLeft, graphLeftBy, beliefsLeft, beliefsLeftBy, stepLeft, stepLeftBy, decodeLeft};
 ghost use Rattle.exports_bodies.specs.Answers.{decodeLeftBy, madeLeft, madeLeftBy, priorsLeft, priorsLeftBy, priorLeftBy};
@@ -309,7 +310,7 @@ pub extern "C" fn chowderkite_beliefs(
 
 // `relay_settings::Settings::published`.
 #[no_mangle]
-pub extern "C" fn chowderkite_published(floats: &mut [f64; 4], counts: &mut [u64; 4]) -> u8
+pub extern "C" fn chowderkite_published(floats: &mut [f64; 5], counts: &mut [u64; 5]) -> u8
     ensures schedule { λ r. ⌜ r ≡ byteOf (published .schedule) ⌝ }
     ensures floats { λ _. ⌜ now (floats .exit) ≡ floatsIn published ⌝ }
     ensures counts { λ _. ⌜ now (counts .exit) ≡ countsIn published ⌝ }
@@ -322,6 +323,8 @@ pub extern "C" fn chowderkite_published(floats: &mut [f64; 4], counts: &mut [u64
 pub extern "C" fn chowderkite_check_settings(
     schedule: u8,
     alpha: f64,
+    clip_on: u8,
+    clip: f64,
     gamma0: f64,
     pre_iterations: usize,
     num_legs: usize,
@@ -335,13 +338,15 @@ pub extern "C" fn chowderkite_check_settings(
     gammas: &[f64],
 ) -> u64
     ensures { λ r. ⌜ (
-        let settings = settingsGiven schedule alpha gamma0 «pre_iterations» «num_legs» «leg_iterations» «gamma_low» «gamma_high»
-        «stop_after_converged» explicit sets in
+        let settings = settingsGiven schedule alpha «clip_on» clip gamma0 «pre_iterations» «num_legs» «leg_iterations»
+        «gamma_low» «gamma_high» «stop_after_converged» explicit sets in
         r ≡ codeOf (checkSettings settings mechanisms (now (gammas .entry)))) ⌝ }
 {
     decodes::check_settings(
         schedule,
         alpha,
+        clip_on,
+        clip,
         gamma0,
         pre_iterations,
         num_legs,
@@ -370,6 +375,8 @@ pub extern "C" fn chowderkite_decode(
     var_offset: &[u32],
     schedule: u8,
     alpha: f64,
+    clip_on: u8,
+    clip: f64,
     gamma0: f64,
     pre_iterations: usize,
     num_legs: usize,
@@ -398,8 +405,8 @@ pub extern "C" fn chowderkite_decode(
     ensures { λ r. ⌜ (
         let g = graph checks mechanisms (now («check_var» .entry)) (now («check_offset» .entry))
         (now («var_check» .entry)) (now («var_message» .entry)) (now («var_offset» .entry)) in
-        let settings = settingsGiven schedule alpha gamma0 «pre_iterations» «num_legs» «leg_iterations» «gamma_low» «gamma_high»
-        «stop_after_converged» explicit sets in
+        let settings = settingsGiven schedule alpha «clip_on» clip gamma0 «pre_iterations» «num_legs» «leg_iterations»
+        «gamma_low» «gamma_high» «stop_after_converged» explicit sets in
         let before = decodeLists (now («leg_state» .entry)) (now («leg_steps» .entry)) (now («leg_weight» .entry)) (now (rows .entry))
         (now (correction .entry)) (now (posterior .entry)) (now (gamma .entry)) (now (bias .entry))
         (now («c_to_v» .entry)) (now («v_to_c» .entry)) in
@@ -430,6 +437,8 @@ pub extern "C" fn chowderkite_decode(
         var_offset,
         schedule,
         alpha,
+        clip_on,
+        clip,
         gamma0,
         pre_iterations,
         num_legs,
@@ -471,6 +480,8 @@ pub extern "C" fn chowderkite_decode_in_order(
     var_offset: &[u32],
     schedule: u8,
     alpha: f64,
+    clip_on: u8,
+    clip: f64,
     gamma0: f64,
     pre_iterations: usize,
     num_legs: usize,
@@ -500,8 +511,8 @@ pub extern "C" fn chowderkite_decode_in_order(
     ensures { λ r. ⌜ (
         let g = graph checks mechanisms (now («check_var» .entry)) (now («check_offset» .entry))
         (now («var_check» .entry)) (now («var_message» .entry)) (now («var_offset» .entry)) in
-        let settings = settingsGiven schedule alpha gamma0 «pre_iterations» «num_legs» «leg_iterations» «gamma_low» «gamma_high»
-        «stop_after_converged» explicit sets in
+        let settings = settingsGiven schedule alpha «clip_on» clip gamma0 «pre_iterations» «num_legs» «leg_iterations»
+        «gamma_low» «gamma_high» «stop_after_converged» explicit sets in
         let before = decodeLists (now («leg_state» .entry)) (now («leg_steps» .entry)) (now («leg_weight» .entry)) (now (rows .entry))
         (now (correction .entry)) (now (posterior .entry)) (now (gamma .entry)) (now (bias .entry))
         (now («c_to_v» .entry)) (now («v_to_c» .entry)) in
@@ -532,6 +543,8 @@ pub extern "C" fn chowderkite_decode_in_order(
         var_offset,
         schedule,
         alpha,
+        clip_on,
+        clip,
         gamma0,
         pre_iterations,
         num_legs,
@@ -597,6 +610,8 @@ pub extern "C" fn chowderkite_iteration(
     var_offset: &[u32],
     schedule: u8,
     alpha: f64,
+    clip_on: u8,
+    clip: f64,
     gamma: &[f64],
     syndrome: &[u8],
     order: &[u32],
@@ -611,9 +626,8 @@ pub extern "C" fn chowderkite_iteration(
         let before = stepLists (state (now («c_to_v» .entry)) (now («v_to_c» .entry)) (now (posterior .entry))) (now (bias .entry)) in
         let after = stepLists (state (now («c_to_v» .exit)) (now («v_to_c» .exit)) (now (posterior .exit))) (now (bias .exit)) in
         stepLeft r after
-        ≡ stepLeftBy (iterationCall edges (now (priors .entry)) g (scheduleGiven schedule) alpha (now (gamma .entry)) (now
-        (syndrome .entry))
-        (now (order .entry)) before)) ⌝ }
+        ≡ stepLeftBy (iterationCall edges (now (priors .entry)) g (scheduleGiven schedule) alpha (clipGiven «clip_on» clip)
+        (now (gamma .entry)) (now (syndrome .entry)) (now (order .entry)) before)) ⌝ }
 {
     steps::iteration(
         checks,
@@ -627,6 +641,8 @@ pub extern "C" fn chowderkite_iteration(
         var_offset,
         schedule,
         alpha,
+        clip_on,
+        clip,
         gamma,
         syndrome,
         order,
@@ -659,7 +675,7 @@ pub extern "C" fn chowderkite_place_of(code: u64) -> u64
 
 // `stream_session::Session::new`.
 #[no_mangle]
-pub extern "C" fn chowderkite_session_new(words: &mut [usize; 21], floats: &mut [f64; 4])
+pub extern "C" fn chowderkite_session_new(words: &mut [usize; 22], floats: &mut [f64; 5])
     ensures words { λ _. ⌜ now (words .exit) ≡ sessionWords startSession ⌝ }
     ensures floats { λ _. ⌜ now (floats .exit) ≡ sessionFloats startSession ⌝ }
 {
@@ -669,8 +685,8 @@ pub extern "C" fn chowderkite_session_new(words: &mut [usize; 21], floats: &mut 
 // `stream_session::take`.
 #[no_mangle]
 pub extern "C" fn chowderkite_take(
-    words: &mut [usize; 21],
-    floats: &mut [f64; 4],
+    words: &mut [usize; 22],
+    floats: &mut [f64; 5],
     byte: u8,
     payload: &mut [u8],
     model: &mut [u8],
@@ -703,8 +719,8 @@ pub extern "C" fn chowderkite_take(
 // `stream_session::finish`.
 #[no_mangle]
 pub extern "C" fn chowderkite_finish(
-    words: &[usize; 21],
-    floats: &[f64; 4],
+    words: &[usize; 22],
+    floats: &[f64; 5],
     line: &mut [u8; 512],
 ) -> usize
     ensures said { λ r. ⌜ r ≡ length (endText (sessionOf (now (words .entry)) (now (floats .entry)))) ⌝ }

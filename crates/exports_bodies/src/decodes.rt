@@ -1,5 +1,5 @@
-// The decodes of `relay`. Settings pass one by one, where `explicit` is 0 for gammas that are drawn. What a decode answers beyond its
-// number goes into two lists of fixed length, which pass as a pointer alone.
+// The decodes of `relay`. Settings pass one by one, where `clip_on` is 0 for a clip that is off, and `explicit` for gammas that are
+// drawn. What a decode answers beyond its number goes into two lists of fixed length, which pass as a pointer alone.
 ghost use mathlib.Core.Path.{_≡_};
 ghost use mathlib.Core.List.{[]};
 ghost use Rattle.graph_lists.specs.Graph.{graph};
@@ -16,6 +16,8 @@ use graph::Size;
 pub fn check_settings(
     schedule: u8,
     alpha: f64,
+    clip_on: u8,
+    clip: f64,
     gamma0: f64,
     pre_iterations: usize,
     num_legs: usize,
@@ -29,13 +31,15 @@ pub fn check_settings(
     gammas: &[f64],
 ) -> u64
     ensures { λ r. ⌜ (
-        let settings = settingsGiven schedule alpha gamma0 «pre_iterations» «num_legs» «leg_iterations» «gamma_low» «gamma_high»
-        «stop_after_converged» explicit sets in
+        let settings = settingsGiven schedule alpha «clip_on» clip gamma0 «pre_iterations» «num_legs» «leg_iterations»
+        «gamma_low» «gamma_high» «stop_after_converged» explicit sets in
         r ≡ codeOf (checkSettings settings mechanisms (now (gammas .entry)))) ⌝ }
 {
     let t = settings_of(
         schedule as usize,
         alpha,
+        clip_on as usize,
+        clip,
         gamma0,
         pre_iterations,
         num_legs,
@@ -62,6 +66,8 @@ pub fn decode_in_order(
     var_offset: &[u32],
     schedule: u8,
     alpha: f64,
+    clip_on: u8,
+    clip: f64,
     gamma0: f64,
     pre_iterations: usize,
     num_legs: usize,
@@ -91,8 +97,8 @@ pub fn decode_in_order(
     ensures { λ r. ⌜ (
         let g = graph checks mechanisms (now («check_var» .entry)) (now («check_offset» .entry))
         (now («var_check» .entry)) (now («var_message» .entry)) (now («var_offset» .entry)) in
-        let settings = settingsGiven schedule alpha gamma0 «pre_iterations» «num_legs» «leg_iterations» «gamma_low» «gamma_high»
-        «stop_after_converged» explicit sets in
+        let settings = settingsGiven schedule alpha «clip_on» clip gamma0 «pre_iterations» «num_legs» «leg_iterations»
+        «gamma_low» «gamma_high» «stop_after_converged» explicit sets in
         let before = decodeLists (now («leg_state» .entry)) (now («leg_steps» .entry)) (now («leg_weight» .entry)) (now (rows .entry))
         (now (correction .entry)) (now (posterior .entry)) (now (gamma .entry)) (now (bias .entry))
         (now («c_to_v» .entry)) (now («v_to_c» .entry)) in
@@ -119,6 +125,8 @@ pub fn decode_in_order(
     let settings = settings_of(
         schedule as usize,
         alpha,
+        clip_on as usize,
+        clip,
         gamma0,
         pre_iterations,
         num_legs,
@@ -169,6 +177,8 @@ pub fn decode(
     var_offset: &[u32],
     schedule: u8,
     alpha: f64,
+    clip_on: u8,
+    clip: f64,
     gamma0: f64,
     pre_iterations: usize,
     num_legs: usize,
@@ -197,8 +207,8 @@ pub fn decode(
     ensures { λ r. ⌜ (
         let g = graph checks mechanisms (now («check_var» .entry)) (now («check_offset» .entry))
         (now («var_check» .entry)) (now («var_message» .entry)) (now («var_offset» .entry)) in
-        let settings = settingsGiven schedule alpha gamma0 «pre_iterations» «num_legs» «leg_iterations» «gamma_low» «gamma_high»
-        «stop_after_converged» explicit sets in
+        let settings = settingsGiven schedule alpha «clip_on» clip gamma0 «pre_iterations» «num_legs» «leg_iterations»
+        «gamma_low» «gamma_high» «stop_after_converged» explicit sets in
         let before = decodeLists (now («leg_state» .entry)) (now («leg_steps» .entry)) (now («leg_weight» .entry)) (now (rows .entry))
         (now (correction .entry)) (now (posterior .entry)) (now (gamma .entry)) (now (bias .entry))
         (now («c_to_v» .entry)) (now («v_to_c» .entry)) in
@@ -225,6 +235,8 @@ pub fn decode(
     let settings = settings_of(
         schedule as usize,
         alpha,
+        clip_on as usize,
+        clip,
         gamma0,
         pre_iterations,
         num_legs,

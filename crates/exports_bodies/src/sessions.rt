@@ -1,4 +1,4 @@
-// The calls of `stream_session`. A session passes as its 21 words and four floats.
+// The calls of `stream_session`. A session passes as its 22 words and five floats.
 ghost use mathlib.Core.Path.{_≡_};
 ghost use lib.ListN.{length};
 ghost use Rattle.numbers.specs.Loops.{over};
@@ -9,7 +9,7 @@ use exports_session::session_of;
 use stream_session::Session;
 
 // `stream_session::Session::new`.
-pub fn session_new(words: &mut [usize; 21], floats: &mut [f64; 4])
+pub fn session_new(words: &mut [usize; 22], floats: &mut [f64; 5])
     ensures words { λ _. ⌜ now (words .exit) ≡ sessionWords startSession ⌝ }
     ensures floats { λ _. ⌜ now (floats .exit) ≡ sessionFloats startSession ⌝ }
 {
@@ -18,8 +18,8 @@ pub fn session_new(words: &mut [usize; 21], floats: &mut [f64; 4])
 
 // `stream_session::take`.
 pub fn take(
-    words: &mut [usize; 21],
-    floats: &mut [f64; 4],
+    words: &mut [usize; 22],
+    floats: &mut [f64; 5],
     byte: u8,
     payload: &mut [u8],
     model: &mut [u8],
@@ -51,7 +51,7 @@ pub fn take(
 }
 
 // `stream_session::finish`.
-pub fn finish(words: &[usize; 21], floats: &[f64; 4], line: &mut [u8; 512]) -> usize
+pub fn finish(words: &[usize; 22], floats: &[f64; 5], line: &mut [u8; 512]) -> usize
     ensures said { λ r. ⌜ r ≡ length (endText (sessionOf (now (words .entry)) (now (floats .entry)))) ⌝ }
     ensures line { λ _. ⌜ (
         let s = sessionOf (now (words .entry)) (now (floats .entry)) in

@@ -1,11 +1,13 @@
-// The single iteration of `relay`. A schedule passes as a byte: 0 is Flooding, and any other is CheckSerial.
+// The single iteration of `relay`. A schedule passes as a byte: 0 is Flooding, and any other is CheckSerial; a clip as a byte, 0 for
+// off, and its magnitude.
 ghost use mathlib.Core.Path.{_≡_};
 ghost use Rattle.graph_lists.specs.Graph.{graph};
 ghost use Rattle.relay_step.specs.Step.{state};
 ghost use Rattle.relay_calls.specs.Calls.{stepLists, iterationCall};
-ghost use Rattle.exports_values.specs.Codes.{scheduleGiven};
+ghost use Rattle.exports_values.specs.Codes.{scheduleGiven, clipGiven};
 ghost use Rattle.exports_bodies.specs.Answers.{stepLeft, stepLeftBy};
 use exports_values::answers::code;
+use exports_values::given::clip_of;
 use exports_values::given::schedule_of;
 use graph::Size;
 
@@ -22,6 +24,8 @@ pub fn iteration(
     var_offset: &[u32],
     schedule: u8,
     alpha: f64,
+    clip_on: u8,
+    clip: f64,
     gamma: &[f64],
     syndrome: &[u8],
     order: &[u32],
@@ -36,9 +40,8 @@ pub fn iteration(
         let before = stepLists (state (now («c_to_v» .entry)) (now («v_to_c» .entry)) (now (posterior .entry))) (now (bias .entry)) in
         let after = stepLists (state (now («c_to_v» .exit)) (now («v_to_c» .exit)) (now (posterior .exit))) (now (bias .exit)) in
         stepLeft r after
-        ≡ stepLeftBy (iterationCall edges (now (priors .entry)) g (scheduleGiven schedule) alpha (now (gamma .entry)) (now
-        (syndrome .entry))
-        (now (order .entry)) before)) ⌝ }
+        ≡ stepLeftBy (iterationCall edges (now (priors .entry)) g (scheduleGiven schedule) alpha (clipGiven «clip_on» clip)
+        (now (gamma .entry)) (now (syndrome .entry)) (now (order .entry)) before)) ⌝ }
 {
     let size = Size {
         checks: checks,
@@ -55,6 +58,7 @@ pub fn iteration(
         var_offset,
         schedule_of(schedule as usize),
         alpha,
+        clip_of(clip_on as usize, clip),
         gamma,
         syndrome,
         order,

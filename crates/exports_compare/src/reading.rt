@@ -104,8 +104,8 @@ pub extern "C" fn chowderkite_read_model(
 #[no_mangle]
 pub extern "C" fn chowderkite_read_settings(
     payload: &[u8],
-    floats: &mut [f64; 4],
-    counts: &mut [u64; 4],
+    floats: &mut [f64; 5],
+    counts: &mut [u64; 5],
 ) -> u8
     ensures schedule { λ r. ⌜ r ≡ byteOf (settingsRead (now (payload .entry)) .schedule) ⌝ }
     ensures floats { λ _. ⌜ now (floats .exit) ≡ floatsIn (settingsRead (now (payload .entry))) ⌝ }

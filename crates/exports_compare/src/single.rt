@@ -6,10 +6,11 @@ ghost use lib.Dec.{leb};
 ghost use lib.Ieee.{inf};
 ghost use Rattle.numbers.specs.Floats.{abs, isFinite, isNegative, messageSign};
 ghost use Rattle.numbers.specs.Draw.{product, advanced, mixed, unit as unitOf, gamma as gammaOf};
-ghost use Rattle.relay_settings.specs.Settings.{alphaGood};
+ghost use Rattle.relay_settings.specs.Settings.{clipGood, alphaGood};
 ghost use Rattle.relay_stores.specs.Stores.{maxStores};
-ghost use Rattle.exports_values.specs.Codes.{bitOf};
+ghost use Rattle.exports_values.specs.Codes.{bitOf, clipGiven};
 use exports_values::answers::bit;
+use exports_values::given::clip_of;
 use numbers::SplitMix64;
 
 // `numbers::magnitude`.
@@ -93,6 +94,14 @@ pub extern "C" fn chowderkite_gamma(low: f64, high: f64, draw: u64) -> f64
     ensures { λ r. ⌜ r ≡ gammaOf low high draw ⌝ }
 {
     numbers::gamma(low, high, draw)
+}
+
+// `relay_settings::clip_good`: 9's test.
+#[no_mangle]
+pub extern "C" fn chowderkite_clip_good(clip_on: u8, clip: f64) -> u8
+    ensures { λ r. ⌜ r ≡ bitOf (clipGood (clipGiven «clip_on» clip)) ⌝ }
+{
+    bit(relay_settings::clip_good(clip_of(clip_on as usize, clip)))
 }
 
 // `refusals_tests::finite_positive`: 10's test.

@@ -10,10 +10,10 @@ use Rattle.relay_settings.specs.declared.GammaSource.the-variants.{Explicit, Se
 use Rattle.stream_reader.specs.declared.Reader.{Reader}
 use Rattle.stream_session.specs.declared.Session.{Session}
 use Rattle.stream_session.specs.Shots.{known, session}
-use Rattle.exports_values.specs.Codes.{bitOf, byteOf, settingsGiven, floatsIn}
+use Rattle.exports_values.specs.Codes.{bitOf, byteOf, clipByte, settingsGiven, floatsIn}
 
 -- ---- a session: the reader's eight words; the model's length, whether there is a model, whether there are settings, the next shot, whether the run has ended, how
--- long the line is; then the settings' schedule, counts and source. Their floats stand beside them. A word that is not 0 is true
+-- long the line is; then the settings' schedule, counts, source and whether their clip is on. Their floats stand beside them. A word that is not 0 is true
 
 -- a word as a bool
 abbrev pub isSet : ℕ → Bool
@@ -46,7 +46,7 @@ readerOf w =
 -- a session out of its words and its settings' floats
 abbrev pub sessionOf : List ℕ → List Float → Session
 sessionOf w f =
-    let settings = settingsGiven (getD w 14 0) (getD f 0 nan) (getD f 1 nan) (getD w 15 0) (getD w 16 0) (getD w 17 0) (getD f 2 nan) (getD f 3 nan) (getD w 18 0) (getD w 19 0) (getD w 20 0) in
+    let settings = settingsGiven (getD w 14 0) (getD f 0 nan) (getD w 21 0) (getD f 4 nan) (getD f 1 nan) (getD w 15 0) (getD w 16 0) (getD w 17 0) (getD f 2 nan) (getD f 3 nan) (getD w 18 0) (getD w 19 0) (getD w 20 0) in
     session (readerOf w) (known (getD w 8 0) (isSet (getD w 9 0)) settings (isSet (getD w 10 0))) (getD w 11 0) (isSet (getD w 12 0)) (getD w 13 0)
 
 -- a session's words
@@ -57,7 +57,7 @@ sessionWords s =
     let t = k .settings in
     r .offset ∷ (r .taken ∷ (r .length ∷ (r .kind ∷ (r .checks ∷ (r .mechanisms ∷ (r .edges ∷ (r .degrees ∷ (
     k .«model_length» ∷ (bitOf (k .«has_model») ∷ (bitOf (k .«has_settings») ∷ (s .shots ∷ (bitOf (s .stopped) ∷ (s .said ∷ (
-    byteOf (t .schedule) ∷ (t .«pre_iterations» ∷ (t .«num_legs» ∷ (t .«leg_iterations» ∷ (t .«stop_after_converged» ∷ (explicitWord (t .«gamma_source») ∷ (setsWord (t .«gamma_source») ∷ []))))))))))))))))))))
+    byteOf (t .schedule) ∷ (t .«pre_iterations» ∷ (t .«num_legs» ∷ (t .«leg_iterations» ∷ (t .«stop_after_converged» ∷ (explicitWord (t .«gamma_source») ∷ (setsWord (t .«gamma_source») ∷ (clipByte (t .clip) ∷ [])))))))))))))))))))))
 
 -- the floats of its settings
 abbrev pub sessionFloats : Session → List Float

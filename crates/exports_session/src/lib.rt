@@ -5,6 +5,8 @@ ghost use Rattle.exports_session.specs.Words.{explicitWord, setsWord, se
 use exports_values::answers::bit;
 use exports_values::given::settings_of;
 use exports_values::told::byte_of;
+use exports_values::told::clip_byte;
+use exports_values::told::clip_float;
 use relay_settings::GammaSource;
 use stream_reader::Reader;
 use stream_session::Known;
@@ -31,12 +33,14 @@ fn sets_word(source: GammaSource) -> usize
 }
 
 // A session out of its words and floats.
-pub fn session_of(words: &[usize; 21], floats: &[f64; 4]) -> Session
+pub fn session_of(words: &[usize; 22], floats: &[f64; 5]) -> Session
     ensures { λ r. ⌜ r ≡ sessionOf (now (words .entry)) (now (floats .entry)) ⌝ }
 {
     let settings = settings_of(
         words[14],
         floats[0],
+        words[21],
+        floats[4],
         floats[1],
         words[15],
         words[16],
@@ -71,7 +75,7 @@ pub fn session_of(words: &[usize; 21], floats: &[f64; 4]) -> Session
 }
 
 // A session's words and floats, written.
-pub fn put_session(s: Session, words: &mut [usize; 21], floats: &mut [f64; 4])
+pub fn put_session(s: Session, words: &mut [usize; 22], floats: &mut [f64; 5])
     ensures words { λ _. ⌜ now (words .exit) ≡ sessionWords s ⌝ }
     ensures floats { λ _. ⌜ now (floats .exit) ≡ sessionFloats s ⌝ }
 {
@@ -79,6 +83,7 @@ pub fn put_session(s: Session, words: &mut [usize; 21], floats: &mut [f64; 4])
     let k = s.known;
     let t = k.settings;
     let schedule = t.schedule;
+    let clip = t.clip;
     let source = t.gamma_source;
     *words = [
         r.offset,
@@ -102,6 +107,13 @@ pub fn put_session(s: Session, words: &mut [usize; 21], floats: &mut [f64; 4])
         t.stop_after_converged,
         explicit_word(source),
         sets_word(source),
+        clip_byte(clip) as usize,
     ];
-    *floats = [t.alpha, t.gamma0, t.gamma_low, t.gamma_high];
+    *floats = [
+        t.alpha,
+        t.gamma0,
+        t.gamma_low,
+        t.gamma_high,
+        clip_float(clip),
+    ];
 }

@@ -12,6 +12,8 @@ use Rattle.refusals.specs.declared.Place.the-variants.{Nowhere, At}
 use Rattle.refusals.specs.Refusal.{numberOf, placeOf}
 use Rattle.relay_settings.specs.declared.Schedule.{Schedule}
 use Rattle.relay_settings.specs.declared.Schedule.the-variants.{Flooding, CheckSerial}
+use Rattle.relay_settings.specs.declared.Clip.{Clip}
+use Rattle.relay_settings.specs.declared.Clip.the-variants.{Off, On}
 use Rattle.relay_settings.specs.declared.GammaSource.{GammaSource}
 use Rattle.relay_settings.specs.declared.GammaSource.the-variants.{Explicit, Seeded}
 use Rattle.relay_settings.specs.declared.Settings.{Settings}
@@ -22,7 +24,7 @@ use Rattle.relay_calls.specs.declared.Decoded.the-variants as Decoded
 
 -- the version of the exported calls: raised whenever a call, a list or a code changes its meaning
 abbrev pub version : ℕ
-version = 3
+version = 4
 
 -- ---- answers
 
@@ -57,17 +59,23 @@ abbrev pub scheduleGiven : ℕ → Schedule
 scheduleGiven zero = Flooding
 scheduleGiven (suc n) = CheckSerial
 
+-- a byte that is 0 is off, and else the clip is on with the magnitude beside it
+abbrev pub clipGiven : ℕ → Float → Clip
+clipGiven zero limit = Off
+clipGiven (suc n) limit = On limit
+
 -- where a byte is 0 the gammas are drawn, and else they are explicit sets
 abbrev pub sourceGiven : ℕ → ℕ → GammaSource
 sourceGiven zero sets = Seeded
 sourceGiven (suc n) sets = Explicit sets
 
 -- the settings of a call, in its order
-abbrev pub settingsGiven : ℕ → Float → Float → ℕ → ℕ → ℕ → Float → Float → ℕ → ℕ → ℕ → Settings
-settingsGiven schedule alpha gamma0 pre legs iterations low high stop explicit sets =
+abbrev pub settingsGiven : ℕ → Float → ℕ → Float → Float → ℕ → ℕ → ℕ → Float → Float → ℕ → ℕ → ℕ → Settings
+settingsGiven schedule alpha clipOn clip gamma0 pre legs iterations low high stop explicit sets =
     record {
       schedule = scheduleGiven schedule;
       alpha = alpha;
+      clip = clipGiven clipOn clip;
       gamma0 = gamma0;
       «pre_iterations» = pre;
       «num_legs» = legs;
@@ -83,13 +91,23 @@ abbrev pub byteOf : Schedule → ℕ
 byteOf Flooding = 0
 byteOf CheckSerial = 1
 
--- the floats of settings: alpha, gamma0 and the interval's ends
-abbrev pub floatsIn : Settings → List Float
-floatsIn t = t .alpha ∷ (t .gamma0 ∷ (t .«gamma_low» ∷ (t .«gamma_high» ∷ [])))
+-- whether a clip is on, as a byte
+abbrev pub clipByte : Clip → ℕ
+clipByte Off = 0
+clipByte (On limit) = 1
 
--- and their counts: pre_iterations, num_legs, leg_iterations, stop_after_converged
+-- and its magnitude, positive zero where it is off
+abbrev pub clipFloat : Clip → Float
+clipFloat Off = zero⁺
+clipFloat (On limit) = limit
+
+-- the floats of settings: alpha, gamma0, the interval's ends and the clip's magnitude
+abbrev pub floatsIn : Settings → List Float
+floatsIn t = t .alpha ∷ (t .gamma0 ∷ (t .«gamma_low» ∷ (t .«gamma_high» ∷ (clipFloat (t .clip) ∷ []))))
+
+-- and their counts: pre_iterations, num_legs, leg_iterations, stop_after_converged, and whether the clip is on
 abbrev pub countsIn : Settings → List ℕ
-countsIn t = t .«pre_iterations» ∷ (t .«num_legs» ∷ (t .«leg_iterations» ∷ (t .«stop_after_converged» ∷ [])))
+countsIn t = t .«pre_iterations» ∷ (t .«num_legs» ∷ (t .«leg_iterations» ∷ (t .«stop_after_converged» ∷ (clipByte (t .clip) ∷ []))))
 
 -- ---- a decode
 

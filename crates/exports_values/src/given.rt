@@ -1,9 +1,10 @@
 // Settings out of the numbers that they pass as.
+use relay_settings::Clip;
 use relay_settings::GammaSource;
 use relay_settings::Schedule;
 use relay_settings::Settings;
 ghost use mathlib.Core.Path.{_≡_};
-ghost use Rattle.exports_values.specs.Codes.{scheduleGiven, sourceGiven, settingsGiven};
+ghost use Rattle.exports_values.specs.Codes.{scheduleGiven, clipGiven, sourceGiven, settingsGiven};
 
 // The schedule of a word.
 pub fn schedule_of(word: usize) -> Schedule
@@ -13,6 +14,16 @@ pub fn schedule_of(word: usize) -> Schedule
         return Schedule::Flooding;
     }
     Schedule::CheckSerial
+}
+
+// The clip of a word and its magnitude.
+pub fn clip_of(on: usize, limit: f64) -> Clip
+    ensures { λ r. ⌜ r ≡ clipGiven on limit ⌝ }
+{
+    if on == 0 {
+        return Clip::Off;
+    }
+    Clip::On(limit)
 }
 
 // Where the gammas come from.
@@ -29,6 +40,8 @@ fn source_of(explicit: usize, sets: usize) -> GammaSource
 pub fn settings_of(
     schedule: usize,
     alpha: f64,
+    clip_on: usize,
+    clip: f64,
     gamma0: f64,
     pre_iterations: usize,
     num_legs: usize,
@@ -40,14 +53,16 @@ pub fn settings_of(
     sets: usize,
 ) -> Settings
     ensures { λ r. ⌜
-        r ≡ settingsGiven schedule alpha gamma0 «pre_iterations» «num_legs» «leg_iterations» «gamma_low» «gamma_high»
-        «stop_after_converged» explicit sets ⌝ }
+        r ≡ settingsGiven schedule alpha «clip_on» clip gamma0 «pre_iterations» «num_legs» «leg_iterations»
+        «gamma_low» «gamma_high» «stop_after_converged» explicit sets ⌝ }
 {
     let order = schedule_of(schedule);
+    let limit = clip_of(clip_on, clip);
     let source = source_of(explicit, sets);
     Settings {
         schedule: order,
         alpha: alpha,
+        clip: limit,
         gamma0: gamma0,
         pre_iterations: pre_iterations,
         num_legs: num_legs,

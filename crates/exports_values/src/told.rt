@@ -7,13 +7,15 @@ ghost use Rattle.numbers.specs.Floats.{zero⁺};
 ghost use Rattle.refusals.specs.Refusal.{numberOf};
 ghost use Rattle.refusals.specs.declared.Answer.the-variants.{Refused};
 ghost use Rattle.relay_calls.specs.Records.{valuesOf};
-ghost use Rattle.exports_values.specs.Codes.{codeOf, decodedCode, decodedCounts, decodedWeight, byteOf, floatsIn, countsIn};
+ghost use Rattle.exports_values.specs.Codes.{codeOf, decodedCode, decodedCounts, decodedWeight, byteOf};
+ghost use Rattle.exports_values.specs.Codes.{clipByte, clipFloat, floatsIn, countsIn};
 use crate::answers::code;
 use refusals::Answer;
 use refusals::Refusal;
 use refusals::number_of;
 use relay_calls::Decoded;
 use relay_calls::LegRecord;
+use relay_settings::Clip;
 use relay_settings::Schedule;
 use relay_settings::Settings;
 
@@ -99,18 +101,46 @@ pub fn byte_of(schedule: Schedule) -> u8
     }
 }
 
+// Whether a clip is on.
+pub fn clip_byte(clip: Clip) -> u8
+    ensures { λ r. ⌜ r ≡ clipByte clip ⌝ }
+{
+    match clip {
+        Clip::Off => 0,
+        Clip::On(_) => 1,
+    }
+}
+
+// A clip's magnitude.
+pub fn clip_float(clip: Clip) -> f64
+    ensures { λ r. ⌜ r ≡ clipFloat clip ⌝ }
+{
+    match clip {
+        Clip::Off => 0.0,
+        Clip::On(limit) => limit,
+    }
+}
+
 // The floats and the counts of settings, and the byte of their schedule.
-pub fn tell_settings(t: Settings, floats: &mut [f64; 4], counts: &mut [u64; 4]) -> u8
+pub fn tell_settings(t: Settings, floats: &mut [f64; 5], counts: &mut [u64; 5]) -> u8
     ensures schedule { λ r. ⌜ r ≡ byteOf (t .schedule) ⌝ }
     ensures floats { λ _. ⌜ now (floats .exit) ≡ floatsIn t ⌝ }
     ensures counts { λ _. ⌜ now (counts .exit) ≡ countsIn t ⌝ }
 {
-    *floats = [t.alpha, t.gamma0, t.gamma_low, t.gamma_high];
+    let clip = t.clip;
+    *floats = [
+        t.alpha,
+        t.gamma0,
+        t.gamma_low,
+        t.gamma_high,
+        clip_float(clip),
+    ];
     *counts = [
         t.pre_iterations as u64,
         t.num_legs as u64,
         t.leg_iterations as u64,
         t.stop_after_converged as u64,
+        clip_byte(clip) as u64,
     ];
     let schedule = t.schedule;
     byte_of(schedule)

@@ -76,7 +76,14 @@ fn send(minus: f64, plus: f64, v_to_c: &[f64], c_to_v: &mut [f64])
 }
 
 // All that a check sends, from all that came in: the least at all places, and the next at the place of the least.
-fn update_check(alpha: f64, clip: Clip, odd: bool, variables: &[u32], v_to_c: &[f64], c_to_v: &mut [f64])
+fn update_check(
+    alpha: f64,
+    clip: Clip,
+    odd: bool,
+    variables: &[u32],
+    v_to_c: &[f64],
+    c_to_v: &mut [f64],
+)
     requires { ⌜ PerEdge (length (now variables)) (now «c_to_v») (now «v_to_c») ⌝ }
     requires { ⌜ Rises (now variables) ⌝ }
     ensures { λ _. ⌜ now («c_to_v» .exit) ≡ checkMessages alpha clip odd (now (variables .entry)) (now («v_to_c» .entry)) ⌝ }

@@ -6,6 +6,7 @@ use compare::same_decode;
 use graph::Size;
 use numbers::wrapping_mul;
 use refusals_tests::is_done;
+use relay_settings::Clip;
 use relay_settings::GammaSource;
 use relay_settings::Schedule;
 use relay_settings::Settings;
@@ -21,6 +22,13 @@ fn schedule_of(number: u64) -> Schedule {
         return Schedule::CheckSerial;
     }
     Schedule::Flooding
+}
+
+fn clip_of(number: u64, limit: f64) -> Clip {
+    if number == 1 {
+        return Clip::On(limit);
+    }
+    Clip::Off
 }
 
 fn source_of(number: u64, sets: usize) -> GammaSource {
@@ -40,7 +48,9 @@ struct Read {
 fn read_settings(line: &[u8], at: usize) -> Read {
     let schedule = word_at(line, at);
     let alpha = word_at(line, schedule.next);
-    let gamma0 = word_at(line, alpha.next);
+    let clip_on = word_at(line, alpha.next);
+    let clip = word_at(line, clip_on.next);
+    let gamma0 = word_at(line, clip.next);
     let pre_iterations = word_at(line, gamma0.next);
     let num_legs = word_at(line, pre_iterations.next);
     let leg_iterations = word_at(line, num_legs.next);
@@ -52,6 +62,7 @@ fn read_settings(line: &[u8], at: usize) -> Read {
     let settings = Settings {
         schedule: schedule_of(schedule.value),
         alpha: float(alpha.value),
+        clip: clip_of(clip_on.value, float(clip.value)),
         gamma0: float(gamma0.value),
         pre_iterations: pre_iterations.value as usize,
         num_legs: num_legs.value as usize,

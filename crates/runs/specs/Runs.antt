@@ -21,6 +21,7 @@ use Rattle.min_sum.specs.Beliefs as Beliefs
 use Rattle.relay_settings.specs.declared.Settings.{Settings}
 use Rattle.relay_settings.specs.declared.Schedule.{Schedule}
 use Rattle.relay_settings.specs.declared.Schedule.the-variants.{Flooding, CheckSerial}
+use Rattle.relay_settings.specs.declared.Clip.the-variants.{Off}
 use Rattle.relay_settings.specs.declared.GammaSource.the-variants.{Seeded}
 use Rattle.relay_step.specs.Leg.{startLeg}
 use Rattle.relay_calls.specs.declared.Decoded.the-variants as Decoded
@@ -88,12 +89,13 @@ empty = modelBuilt 0 [] (0 ∷ []) [] .lists
 
 -- ---- calls
 
--- alpha 1, gamma0 0, no relayed legs
+-- alpha 1, no clip, gamma0 0, no relayed legs
 abbrev pub settings : Schedule → ℕ → Settings
 settings schedule pre =
     record {
       schedule = schedule;
       alpha = one⁺;
+      clip = Off;
       gamma0 = zero⁺;
       «pre_iterations» = pre;
       «num_legs» = 0;
@@ -133,7 +135,7 @@ show o = shown (summaryOf (o .answer)) (o .left .correction) (o .left .posterior
 
 -- the first iteration of a leg on G, in the order given, with gammas 0
 abbrev pub firstStep : Schedule → List ℕ → Calls.StepOutcome
-firstStep schedule order = iterationCall 4 fours G schedule one⁺ (replicate 3 zero⁺) (1 ∷ 0 ∷ []) order (stepLists (startLeg G fours fours) (replicate 3 nine))
+firstStep schedule order = iterationCall 4 fours G schedule one⁺ Off (replicate 3 zero⁺) (1 ∷ 0 ∷ []) order (stepLists (startLeg G fours fours) (replicate 3 nine))
 
 -- of a single iteration, what a run says: the answer and the posterior
 pub record Stepped : Type 0 where

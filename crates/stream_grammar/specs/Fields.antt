@@ -10,6 +10,7 @@ use Rattle.numbers.specs.Loops.{table}
 use Rattle.relay_settings.specs.declared.Settings.{Settings}
 use Rattle.relay_settings.specs.declared.Schedule.{Schedule}
 use Rattle.relay_settings.specs.declared.Schedule.the-variants.{Flooding, CheckSerial}
+use Rattle.relay_settings.specs.declared.Clip.the-variants.{Off}
 use Rattle.relay_settings.specs.declared.GammaSource.the-variants.{Seeded}
 use Rattle.stream_grammar.specs.declared.Counts.{Counts}
 use Rattle.stream_grammar.specs.Stream.{checks, mechanisms, edges, priorBits, degrees, detector, scheduleByte, alphaBits, gamma0Bits, preIterations, legs, legIterations, lowBits, highBits, stop}
@@ -54,12 +55,13 @@ modelRead p l =
 unfoldable pub scheduleRead : ℕ → Schedule
 scheduleRead b = cond (eqb b 0) Flooding CheckSerial
 
--- Relay's settings, with a seeded source
+-- Relay's settings, with the clip off and a seeded source, of which the record says nothing
 unfoldable pub settingsRead : List ℕ → Settings
 settingsRead p =
     record {
       schedule = scheduleRead (scheduleByte p);
       alpha = ofBits binary64 (alphaBits p);
+      clip = Off;
       gamma0 = ofBits binary64 (gamma0Bits p);
       «pre_iterations» = preIterations p;
       «num_legs» = legs p;

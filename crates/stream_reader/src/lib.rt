@@ -15,6 +15,7 @@ use refusals_tests::at_most;
 use refusals_tests::both;
 use refusals_tests::or_else;
 use refusals_tests::unless;
+use relay_settings::Clip;
 use relay_settings::GammaSource;
 use relay_settings::Settings;
 use stream_grammar::fields;
@@ -140,13 +141,14 @@ pub fn read_model(
     fields::detectors_in(payload, mechanisms, detectors);
 }
 
-// Relay's settings out of their payload, with a seeded source.
+// Relay's settings out of their payload, with the clip off and a seeded source.
 pub fn read_settings(payload: &[u8]) -> Settings
     ensures { λ x. ⌜ x ≡ settingsRead (now (payload .entry)) ⌝ }
 {
     Settings {
         schedule: fields::schedule_of(fields::schedule_byte(payload)),
         alpha: fields::float_at(payload, 1),
+        clip: Clip::Off,
         gamma0: fields::float_at(payload, 9),
         pre_iterations: fields::number4(payload, 17),
         num_legs: fields::legs(payload),
