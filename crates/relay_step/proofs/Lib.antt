@@ -6,3 +6,4 @@ pub mod Passes
 pub mod Sends
 pub mod Legs
 pub mod Weights
+pub mod Clips
