@@ -7,3 +7,4 @@ pub mod Sends
 pub mod Legs
 pub mod Weights
 pub mod Clips
+pub mod Tame
