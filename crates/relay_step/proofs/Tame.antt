@@ -20,7 +20,7 @@ use Rattle.relay_settings.specs.declared.Clip.the-variants.{On}
 use Rattle.relay_settings.specs.declared.Schedule.{Schedule}
 use Rattle.relay_settings.specs.declared.Schedule.the-variants.{Flooding, CheckSerial}
 use Rattle.relay_settings.specs.Settings.{clipGood, alphaGood}
-use Rattle.relay_step.specs.Step.{State, checkMessages, updateCheck, updateVariable, computeBias, checkPass, variablePass, floodingIteration, serialCheck, serialPass, checkSerialIteration, iteration}
+use Rattle.relay_step.specs.Step.{State, checkMessages, updateCheck, updateVariable, checkPass, variablePass, floodingIteration, serialCheck, serialPass, checkSerialIteration, iteration}
 use Rattle.relay_step.specs.Leg.{startLeg, runLeg}
 use Rattle.relay_step.proofs.Lengths.{length-sent}
 use Rattle.relay_step.proofs.Clips.{sent-within, sent-finite}
@@ -84,38 +84,34 @@ start-tame limit good g prior posterior =
           ∙ lt-one-way zero⁺ limit (and-both (isFinite limit) (lt zero⁺ limit) good .1);
     }
 
--- ---- steps of any kind
+-- ---- steps of any kind, that keep a fact
 
--- a step that leaves check messages tame
-abbrev Keeps : Float → (State → State) → Type 0
-Keeps limit f = (s : State) → Tame limit (s .cToV) → Tame limit (f s .cToV)
+module _ (Q : State → Type 0) where
+  -- one by one over a list
+  pub fold-holds : (f : State → ℕ → State) → ((s : State) (x : ℕ) → Q s → Q (f s x)) → (xs : List ℕ) (s : State) → Q s → Q (foldl f s xs)
+  fold-holds f h [] s q = q
+  fold-holds f h (x ∷ xs) s q = fold-holds f h xs (f s x) (h s x q)
 
--- one by one over a list
-fold-tame : (limit : Float) (f : State → ℕ → State) → ((x : ℕ) → Keeps limit (λ s. f s x)) → (xs : List ℕ) → Keeps limit (λ s. foldl f s xs)
-fold-tame limit f h [] s t = t
-fold-tame limit f h (x ∷ xs) s t = fold-tame limit f h xs (f s x) (h x s t)
+  -- or over the numbers below n
+  pub turns-hold : (f : State → ℕ → State) → ((s : State) (x : ℕ) → Q s → Q (f s x)) → (n : ℕ) (s : State) → Q s → Q (turns n (λ v t. f t v) s)
+  turns-hold f h zero s q = q
+  turns-hold f h (suc n) s q = h (turns n (λ v t. f t v) s) n (turns-hold f h n s q)
 
--- or over the numbers below n
-turns-tame : (limit : Float) (f : ℕ → State → State) → ((v : ℕ) → Keeps limit (f v)) → (n : ℕ) → Keeps limit (turns n f)
-turns-tame limit f h zero s t = t
-turns-tame limit f h (suc n) s t = h n (turns n f s) (turns-tame limit f h n s t)
-
--- so does a leg of such steps, after any number of iterations
-pub leg-tame : (limit : Float) (step : State → State) (test : List Float → Bool) → ((s : State) → Tame limit (s .cToV) → Tame limit (step s .cToV))
-    → (n : ℕ) (ok : Bool) (k : ℕ) (s : State) → Tame limit (s .cToV) → Tame limit (runLeg step test n ok k s .left .cToV)
-leg-tame limit step test h zero ok k s t = t
-leg-tame limit step test h (suc n) true k s t = t
-leg-tame limit step test h (suc n) false k s t = leg-tame limit step test h n (test (step s .posterior)) (suc k) (step s) (h s t)
+  -- and a leg, after any number of iterations
+  pub leg-holds : (step : State → State) (test : List Float → Bool) → ((s : State) → Q s → Q (step s)) → (n : ℕ) (ok : Bool) (k : ℕ) (s : State) → Q s
+      → Q (runLeg step test n ok k s .left)
+  leg-holds step test h zero ok k s q = q
+  leg-holds step test h (suc n) true k s q = q
+  leg-holds step test h (suc n) false k s q = leg-holds step test h n (test (step s .posterior)) (suc k) (step s) (h s q)
 
 -- ---- Relay's steps
 
--- a variable writes no check message
-variable-tame : (limit : Float) (g : Graph) (bias : List Float) (v : ℕ) → Keeps limit (λ s. updateVariable g bias s v)
-unfolding updateVariable
-variable-tame limit g bias v s t = t
-
 module _ (alpha limit : Float) (able : alphaGood alpha ≡ true) (fit : fits binary64 alpha ≡ true) (good : clipGood (On limit) ≡ true)
     (g : Graph) (syndrome : List ℕ) where
+  -- a state whose check messages are tame
+  abbrev Good : State → Type 0
+  Good s = Tame limit (s .cToV)
+
   -- what a check sends, whatever it was sent
   sent-tame : (odd : Bool) (variables : List ℕ) (messages : List Float) → Tame limit (checkMessages alpha (On limit) odd variables messages)
   sent-tame odd variables messages =
@@ -126,33 +122,40 @@ module _ (alpha limit : Float) (able : alphaGood alpha ≡ true) (fit : fits bin
       }
 
   -- a check among all, whatever its offsets are
-  check-tame : (c : ℕ) → Keeps limit (λ s. updateCheck byPlace g alpha (On limit) syndrome s c)
+  pub check-tame : (s : State) (c : ℕ) → Tame limit (s .cToV) → Tame limit (updateCheck byPlace g alpha (On limit) syndrome s c .cToV)
   unfolding updateCheck
-  check-tame c s t =
+  check-tame s c t =
       let from = getD (g .checkOffset) c 0 in
       let to = getD (g .checkOffset) (suc c) 0 in
       let odd = not (eqb (getD syndrome c 0) 0) in
       tame-spliced limit (s .cToV) _ from to t (sent-tame odd (checkEntries g c) (part from to (s .vToC)))
 
-  -- with its variables
-  serial-tame : (bias : List Float) (c : ℕ) → Keeps limit (λ s. serialCheck byPlace g alpha (On limit) syndrome bias s c)
+  -- a variable writes no check message
+  variable-tame : (bias : List Float) (s : State) (v : ℕ) → Good s → Good (updateVariable g bias s v)
+  unfolding updateVariable
+  variable-tame bias s v t = t
+
+  -- a check with its variables
+  serial-tame : (bias : List Float) (s : State) (c : ℕ) → Good s → Good (serialCheck byPlace g alpha (On limit) syndrome bias s c)
   unfolding serialCheck
-  serial-tame bias c s t = fold-tame limit (updateVariable g bias) (variable-tame limit g bias) (checkEntries g c) _ (check-tame c s t)
+  serial-tame bias s c t = fold-holds Good (updateVariable g bias) (variable-tame bias) (checkEntries g c) _ (check-tame s c t)
 
   -- an iteration of either schedule, in any order
   pub iteration-tame : (schedule : Schedule) (prior gamma : List Float) (order : List ℕ) (s : State) → Tame limit (s .cToV)
       → Tame limit (iteration schedule byPlace g alpha (On limit) syndrome prior gamma order s .cToV)
   unfolding floodingIteration checkSerialIteration checkPass variablePass serialPass
   iteration-tame Flooding prior gamma order s t =
-      let u = checkPass byPlace g alpha (On limit) syndrome order s in
-      let bias = computeBias prior gamma (u .posterior) in
-      turns-tame limit (λ v w. updateVariable g bias w v) (variable-tame limit g bias) (g .mechanisms) u
-      (fold-tame limit (updateCheck byPlace g alpha (On limit) syndrome) check-tame order s t)
-  iteration-tame CheckSerial prior gamma order s t = fold-tame limit (serialCheck byPlace g alpha (On limit) syndrome _) (serial-tame _) order s t
+      turns-hold Good (updateVariable g _) (variable-tame _) (g .mechanisms) _ (fold-holds Good (updateCheck byPlace g alpha (On limit) syndrome) check-tame order s t)
+  iteration-tame CheckSerial prior gamma order s t = fold-holds Good (serialCheck byPlace g alpha (On limit) syndrome _) (serial-tame _) order s t
 
-  -- so a leg leaves them tame, after any number of iterations, whatever posterior it starts from
+  -- so a leg keeps them tame, after any number of iterations
+  pub leg-tame : (schedule : Schedule) (prior gamma : List Float) (order : List ℕ) (test : List Float → Bool) (n : ℕ) (ok : Bool) (k : ℕ) (s : State)
+      → Tame limit (s .cToV) → Tame limit (runLeg (iteration schedule byPlace g alpha (On limit) syndrome prior gamma order) test n ok k s .left .cToV)
+  leg-tame schedule prior gamma order test =
+      leg-holds Good (iteration schedule byPlace g alpha (On limit) syndrome prior gamma order) test (iteration-tame schedule prior gamma order)
+
+  -- and from its start, where all are 0, leaves them so, whatever posterior it is handed
   pub left-tame : (schedule : Schedule) (prior gamma : List Float) (order : List ℕ) (test : List Float → Bool) (n : ℕ) (ok : Bool) (k : ℕ) (posterior : List Float)
       → Tame limit (runLeg (iteration schedule byPlace g alpha (On limit) syndrome prior gamma order) test n ok k (startLeg g prior posterior) .left .cToV)
   left-tame schedule prior gamma order test n ok k posterior =
-      leg-tame limit (iteration schedule byPlace g alpha (On limit) syndrome prior gamma order) test (iteration-tame schedule prior gamma order) n ok k
-      (startLeg g prior posterior) (start-tame limit good g prior posterior)
+      leg-tame schedule prior gamma order test n ok k (startLeg g prior posterior) (start-tame limit good g prior posterior)
