@@ -8,3 +8,4 @@ pub mod Legs
 pub mod Weights
 pub mod Clips
 pub mod Tame
+pub mod Bounds
