@@ -6,3 +6,6 @@ pub mod Passes
 pub mod Sends
 pub mod Legs
 pub mod Weights
+pub mod Clips
+pub mod Tame
+pub mod Bounds

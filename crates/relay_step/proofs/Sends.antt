@@ -35,7 +35,7 @@ sign-next sign true negative = (refl, positive)
 sign-next sign false negative = (refl, negative)
 
 -- a product of signs is one that flips
-flips : (sign x : Float) → Sign sign → (sign *ᶠ messageSign x ≡ flippedBy sign x) × Sign (flippedBy sign x)
+pub flips : (sign x : Float) → Sign sign → (sign *ᶠ messageSign x ≡ flippedBy sign x) × Sign (flippedBy sign x)
 unfolding messageSign flippedBy
 flips sign x h = sign-next sign (lt x zero⁺) h
 
