@@ -36,50 +36,56 @@ element-copy-out-settings-of-10 c = search needs
 element-copy-out-settings-of-11 : tie.Need-element-copy-out-settings-of-11
 element-copy-out-settings-of-11 c = search needs
 
+element-copy-out-settings-of-12 : tie.Need-element-copy-out-settings-of-12
+element-copy-out-settings-of-12 c = search needs
+
+element-copy-out-settings-of-13 : tie.Need-element-copy-out-settings-of-13
+element-copy-out-settings-of-13 c = search needs
+
 settings-of-requires : tie.Need-settings-of-requires
 settings-of-requires c κs = search needs
 
 element-copy-out-t6 : tie.Need-element-copy-out-t6
 element-copy-out-t6 c = search needs
 
+element-copy-out-t42 : tie.Need-element-copy-out-t42
+element-copy-out-t42 c = search needs
+
+element-copy-out-t39 : tie.Need-element-copy-out-t39
+element-copy-out-t39 c = search needs
+
 element-copy-out-t36 : tie.Need-element-copy-out-t36
 element-copy-out-t36 c = search needs
 
-element-copy-out-t33 : tie.Need-element-copy-out-t33
-element-copy-out-t33 c = search needs
-
-element-copy-out-t30 : tie.Need-element-copy-out-t30
-element-copy-out-t30 c = search needs
-
-element-copy-out-t15 : tie.Need-element-copy-out-t15
-element-copy-out-t15 c = search needs
-
-element-copy-out-t18 : tie.Need-element-copy-out-t18
-element-copy-out-t18 c = search needs
+element-copy-out-t12 : tie.Need-element-copy-out-t12
+element-copy-out-t12 c = search needs
 
 element-copy-out-t21 : tie.Need-element-copy-out-t21
 element-copy-out-t21 c = search needs
 
-element-copy-out-t53 : tie.Need-element-copy-out-t53
-element-copy-out-t53 c = search needs
+element-copy-out-t27 : tie.Need-element-copy-out-t27
+element-copy-out-t27 c = search needs
 
-element-copy-out-t57 : tie.Need-element-copy-out-t57
-element-copy-out-t57 c = search needs
+element-copy-out-t24 : tie.Need-element-copy-out-t24
+element-copy-out-t24 c = search needs
 
-element-copy-out-t60 : tie.Need-element-copy-out-t60
-element-copy-out-t60 c = search needs
+element-copy-out-t62 : tie.Need-element-copy-out-t62
+element-copy-out-t62 c = search needs
 
-element-copy-out-t64 : tie.Need-element-copy-out-t64
-element-copy-out-t64 c = search needs
+element-copy-out-t65 : tie.Need-element-copy-out-t65
+element-copy-out-t65 c = search needs
 
 element-copy-out-t69 : tie.Need-element-copy-out-t69
 element-copy-out-t69 c = search needs
 
-element-copy-out-t72 : tie.Need-element-copy-out-t72
-element-copy-out-t72 c = search needs
+element-copy-out-t74 : tie.Need-element-copy-out-t74
+element-copy-out-t74 c = search needs
 
-element-copy-out-t76 : tie.Need-element-copy-out-t76
-element-copy-out-t76 c = search needs
+element-copy-out-t77 : tie.Need-element-copy-out-t77
+element-copy-out-t77 c = search needs
+
+element-copy-out-t81 : tie.Need-element-copy-out-t81
+element-copy-out-t81 c = search needs
 
 returns : tie.Need-returns
 returns c = rw (c .before .before .before .before .before .before .before .before .before .before .before .before .before .before .settings-of .ensures)
@@ -99,19 +105,21 @@ session-of-spec =
     element-copy-out-settings-of-9
     element-copy-out-settings-of-10
     element-copy-out-settings-of-11
+    element-copy-out-settings-of-12
+    element-copy-out-settings-of-13
     settings-of-requires
     element-copy-out-t6
+    element-copy-out-t42
+    element-copy-out-t39
     element-copy-out-t36
-    element-copy-out-t33
-    element-copy-out-t30
-    element-copy-out-t15
-    element-copy-out-t18
+    element-copy-out-t12
     element-copy-out-t21
-    element-copy-out-t53
-    element-copy-out-t57
-    element-copy-out-t60
-    element-copy-out-t64
+    element-copy-out-t27
+    element-copy-out-t24
+    element-copy-out-t62
+    element-copy-out-t65
     element-copy-out-t69
-    element-copy-out-t72
-    element-copy-out-t76
+    element-copy-out-t74
+    element-copy-out-t77
+    element-copy-out-t81
     returns)
