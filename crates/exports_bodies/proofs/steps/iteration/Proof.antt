@@ -7,6 +7,9 @@ use Rattle.exports_bodies.proofs.steps.iteration.Tie as tie
 schedule-of-requires : tie.Need-schedule-of-requires
 schedule-of-requires c κs = search needs
 
+clip-of-requires : tie.Need-clip-of-requires
+clip-of-requires c κs = search needs
+
 iteration-requires : tie.Need-iteration-requires
 iteration-requires c κs = search needs
 
@@ -27,7 +30,9 @@ same-length-4 c = search needs
 
 returns : tie.Need-returns
 returns c =
-    let e = rw (c .before .before .before .before .before .before .before .before .before .before .before .before .before .before .schedule-of .ensures) at (c .before .before .before .before .before .before .before .before .before .iteration .ensures) in
+    let e =
+    rw (c .before .before .before .before .before .before .before .before .before .before .before .before .before .before .clip-of .ensures, c .before .before .before .before .before .before .before .before .before .before .before .before .before .before .before .schedule-of .ensures)
+    at (c .before .before .before .before .before .before .before .before .before .iteration .ensures) in
     step-left-as _ _ _ _ (c .code .ensures) e
 
 pub iteration-spec : {M : Type 1} → statement M
@@ -35,6 +40,7 @@ iteration-spec =
     tie.close
     (tie.spec
     schedule-of-requires
+    clip-of-requires
     iteration-requires
     code-requires
     same-length
