@@ -26,7 +26,7 @@ use Rattle.graph_lists.specs.Messages.{Scan}
 use Rattle.relay_settings.specs.declared.Clip.{Clip}
 use Rattle.relay_settings.specs.declared.Clip.the-variants.{Off, On}
 use Rattle.relay_settings.specs.Settings.{clipGood, alphaGood}
-use Rattle.relay_step.specs.Step.{scan, saturated, weighed, clipped, sent, sentTo, checkMessages}
+use Rattle.relay_step.specs.Step.{scan, saturated, weighed, clamped, clipped, sent, sentTo, checkMessages}
 use Rattle.relay_step.proofs.Sends.{Sign, positive, negative, flips, found}
 
 -- ---- off
@@ -51,14 +51,9 @@ clip-off-messages alpha odd variables messages =
 
 -- ---- what needs no good clip
 
--- a message that is not beyond it is as it was
-pub within-stays : (limit x : Float) → lt limit (abs x) ≡ false → clipped (On limit) x ≡ x
-unfolding clipped
-within-stays limit x h = rw h
-
 -- a NaN stays
 pub nan-stays : (clip : Clip) → clipped clip nan ≡ nan
-unfolding clipped lt abs
+unfolding clipped clamped lt
 nan-stays Off = refl
 nan-stays (On nan) = refl
 nan-stays (On (inf s)) = refl
@@ -126,18 +121,40 @@ data Made (limit x : Float) : Float → Type 0 where
   stays : lt limit (abs x) ≡ false → Made limit x x
   becomes : lt limit (abs x) ≡ true → Made limit x (cond (isNegative x) (neg limit) limit)
 
+-- a negative number is raised to the clip's negative, if it is beyond the clip
+made-negative : (m n : ℕ) (e d : ℤ) (b : Bool) → lt (fin false m e) (fin false n d) ≡ b → Made (fin false m e) (fin true n d) (clamped (fin false m e) (fin true n d))
+unfolding clamped neg lt abs isNegative
+made-negative m n e d true h = rw h (becomes h)
+made-negative m n e d false h = rw h (stays h)
+
+-- and any other lowered to it
+made-positive : (m n : ℕ) (e d : ℤ) (b : Bool) → lt (fin false m e) (fin false n d) ≡ b → Made (fin false m e) (fin false n d) (clamped (fin false m e) (fin false n d))
+unfolding clamped neg lt abs isNegative
+made-positive m n e d true h = rw h (becomes h)
+made-positive m n e d false h = rw h (stays h)
+
 made : (limit x : Float) → Above limit → Made limit x (clipped (On limit) x)
-unfolding clipped
-made limit x good = go (lt limit (abs x)) refl
-  where
-    go : (b : Bool) → lt limit (abs x) ≡ b → Made limit x (cond b (cond (lt x zero⁺) (neg limit) limit) x)
-    go true h = rw (beyond-sign limit x good h) (becomes h)
-    go false h = stays h
+unfolding clipped clamped neg lt abs isNegative
+made _ nan (above m e p) = stays refl
+made _ (inf true) (above m e p) = becomes refl
+made _ (inf false) (above m e p) = becomes refl
+made _ (fin true n d) (above m e p) = made-negative m n e d (lt (fin false m e) (fin false n d)) refl
+made _ (fin false n d) (above m e p) = made-positive m n e d (lt (fin false m e) (fin false n d)) refl
 
 -- so it is not beyond the clip
 made-within : (limit x y : Float) → Above limit → Made limit x y → lt limit (abs y) ≡ false
 made-within limit x y good (stays h) = h
 made-within limit x y good (becomes h) = rw (signed-size limit (isNegative x) good) (lt-itself limit)
+
+-- it is x, where that is not beyond
+made-same : (limit x y : Float) → Made limit x y → lt limit (abs x) ≡ false → y ≡ x
+made-same limit x y (stays h) k = refl
+made-same limit x y (becomes h) k = absurd (true≢false (sym h ∙ k))
+
+-- and the clip with the sign of x, where it is
+made-clip : (limit x y : Float) → Made limit x y → lt limit (abs x) ≡ true → y ≡ cond (isNegative x) (neg limit) limit
+made-clip limit x y (stays h) k = absurd (false≢true (sym h ∙ k))
+made-clip limit x y (becomes h) k = refl
 
 -- its sign is that of x
 made-sign : (limit x y : Float) → Above limit → Made limit x y → isNegative y ≡ isNegative x
@@ -163,8 +180,9 @@ made-finite limit x y good n (becomes h) = signed-finite limit (isNegative x) go
 
 -- what is made of an infinity
 made-infinite : (limit : Float) (s : Bool) → Above limit → clipped (On limit) (inf s) ≡ cond s (neg limit) limit
-unfolding clipped lt abs
-made-infinite _ s (above m e p) = refl
+unfolding clipped clamped neg lt
+made-infinite _ true (above m e p) = refl
+made-infinite _ false (above m e p) = refl
 
 -- ---- the same, from the test that a clip passes
 
@@ -173,10 +191,13 @@ module _ (limit : Float) (good : clipGood (On limit) ≡ true) where
   pub never-beyond : (x : Float) → lt limit (abs (clipped (On limit) x)) ≡ false
   never-beyond x = made-within limit x _ (clip-above limit good) (made limit x (clip-above limit good))
 
-  -- one that was beyond it has its size
-  pub beyond-is-clip : (x : Float) → lt limit (abs x) ≡ true → abs (clipped (On limit) x) ≡ limit
-  unfolding clipped
-  beyond-is-clip x h = rw h (signed-size limit (lt x zero⁺) (clip-above limit good))
+  -- one that is not beyond it is as it was
+  pub within-stays : (x : Float) → lt limit (abs x) ≡ false → clipped (On limit) x ≡ x
+  within-stays x h = made-same limit x _ (made limit x (clip-above limit good)) h
+
+  -- one that is, strictly greater in magnitude, becomes the clip with its sign
+  pub beyond-is-clip : (x : Float) → lt limit (abs x) ≡ true → clipped (On limit) x ≡ cond (isNegative x) (neg limit) limit
+  beyond-is-clip x h = made-clip limit x _ (made limit x (clip-above limit good)) h
 
   -- an infinity becomes it, with its sign
   pub infinite-is-clip : (s : Bool) → clipped (On limit) (inf s) ≡ cond s (neg limit) limit

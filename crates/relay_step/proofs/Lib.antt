@@ -5,6 +5,7 @@ pub mod Variables
 pub mod Passes
 pub mod Sends
 pub mod Legs
+pub mod Limits
 pub mod Weights
 pub mod Clips
 pub mod Tame

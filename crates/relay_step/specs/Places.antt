@@ -1,12 +1,19 @@
 -- What the code of a check's update has on the way, and lists that are long enough: for private contracts, and no part of what a reader must believe. Definitions only. Assumes nothing.
 use Prim.Native.Nat.{ℕ}
 use mathlib.Core.Path.{_≡_}
-use mathlib.Core.Bool.{cond}
+use mathlib.Core.Bool.{false, cond}
 use mathlib.Core.List.{List}
-use lib.Ieee.{Float, nan, lt}
+use lib.Ieee.{Float, nan, inf, lt}
 use lib.ListN.{length, getD}
 use Rattle.numbers.specs.Floats.{zero⁺}
 use Rattle.numbers.specs.Loops.{table}
+use Rattle.relay_settings.specs.declared.Clip.{Clip}
+use Rattle.relay_settings.specs.declared.Clip.the-variants.{Off, On}
+
+-- how far messages go: an infinity, which nothing is beyond, where the clip is off
+abbrev pub limitOf : Clip → Float
+limitOf Off = inf false
+limitOf (On limit) = limit
 
 -- one of two for each of the first n messages, by its sign
 unfoldable pub bySigns : Float → Float → List Float → ℕ → List Float

@@ -6,7 +6,7 @@ use mathlib.Core.List.{List, foldl}
 use lib.Dec.{eqb}
 use lib.Ieee.{Float, nan, lt, neg}
 use lib.ListN.{length, getD, set}
-use Rattle.numbers.specs.Floats.{_+ᶠ_, _-ᶠ_, _*ᶠ_, zero⁺, saturation, abs, isFinite, messageSign}
+use Rattle.numbers.specs.Floats.{_+ᶠ_, _-ᶠ_, _*ᶠ_, saturation, isFinite, messageSign}
 use Rattle.numbers.specs.Loops.{turns, table}
 use Rattle.graph_lists.specs.Graph.{Graph, checkEntries, varEntries}
 use Rattle.graph_lists.specs.Messages.{Access, Scan, startScan, lowered, total}
@@ -37,10 +37,14 @@ saturated x = cond (isFinite x) x saturation
 unfoldable pub weighed : Float → Scan → ℕ → Float → Float
 weighed alpha s variable message = alpha *ᶠ (s .totalSign *ᶠ messageSign message) *ᶠ saturated (cond (eqb variable (s .holder)) (s .min2) (s .min1))
 
--- a message beyond the clip, which is one strictly greater in magnitude, becomes the clip with its sign; every other stays, a NaN too
+-- `message.clamp(-limit, limit)`; a NaN stays
+unfoldable pub clamped : Float → Float → Float
+clamped limit message = let raised = cond (lt message (neg limit)) (neg limit) message in cond (lt limit raised) limit raised
+
+-- a message beyond the clip becomes the clip with its sign
 unfoldable pub clipped : Clip → Float → Float
 clipped Off message = message
-clipped (On limit) message = cond (lt limit (abs message)) (cond (lt message zero⁺) (neg limit) limit) message
+clipped (On limit) message = clamped limit message
 
 -- the message sent to a variable
 unfoldable pub sent : Float → Clip → Scan → ℕ → Float → Float

@@ -4,16 +4,15 @@
 ghost use mathlib.Core.Path.{_≡_};
 ghost use mathlib.Core.Bool.{cond};
 ghost use Prim.Native.Nat.{_≤_};
-ghost use lib.Ieee.{lt};
+ghost use lib.Ieee.{lt, neg};
 ghost use lib.ListN.{length};
 ghost use Rattle.numbers.specs.Floats.{_*ᶠ_, zero⁺};
 ghost use Rattle.numbers.specs.Loops.{part, spliced};
 ghost use Rattle.graph_messages.specs.Needs.{PerEdge, Rises};
 ghost use Rattle.relay_settings.specs.declared.Clip.the-variants.{On};
-ghost use Rattle.relay_step.specs.Step.{saturated as saturatedOf, clipped as clippedOf, checkMessages};
+ghost use Rattle.relay_step.specs.Step.{saturated as saturatedOf, clamped as clampedOf, checkMessages};
 ghost use Rattle.relay_step.specs.Places.{bySigns};
 use graph_messages::scan_check;
-use relay_settings::Clip;
 
 // A minimum that is not finite becomes 30.
 fn saturated(x: f64) -> f64
@@ -35,32 +34,32 @@ fn by_sign(message: f64, minus: f64, plus: f64) -> f64
     plus
 }
 
-// A message within a limit, as it is, or the limit with its sign.
-fn limited(limit: f64, message: f64) -> f64
-    ensures { λ r. ⌜ r ≡ clippedOf (On limit) message ⌝ }
+// A message that is not below the limit's negative.
+fn raised(limit: f64, message: f64) -> f64
+    ensures { λ r. ⌜ r ≡ cond (lt message (neg limit)) (neg limit) message ⌝ }
 {
-    let size = numbers::magnitude(message);
-    if limit < size {
-        return by_sign(message, -limit, limit);
+    if message < -limit {
+        return -limit;
     }
     message
 }
 
-// A message beyond the clip becomes the clip with its sign.
-fn clipped(clip: Clip, message: f64) -> f64
-    ensures { λ r. ⌜ r ≡ clippedOf clip message ⌝ }
+// `message.clamp(-limit, limit)`, by two instructions and no branch.
+fn clamped(limit: f64, message: f64) -> f64
+    ensures { λ r. ⌜ r ≡ clampedOf limit message ⌝ }
 {
-    match clip {
-        Clip::Off => message,
-        Clip::On(limit) => limited(limit, message),
+    let x = raised(limit, message);
+    if limit < x {
+        return limit;
     }
+    x
 }
 
 // (alpha times sign) times minimum, clipped.
-fn sent(alpha: f64, clip: Clip, total_sign: f64, sign: f64, minimum: f64) -> f64
-    ensures { λ r. ⌜ r ≡ clippedOf clip (alpha *ᶠ («total_sign» *ᶠ sign) *ᶠ saturatedOf minimum) ⌝ }
+fn sent(alpha: f64, limit: f64, total_sign: f64, sign: f64, minimum: f64) -> f64
+    ensures { λ r. ⌜ r ≡ clampedOf limit (alpha *ᶠ («total_sign» *ᶠ sign) *ᶠ saturatedOf minimum) ⌝ }
 {
-    clipped(clip, alpha * (total_sign * sign) * saturated(minimum))
+    clamped(limit, alpha * (total_sign * sign) * saturated(minimum))
 }
 
 // What a check sends if all messages are as that of the least: one of two by sign, at each place.
@@ -78,7 +77,7 @@ fn send(minus: f64, plus: f64, v_to_c: &[f64], c_to_v: &mut [f64])
 // All that a check sends, from all that came in: the least at all places, and the next at the place of the least.
 fn update_check(
     alpha: f64,
-    clip: Clip,
+    limit: f64,
     odd: bool,
     variables: &[u32],
     v_to_c: &[f64],
@@ -86,23 +85,23 @@ fn update_check(
 )
     requires { ⌜ PerEdge (length (now variables)) (now «c_to_v») (now «v_to_c») ⌝ }
     requires { ⌜ Rises (now variables) ⌝ }
-    ensures { λ _. ⌜ now («c_to_v» .exit) ≡ checkMessages alpha clip odd (now (variables .entry)) (now («v_to_c» .entry)) ⌝ }
+    ensures { λ _. ⌜ now («c_to_v» .exit) ≡ checkMessages alpha (On limit) odd (now (variables .entry)) (now («v_to_c» .entry)) ⌝ }
 {
     let s = scan_check(odd, v_to_c);
-    let minus = sent(alpha, clip, s.total_sign, -1.0, s.min1);
-    let plus = sent(alpha, clip, s.total_sign, 1.0, s.min1);
+    let minus = sent(alpha, limit, s.total_sign, -1.0, s.min1);
+    let plus = sent(alpha, limit, s.total_sign, 1.0, s.min1);
     send(minus, plus, v_to_c, c_to_v);
     let least = s.least;
     if least < v_to_c.len() {
         let sign = numbers::message_sign(v_to_c[least]);
-        c_to_v[least] = sent(alpha, clip, s.total_sign, sign, s.min2);
+        c_to_v[least] = sent(alpha, limit, s.total_sign, sign, s.min2);
     }
 }
 
 // `update_check` for the check whose entries lie from `start` to `end`.
 pub(crate) fn update_part(
     alpha: f64,
-    clip: Clip,
+    limit: f64,
     odd: bool,
     start: usize,
     end: usize,
@@ -116,11 +115,11 @@ pub(crate) fn update_part(
     ensures { λ _. ⌜
         now («c_to_v» .exit)
         ≡ spliced (now («c_to_v» .entry)) start end
-        (checkMessages alpha clip odd (part start end (now («check_var» .entry))) (part start end (now («v_to_c» .entry)))) ⌝ }
+        (checkMessages alpha (On limit) odd (part start end (now («check_var» .entry))) (part start end (now («v_to_c» .entry)))) ⌝ }
 {
     update_check(
         alpha,
-        clip,
+        limit,
         odd,
         &check_var[start..end],
         &v_to_c[start..end],

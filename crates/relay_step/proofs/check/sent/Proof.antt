@@ -6,11 +6,11 @@ use Rattle.relay_step.proofs.check.sent.Tie as tie
 saturated-requires : tie.Need-saturated-requires
 saturated-requires c κs = search needs
 
-clipped-requires : tie.Need-clipped-requires
-clipped-requires c κs = search needs
+clamped-requires : tie.Need-clamped-requires
+clamped-requires c κs = search needs
 
 returns : tie.Need-returns
-returns c = rw (c .clipped .ensures, c .before .saturated .ensures)
+returns c = rw (c .clamped .ensures, c .before .saturated .ensures)
 
 pub sent-spec : {M : Type 1} → statement M
-sent-spec = tie.close (tie.spec saturated-requires clipped-requires returns)
+sent-spec = tie.close (tie.spec saturated-requires clamped-requires returns)

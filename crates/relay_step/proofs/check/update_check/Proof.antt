@@ -1,6 +1,7 @@
 -- `relay_step::check::update_check` meets its contract: what is sent at all places but the one of the least is right, and that one is put right. Assumes nothing.
 use mathlib.Core.Path.{_∙_}
 use lib.Ieee.{neg, ofBits}
+use Rattle.relay_step.specs.Step.{clipped}
 use Rattle.relay_step.proofs.Sends.{sends-next, sends-least}
 use borrow.Author.Needs.{needs}
 use Rattle.relay_step.proofs.check.update_check.Statement.{statement}
@@ -40,7 +41,7 @@ same-length : tie.Need-same-length
 same-length c = search needs
 
 returns : tie.Need-returns
-unfolding neg ofBits
+unfolding neg ofBits clipped
 returns c = sends-next _ _ _ _ _ _ _ _ _ _ _ _ (c .before .before .before .before .before .before .before .before .before .before .before .before .before .before
     .pre .1) (c .before .before .before .before .before .before .before .before .before .before .before .before .before .before .pre .0 .to-checks)
     (c .before .before .before .before .before .before .before .before .before .before .scan-check .ensures)
@@ -52,7 +53,7 @@ same-length-2 : tie.Need-same-length-2
 same-length-2 c = search needs
 
 returns-2 : tie.Need-returns-2
-unfolding neg ofBits
+unfolding neg ofBits clipped
 returns-2 c = sends-least _ _ _ _ _ _ _ _ _ _ _ _ (c .before .before .before .before .before .before .before .before .before .before .before .pre .1)
     (c .before .before .before .before .before .before .before .before .before .before .before .pre .0 .to-checks)
     (c .before .before .before .before .before .before .before .scan-check .ensures)

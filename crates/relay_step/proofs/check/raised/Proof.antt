@@ -1,0 +1,12 @@
+-- `relay_step::check::raised` meets its contract: each arm is one case of the comparison. Assumes nothing.
+use Rattle.relay_step.proofs.check.raised.Statement.{statement}
+use Rattle.relay_step.proofs.check.raised.Tie as tie
+
+returns : tie.Need-returns
+returns c = rw (c .if1 .taken)
+
+returns-2 : tie.Need-returns-2
+returns-2 c = rw (c .if1 .left)
+
+pub raised-spec : {M : Type 1} → statement M
+raised-spec = tie.close (tie.spec returns returns-2)
