@@ -6,4 +6,5 @@ pub mod Parity
 pub mod Executed
 pub mod Best
 pub mod Written
+pub mod Clipped
 pub mod Theorems
