@@ -1,16 +1,19 @@
 -- With a clip that is on: what the check messages of a leg are like, and what keeps a decode from refusal 30. Posteriors start at priors, which are within 30, and an
 -- iteration adds at most 60 + d * c to their size (`relay_step` `Bounds`) where gammas are within 1, the clip is within c, and a mechanism has at most d edges.
 -- Assumes nothing.
-use Prim.Native.Nat.{ℕ, zero, suc, _+_, _*_, _^_, _<_, _≤_}
+use Prim.Native.Nat.{ℕ, zero, suc, _+_, _-_, _*_, _%_, _^_, _<_, _≤_}
 use mathlib.Core.Path.{_≡_, refl, sym, ap, _∙_, subst}
-use mathlib.Core.Bool.{Bool, true, false}
+use mathlib.Core.Bool.{Bool, true, false, _&&_}
 use mathlib.Core.List.{List}
 use mathlib.Core.Option.{Option, none, some}
 use native.Mathlib.Nat.{mul-le-mul}
 use native.Mathlib.Omega.{arith}
-use lib.Ieee.{Float, nan, binary64, fits}
-use lib.ListN.{length, getD}
+use lib.Ieee.{Float, nan, binary64, le, fits}
+use lib.ListN.{length, getD, getD-replicate}
+use Rattle.numbers.specs.Floats.{_-ᶠ_, isFinite}
 use Rattle.numbers.specs.Loops.{row}
+use Rattle.numbers.proofs.Cases.{and-both}
+use Rattle.numbers.proofs.Loops.{getD-part}
 use Rattle.numbers.proofs.Sizes.{Within}
 use Rattle.refusals.specs.declared.Answer.{Answer}
 use Rattle.refusals.specs.declared.Answer.the-variants.{Done}
@@ -27,10 +30,13 @@ use Rattle.graph_lists.proofs.Sameness.{is-graph-told}
 use Rattle.graph_lists.proofs.Sound.{Sound, passes-sound}
 use Rattle.relay_settings.specs.declared.Clip.{Clip}
 use Rattle.relay_settings.specs.declared.Clip.the-variants.{On}
+use Rattle.relay_settings.specs.declared.GammaSource.{GammaSource}
+use Rattle.relay_settings.specs.declared.GammaSource.the-variants.{Explicit, Seeded}
 use Rattle.relay_settings.specs.declared.Settings.{Settings}
-use Rattle.relay_settings.specs.Settings.{clipGood, alphaGood, settingsFault}
+use Rattle.relay_settings.specs.Settings.{clipGood, alphaGood, intervalGood, settingsFault}
 use Rattle.relay_settings.proofs.Told.{settings-told}
-use Rattle.relay_gammas.specs.Gammas.{gammaOf}
+use Rattle.relay_gammas.specs.Gammas.{legSeed, relayGamma, gammaOf}
+use Rattle.relay_gammas.proofs.Draws.{set-within}
 use Rattle.relay_step.specs.Step.{iteration}
 use Rattle.relay_step.specs.Leg.{Leg, startLeg, runLeg, satisfied}
 use Rattle.relay_step.proofs.Tame.{Tame, left-tame}
@@ -41,6 +47,7 @@ use Rattle.relay_calls.specs.Decode.{Shot, iterationLimit, stepOf, executedLeg,
 use Rattle.relay_calls.specs.Decode.{decodeLegs, decodeStores}
 use Rattle.relay_calls.specs.Calls.{DecodeLists, decodeFault, answered, afterLegs, afterDecodeTests, decodeInOrder, summaryOf}
 use Rattle.relay_calls.proofs.Calls.{legs-over}
+use Rattle.relay_laws.proofs.Drawn.{drawn-within}
 
 -- ---- legs that end with a run
 
@@ -159,12 +166,54 @@ degree-few g is v h =
     let rising = few (λ c. true) (g .checks) (row (g .varOffset) v (g .varCheck)) (passes .var-rises v h) (λ q k. refl) in
     omega (arith, lengths-agree edges g long passes v h, rising, length-below (λ c. true) (g .checks))
 
--- ---- a decode
+-- ---- gammas
 
 -- every gamma that a leg of the shot may use is within k
 abbrev pub GammasWithin : Shot → ℕ → Type 0
 GammasWithin x k =
     (r v : ℕ) → r ≤ x .settings .«num_legs» → v < x .graph .mechanisms → Within (getD (gammaOf (x .settings) (x .gammas) (x .graph .mechanisms) (x .seed) r) v nan) k
+
+-- what a source draws from is within 1: the ends of its interval, or each gamma of the flat list
+abbrev pub SourceWithin : GammaSource → Float → Float → List Float → Type 0
+SourceWithin Seeded least most flat = Within least 1 × Within most 1
+SourceWithin (Explicit sets) least most flat = (i : ℕ) → i < length flat → Within (getD flat i nan) 1
+
+-- an interval that passes 15 rises
+interval-rises : (least most : Float) → intervalGood least most ≡ true → le least most ≡ true
+unfolding intervalGood
+interval-rises least most h =
+    let spans = isFinite (most -ᶠ least) && le least most in
+    and-both (isFinite (most -ᶠ least)) (le least most) (and-both (isFinite most) spans (and-both (isFinite least) (isFinite most && spans) h .1) .1) .1
+
+-- as the settings' does
+interval-told : (t : Settings) (m : ℕ) (flat : List Float) → settingsFault t m flat ≡ Done → le (t .«gamma_low») (t .«gamma_high») ≡ true
+unfolding settingsFault
+interval-told t m flat h =
+    let a = or-done _ _ (or-done _ _ (or-done _ _ (or-done _ _ (or-done _ _ (or-done _ _ (or-done _ _ h .1) .1) .1) .1) .1) .1) in
+    interval-rises (t .«gamma_low») (t .«gamma_high») (unless-done _ _ (a .0))
+
+-- so where gamma0 and the source are within 1, every gamma is
+pub gammas-within : (x : Shot) → settingsFault (x .settings) (x .graph .mechanisms) (x .gammas) ≡ Done → Within (x .settings .gamma0) 1
+    → SourceWithin (x .settings .«gamma_source») (x .settings .«gamma_low») (x .settings .«gamma_high») (x .gammas) → GammasWithin x 1
+unfolding gammaOf relayGamma
+gammas-within x told first source zero v h k = rw (getD-replicate (x .graph .mechanisms) v (x .settings .gamma0) nan k) first
+gammas-within x told first source (suc r) v h k = go (x .settings .«gamma_source») refl source
+  where
+    t : Settings
+    t = x .settings
+    m : ℕ
+    m = x .graph .mechanisms
+
+    go : (s : GammaSource) → t .«gamma_source» ≡ s → SourceWithin s (t .«gamma_low») (t .«gamma_high») (x .gammas)
+        → Within (getD (relayGamma s (t .«gamma_low») (t .«gamma_high») (x .gammas) m (x .seed) (suc r)) v nan) 1
+    go Seeded e w = drawn-within (t .«gamma_low») (t .«gamma_high») (w .0) (w .1) (interval-told t m (x .gammas) told) (legSeed (x .seed) (suc r)) m v k
+    go (Explicit sets) e w =
+        let n = (suc r - 1) % sets in
+        let many = settings-told t m (x .gammas) told .sets-many (omega arith) sets e in
+        rw (getD-part (n * m) (n * m + m) (x .gammas) v nan (omega arith))
+        (w (n * m + v) (omega (arith, set-within n (suc r - 1) sets m (length (x .gammas)) refl (many .0) (many .1))))
+
+-- ---- a decode
 
 module _ (edges : ℕ) (x : Shot) (l : DecodeLists) (passed : decodeFault edges x l ≡ Done) (limit : Float) (on : x .settings .clip ≡ On limit)
     (fit : fits binary64 (x .settings .alpha) ≡ true) (gammas : GammasWithin x 1) where
