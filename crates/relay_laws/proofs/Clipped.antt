@@ -201,6 +201,7 @@ gammas-within x told first source (suc r) v h k = go (x .settings .«gamma_sourc
   where
     t : Settings
     t = x .settings
+
     m : ℕ
     m = x .graph .mechanisms
 
@@ -215,39 +216,39 @@ gammas-within x told first source (suc r) v h k = go (x .settings .«gamma_sourc
 
 -- ---- a decode
 
-module _ (edges : ℕ) (x : Shot) (l : DecodeLists) (passed : decodeFault edges x l ≡ Done) (limit : Float) (on : x .settings .clip ≡ On limit)
-    (fit : fits binary64 (x .settings .alpha) ≡ true) (gammas : GammasWithin x 1) where
+module _ (edges : ℕ) (x : Shot) (l : DecodeLists) (passed : decodeFault edges x l ≡ Done) where
   -- what its tests tell of the model
   model : GraphTold edges (x .prior) (x .graph)
   unfolding decodeFault
   model = graph-told edges (x .prior) (x .graph) (or-done _ _ passed .0)
 
   -- and of the settings
-  settled : settingsFault (x .settings) (x .graph .mechanisms) (x .gammas) ≡ Done
+  pub settled : settingsFault (x .settings) (x .graph .mechanisms) (x .gammas) ≡ Done
   unfolding decodeFault
   settled = or-done _ _ (or-done _ _ passed .1) .0
 
-  -- it is not refused where 30 + iterations * (60 + degree * clip) is below 2 ^ 53
-  pub bounded-answered : (c d : ℕ) → Within limit c → ((v : ℕ) → v < x .graph .mechanisms → length (varEntries (x .graph) v) ≤ d)
-      → 30 + mostIterations (x .settings) * (60 + d * c) < 2 ^ 53 → summaryOf (decodeInOrder edges x l .answer) .refusal ≡ Done
-  unfolding decodeInOrder
-  bounded-answered c d clip degrees room =
-      let o = afterLegs edges x (decodeLegs byPlace x) (decodeStores byPlace x) l in
-      let small : (r : ℕ) → r ≤ x .settings .«num_legs» → Small limit (x .graph) (x .prior) (gammasOf x limit on fit settled r) 30 c d =
-      λ r h.
-      record {
-        priors = λ v k. prior-within (getD (x .prior) v nan) (model .priors-good v k);
-        gammas = λ v k. gammas r v h k;
-        clip = clip;
-        degrees = degrees;
-      } in
-      ap (λ (a : Answer). summaryOf (afterDecodeTests a o l .answer) .refusal) passed
-      ∙ well-answered edges x (decodeLegs byPlace x) (decodeStores byPlace x) l
-      (decode-well x limit on fit settled (passes-sound (x .graph) (model .is-graph)) c d small room)
+  module _ (limit : Float) (on : x .settings .clip ≡ On limit) (fit : fits binary64 (x .settings .alpha) ≡ true) (gammas : GammasWithin x 1) where
+    -- it is not refused where 30 + iterations * (60 + degree * clip) is below 2 ^ 53
+    pub bounded-answered : (c d : ℕ) → Within limit c → ((v : ℕ) → v < x .graph .mechanisms → length (varEntries (x .graph) v) ≤ d)
+        → 30 + mostIterations (x .settings) * (60 + d * c) < 2 ^ 53 → summaryOf (decodeInOrder edges x l .answer) .refusal ≡ Done
+    unfolding decodeInOrder
+    bounded-answered c d clip degrees room =
+        let o = afterLegs edges x (decodeLegs byPlace x) (decodeStores byPlace x) l in
+        let small : (r : ℕ) → r ≤ x .settings .«num_legs» → Small limit (x .graph) (x .prior) (gammasOf x limit on fit settled r) 30 c d =
+        λ r h.
+        record {
+          priors = λ v k. prior-within (getD (x .prior) v nan) (model .priors-good v k);
+          gammas = λ v k. gammas r v h k;
+          clip = clip;
+          degrees = degrees;
+        } in
+        ap (λ (a : Answer). summaryOf (afterDecodeTests a o l .answer) .refusal) passed
+        ∙ well-answered edges x (decodeLegs byPlace x) (decodeStores byPlace x) l
+        (decode-well x limit on fit settled (passes-sound (x .graph) (model .is-graph)) c d small room)
 
-  -- and so, by the limits of models and settings, where the clip is within 31
-  pub always-answered : Within limit 31 → summaryOf (decodeInOrder edges x l .answer) .refusal ≡ Done
-  always-answered clip =
-      let t = settings-told (x .settings) (x .graph .mechanisms) (x .gammas) settled in
-      let most : x .settings .«num_legs» * x .settings .«leg_iterations» ≤ 65535 * 65535 = mul-le-mul (t .legs-few) (t .leg-few) in
-      bounded-answered 31 65536 clip (λ v h. omega (arith, degree-few (x .graph) (model .is-graph) v h, model .few .checks-few)) (omega (arith, most, t .pre-few))
+    -- and so, by the limits of models and settings, where the clip is within 31
+    pub always-answered : Within limit 31 → summaryOf (decodeInOrder edges x l .answer) .refusal ≡ Done
+    always-answered clip =
+        let t = settings-told (x .settings) (x .graph .mechanisms) (x .gammas) settled in
+        let most : x .settings .«num_legs» * x .settings .«leg_iterations» ≤ 65535 * 65535 = mul-le-mul (t .legs-few) (t .leg-few) in
+        bounded-answered 31 65536 clip (λ v h. omega (arith, degree-few (x .graph) (model .is-graph) v h, model .few .checks-few)) (omega (arith, most, t .pre-few))

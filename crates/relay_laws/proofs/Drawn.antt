@@ -1,18 +1,19 @@
--- Gammas that are drawn from an interval within 1 are within 1: low + (high - low) * unit, each operation rounded. The rounded span is above the span by at most half a unit of
--- its last digit, its share is no more than it, and 1 with that half unit rounds to 1, a tie to the even one. Assumes nothing.
+-- Gammas that are drawn from an interval within 1 are within 1: low + (high - low) * unit, each operation rounded. The span is at most 2, so it rounds up by at most
+-- 2 ^ -53; a share of it, from 0 to 1, rounds to no more than it; and what is at most 1 + 2 ^ -53 rounds to at most 1, a tie to the even one. Assumes nothing.
 use Prim.Native.Nat.{ℕ, zero, suc, _+_, _-_, _*_, _/_, _%_, _^_, _<_, _≤_, compare, Ordering, Ordering·lt, Ordering·eq, Ordering·gt}
 use mathlib.Core.Path.{_≡_, refl, sym, ap, _∙_, subst}
-use mathlib.Core.Bool.{Bool, true, false, not, cond, true≢false, false≢true}
-use mathlib.Core.List.{List, [], _∷_}
+use mathlib.Core.Bool.{true, false, not, true≢false}
+use mathlib.Core.List.{[], _∷_}
 use mathlib.Core.Logic.{⊎-elim}
-use native.Mathlib.Nat.{le-trans, le-of-eq, le-antisymm, lt-of-le-of-lt, mul-assoc, mul-comm, mul-le-mul, mul-le-mul-right, le-of-mul-le-mul-right, mul-le-mul-left, mul-lt-mul-of-pos-right, mul-pos, div-add-mod', mod-lt, div-lt-iff-lt-mul, div-div-eq-div-mul}
+use native.Mathlib.Nat.{le-trans, le-of-eq, le-antisymm, mul-comm, mul-le-mul-left, mul-le-mul-right, le-of-mul-le-mul-right, mul-lt-mul-of-pos-right, mul-pos}
+use native.Mathlib.Nat.{div-add-mod', mod-lt, div-lt-iff-lt-mul, div-div-eq-div-mul}
 use native.Mathlib.Omega.{arith}
 use lib.Bits.{xor-lt}
 use lib.Dec.{T, ltb, isLe, isEq, nleb→lt, eqb→eq}
 use lib.IntN.{negsuc}
 use lib.ListN.{length, getD, length-append, List·getD-append}
 use lib.Pow.{pow-add, pow-pos, pow-mono, pow-lt}
-use lib.Ieee.{Float, nan, inf, fin, Format, binary64, prec, emax, low, up, down, size, nearest, round, neg, sum, add, sub, mul, ofInt, le}
+use lib.Ieee.{Float, nan, inf, fin, Format, binary64, prec, low, up, down, nearest, round, neg, sum, add, sub, mul, ofInt, le}
 use lib.Ieee.Bits.{is-true}
 use lib.Ieee.Back.{round-whole}
 use lib.Ieee.Digits.{size-le}
@@ -26,7 +27,7 @@ use borrow.Author.Tests.{lt-ltb, le-ltb}
 use Rattle.numbers.specs.Draw.{advanced, mixedBy, mixed, unit, gamma}
 use Rattle.numbers.specs.Floats.{_+ᶠ_, _-ᶠ_, _*ᶠ_, zero⁺, one⁺}
 use Rattle.numbers.proofs.Cases.{less-or-not, last-or-before}
-use Rattle.numbers.proofs.Order.{NotAbove, le-fact}
+use Rattle.numbers.proofs.Order.{le-fact}
 use Rattle.numbers.proofs.Sizes.{Within, round-within, add-within, mul-within}
 use Rattle.relay_gammas.specs.Gammas.{drawnOn, drawn}
 
@@ -68,7 +69,8 @@ below-two f n c some h =
     let j = l + 1 - p in
     let m = n * 2 ^ l in
     let d = drop p m c in
-    let below : m / c < 2 ^ (l + 1) = div-lt-iff-lt-mul some .1 (omega (arith, mul-lt-mul-of-pos-right h (pow-pos l), pow-add 2 l 1, ap (λ (x : ℕ). x * c) (pow-add 2 l 1))) in
+    let below : m / c < 2 ^ (l + 1) =
+    div-lt-iff-lt-mul some .1 (omega (arith, mul-lt-mul-of-pos-right h (pow-pos l), pow-add 2 l 1, ap (λ (x : ℕ). x * c) (pow-add 2 l 1))) in
     let few : d ≤ j = omega (arith, size-le (m / c) (l + 1) below, last-digit f) in
     let fine : c * 2 ^ d ≤ c * 2 ^ j = mul-le-mul-left c (pow-mono few) in
     let most : 2 * (kept p m c * 2 ^ d * c) ≤ 2 * m + c * 2 ^ j = omega (arith, closest-half m (c * 2 ^ d), fine) in
@@ -115,12 +117,16 @@ module _ (f : Format) (a c : ℕ) (some : 0 < c) (inside : T (finite (round f fa
     where
       p : ℕ
       p = prec f
+
       m : ℕ
       m = n * 2 ^ low f
+
       j : ℕ
       j = drop p m d
+
       moved : (p j : ℕ) → 2 ≤ p → p - 1 + suc j ≡ p + j
       moved p j h = omega arith
+
       one-less : (p : ℕ) → 2 ≤ p → p - 1 < p
       one-less p h = omega arith
 
@@ -216,7 +222,8 @@ zero-to-one (fin false m e) h k = omega (arith, le-fact false (m * up e * 1) fal
 about-one : (n c : ℕ) → 0 < c → n * 2 ^ 53 ≤ (2 ^ 53 + 1) * c → Within (round binary64 false n c) 1
 unfolding round
 about-one n c some h =
-    zero-to-one (round binary64 false n c) (round-mono binary64 0 1 n c (omega arith) some (omega arith)) (round-mono binary64 n c (2 ^ 53 + 1) (2 ^ 53) some (omega arith) h)
+    zero-to-one (round binary64 false n c) (round-mono binary64 0 1 n c (omega arith) some (omega arith))
+    (round-mono binary64 n c (2 ^ 53 + 1) (2 ^ 53) some (omega arith) h)
 
 -- where the exact span n / c, added to lo, ends: at most at 1
 abbrev Reaches : Float → ℕ → ℕ → Type 0
@@ -368,9 +375,10 @@ module _ (lo hi : Float) (v : Within lo 1) (w : Within hi 1) (rises : le lo hi �
   drawn-within seed zero k h = absurd (omega arith)
   drawn-within seed (suc n) k h =
       let before = drawn lo hi seed n in
-      let new = gamma lo hi (mixed (advanced (before .state))) in
+      let u = mixed (advanced (before .state)) in
+      let new = gamma lo hi u in
       let many = drawn-many seed n in
       ⊎-elim
-      (λ (e : k ≡ n). rw (e ∙ sym many, getD-append-seam (before .gammas) new [] nan) (gamma-within (mixed (advanced (before .state))) (mixed-small (advanced (before .state)))))
+      (λ (e : k ≡ n). rw (e ∙ sym many, getD-append-seam (before .gammas) new [] nan) (gamma-within u (mixed-small (advanced (before .state)))))
       (λ (l : k < n). rw (List·getD-append (before .gammas) (new ∷ []) nan k (omega arith)) (drawn-within seed n k l))
       (last-or-before k n h)

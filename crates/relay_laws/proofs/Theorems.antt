@@ -27,7 +27,7 @@ use Rattle.relay_settings.specs.declared.Clip.the-variants.{Off, On}
 use Rattle.relay_settings.specs.declared.Schedule.{Schedule}
 use Rattle.relay_settings.specs.declared.Schedule.the-variants.{CheckSerial}
 use Rattle.relay_settings.specs.declared.Settings.{Settings}
-use Rattle.relay_settings.specs.Settings.{clipGood, alphaGood, settingsFault}
+use Rattle.relay_settings.specs.Settings.{published, clipGood, alphaGood, settingsFault}
 use Rattle.relay_settings.proofs.Told.{settings-told}
 use Rattle.relay_orders.specs.Order.{NamesOnce, FirstLate}
 use Rattle.relay_step.specs.Step.{State, scan, weighed, clipped, sent, checkMessages, iteration}
@@ -56,7 +56,7 @@ use Rattle.relay_laws.proofs.LegLists.{values-read, entry-over, held-al
 use Rattle.relay_laws.proofs.Executed.{holds-all}
 use Rattle.relay_laws.proofs.Best.{best-of-run}
 use Rattle.relay_laws.proofs.Written.{leg-state, fault-when}
-use Rattle.relay_laws.proofs.Clipped.{GammasWithin, executed-tame, bounded-answered, always-answered}
+use Rattle.relay_laws.proofs.Clipped.{SourceWithin, GammasWithin, gammas-within, executed-tame, settled, bounded-answered, always-answered}
 
 -- ---- demand 3 of the call
 
@@ -272,8 +272,8 @@ module _ (limit : Float) (good : clipGood (On limit) ≡ true) where
   pub clipped-nan : clipped (On limit) nan ≡ nan
   clipped-nan = nan-stays (On limit)
 
--- "With a clip, no check message is infinite": where 9 and 10 are passed and alpha is a binary64, one iteration in any order leaves all check messages finite and not beyond
--- the clip, if they were so before it, whatever the other messages and the posterior are
+-- "With a clip, no check message is infinite": where 9 and 10 are passed and alpha is a binary64, one iteration in any order leaves all check messages finite and not
+-- beyond the clip, if they were so before it, whatever the other messages and the posterior are
 pub iteration-clipped : (schedule : Schedule) (g : Graph) (alpha limit : Float) (syndrome : List ℕ) (prior gamma : List Float) (order : List ℕ) (s : State)
     → clipGood (On limit) ≡ true → alphaGood alpha ≡ true → fits binary64 alpha ≡ true → Tame limit (s .cToV)
     → Tame limit (iteration schedule byPlace g alpha (On limit) syndrome prior gamma order s .cToV)
@@ -287,26 +287,45 @@ leg-clipped x limit told on fit = executed-tame x limit on fit told
 
 -- ---- what refusal 30 can come from with a clip
 
-module _ (edges : ℕ) (x : Shot) (l : DecodeLists) (limit : Float) (on : x .settings .clip ≡ On limit) (fit : fits binary64 (x .settings .alpha) ≡ true)
-    (gammas : GammasWithin x 1) where
+-- every gamma that a leg may use is within 1 where gamma0 is, and the ends of a seeded source's interval, or each gamma of an explicit one: so are drawn ones, each of whose
+-- operations rounds
+pub gammas-by-settings : (x : Shot) → settingsFault (x .settings) (x .graph .mechanisms) (x .gammas) ≡ Done → Within (x .settings .gamma0) 1
+    → SourceWithin (x .settings .«gamma_source») (x .settings .«gamma_low») (x .settings .«gamma_high») (x .gammas) → GammasWithin x 1
+gammas-by-settings = gammas-within
+
+-- as those of the published operating point are
+pub published-within : (flat : List Float)
+    → Within (published .gamma0) 1 × SourceWithin (published .«gamma_source») (published .«gamma_low») (published .«gamma_high») flat
+unfolding lib.Ieee.ofBits
+published-within flat = (omega arith, (omega arith, omega arith))
+
+module _ (edges : ℕ) (x : Shot) (l : DecodeLists) (limit : Float) (on : x .settings .clip ≡ On limit) (fit : fits binary64 (x .settings .alpha) ≡ true) where
   -- A posterior starts at its prior, which is within 30, and where gammas are within 1 an iteration adds at most 60 + degree * clip to its size. So a decode that passes
   -- its tests, with a clip within c and degrees of at most d, is not refused while 30 + (pre + legs * leg iterations) * (60 + d * c) is below 2^53
-  pub clip-keeps-from-30 : decodeFault edges x l ≡ Done → (c d : ℕ) → Within limit c → ((v : ℕ) → v < x .graph .mechanisms → length (varEntries (x .graph) v) ≤ d)
-      → 30 + mostIterations (x .settings) * (60 + d * c) < 2 ^ 53 → summaryOf (decodeInOrder edges x l .answer) .refusal ≡ Done
-  clip-keeps-from-30 passed = bounded-answered edges x l passed limit on fit gammas
+  pub clip-keeps-from-30 : decodeFault edges x l ≡ Done → GammasWithin x 1 → (c d : ℕ) → Within limit c
+      → ((v : ℕ) → v < x .graph .mechanisms → length (varEntries (x .graph) v) ≤ d) → 30 + mostIterations (x .settings) * (60 + d * c) < 2 ^ 53
+      → summaryOf (decodeInOrder edges x l .answer) .refusal ≡ Done
+  clip-keeps-from-30 passed = bounded-answered edges x l passed limit on fit
 
-  -- by the limits of models and settings it always is with a clip of at most 31: so with a clip, 30 comes from a gamma beyond 1 or a clip beyond 31 alone
-  pub clip-31-keeps-from-30 : decodeFault edges x l ≡ Done → Within limit 31 → summaryOf (decodeInOrder edges x l .answer) .refusal ≡ Done
-  clip-31-keeps-from-30 passed = always-answered edges x l passed limit on fit gammas
+  -- by the limits of models and settings that always is so with a clip of at most 31: so with a clip, 30 comes from a gamma beyond 1 or a clip beyond 31 alone
+  pub clip-31-keeps-from-30 : decodeFault edges x l ≡ Done → GammasWithin x 1 → Within limit 31 → summaryOf (decodeInOrder edges x l .answer) .refusal ≡ Done
+  clip-31-keeps-from-30 passed = always-answered edges x l passed limit on fit
 
   -- and so of `decode`, which passes its tests where the index order does
-  pub decode-clip-keeps-from-30 : decodeFault edges (withOrder x (upto (x .graph .checks))) l ≡ Done → (c d : ℕ) → Within limit c
+  pub decode-clip-keeps-from-30 : decodeFault edges (withOrder x (upto (x .graph .checks))) l ≡ Done → GammasWithin x 1 → (c d : ℕ) → Within limit c
       → ((v : ℕ) → v < x .graph .mechanisms → length (varEntries (x .graph) v) ≤ d) → 30 + mostIterations (x .settings) * (60 + d * c) < 2 ^ 53
       → summaryOf (decode edges x l .answer) .refusal ≡ Done
   unfolding decode
-  decode-clip-keeps-from-30 passed = bounded-answered edges (withOrder x (upto (x .graph .checks))) l passed limit on fit gammas
+  decode-clip-keeps-from-30 passed = bounded-answered edges (withOrder x (upto (x .graph .checks))) l passed limit on fit
 
   -- with a clip of at most 31
-  pub decode-clip-31-keeps-from-30 : decodeFault edges (withOrder x (upto (x .graph .checks))) l ≡ Done → Within limit 31 → summaryOf (decode edges x l .answer) .refusal ≡ Done
+  pub decode-clip-31-keeps-from-30 : decodeFault edges (withOrder x (upto (x .graph .checks))) l ≡ Done → GammasWithin x 1 → Within limit 31
+      → summaryOf (decode edges x l .answer) .refusal ≡ Done
   unfolding decode
-  decode-clip-31-keeps-from-30 passed = always-answered edges (withOrder x (upto (x .graph .checks))) l passed limit on fit gammas
+  decode-clip-31-keeps-from-30 passed = always-answered edges (withOrder x (upto (x .graph .checks))) l passed limit on fit
+
+  -- which is read off the settings: gamma0 and the source within 1, and the clip within 31
+  pub settings-keep-from-30 : decodeFault edges x l ≡ Done → Within limit 31 → Within (x .settings .gamma0) 1
+      → SourceWithin (x .settings .«gamma_source») (x .settings .«gamma_low») (x .settings .«gamma_high») (x .gammas)
+      → summaryOf (decodeInOrder edges x l .answer) .refusal ≡ Done
+  settings-keep-from-30 passed clip first source = always-answered edges x l passed limit on fit (gammas-within x (settled edges x l passed) first source) clip
