@@ -329,3 +329,12 @@ module _ (edges : ℕ) (x : Shot) (l : DecodeLists) (limit : Float) (on : x .set
       → SourceWithin (x .settings .«gamma_source») (x .settings .«gamma_low») (x .settings .«gamma_high») (x .gammas)
       → summaryOf (decodeInOrder edges x l .answer) .refusal ≡ Done
   settings-keep-from-30 passed clip first source = always-answered edges x l passed limit on fit (gammas-within x (settled edges x l passed) first source) clip
+
+  -- and so of `decode`
+  pub decode-settings-keep-from-30 : decodeFault edges (withOrder x (upto (x .graph .checks))) l ≡ Done → Within limit 31 → Within (x .settings .gamma0) 1
+      → SourceWithin (x .settings .«gamma_source») (x .settings .«gamma_low») (x .settings .«gamma_high») (x .gammas)
+      → summaryOf (decode edges x l .answer) .refusal ≡ Done
+  unfolding decode
+  decode-settings-keep-from-30 passed clip first source =
+      let y = withOrder x (upto (x .graph .checks)) in
+      always-answered edges y l passed limit on fit (gammas-within y (settled edges y l passed) first source) clip
