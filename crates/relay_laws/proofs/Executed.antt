@@ -99,7 +99,7 @@ module _ (x : Shot) (few : x .graph .mechanisms ≤ 65536) (many : length (x .pr
         once = once .1;
         tested = once .0;
         long =
-            leg-keeps (stepOf byPlace x r) (satisfied (x .graph) (x .syndrome)) (iteration-keeps (x .settings .schedule) byPlace _ _ _ _ _ _)
+            leg-keeps (stepOf byPlace x r) (satisfied (x .graph) (x .syndrome)) (iteration-keeps (x .settings .schedule) byPlace _ _ _ _ _ _ _)
             (iterationLimit (x .settings) r) false 0 (startLeg (x .graph) (x .prior) posterior) ∙ e;
         finite = weight-finite (x .prior) (hardDecision (l .left .posterior)) (x .graph .mechanisms) good (hard-bits (l .left .posterior)) few;
       }

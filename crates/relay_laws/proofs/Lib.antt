@@ -6,4 +6,6 @@ pub mod Parity
 pub mod Executed
 pub mod Best
 pub mod Written
+pub mod Drawn
+pub mod Clipped
 pub mod Theorems

@@ -1,33 +1,39 @@
 -- What a reader may rely on of Relay's calls, beside the theorems of `relay`: demand 3 of the call itself, what the leg lists of a decode say, that its answer is the best
--- of the legs that they tell, and how many messages it wrote. Assumes nothing.
-use Prim.Native.Nat.{ℕ, zero, suc, _+_, _<_, _≤_}
+-- of the legs that they tell, how many messages it wrote, what a clip makes of messages, and what refusal 30 can come from with one. Assumes nothing.
+use Prim.Native.Nat.{ℕ, zero, suc, _+_, _*_, _^_, _<_, _≤_}
 use mathlib.Core.Path.{_≡_, sym, ap, _∙_, subst}
-use mathlib.Core.Bool.{true}
+use mathlib.Core.Bool.{Bool, true, false, cond}
 use mathlib.Core.List.{List}
 use mathlib.Core.Logic.{_↔_, ⊎-elim}
 use mathlib.Core.Option.{some}
 use native.Mathlib.Omega.{arith}
-use lib.Ieee.{Float, eq}
-use lib.ListN.{length}
-use Rattle.graph_lists.specs.Messages.{byPlace}
-use Rattle.numbers.specs.Loops.{upto}
+use lib.Ieee.{Float, nan, inf, binary64, lt, eq, neg, fits}
+use lib.ListN.{length, getD}
+use Rattle.graph_lists.specs.Messages.{byPlace, Scan}
+use Rattle.numbers.specs.Floats.{zero⁺, abs, isNegative}
+use Rattle.numbers.specs.Loops.{upto, table}
 use Rattle.numbers.proofs.Cases.{less-or-not}
 use Rattle.numbers.proofs.Order.{eq-le, lt-not-le}
+use Rattle.numbers.proofs.Sizes.{Within}
 use Rattle.refusals.specs.declared.Refusal.the-variants.{OrderExchanged, TooManyStores}
 use Rattle.refusals.specs.declared.Answer.the-variants.{Done, Refused}
 use Rattle.refusals.proofs.Tests.{or-done}
-use Rattle.graph_lists.specs.Graph.{Graph}
+use Rattle.graph_lists.specs.Graph.{Graph, varEntries}
 use Rattle.graph_lists.specs.Model.{isGraph}
 use Rattle.graph_lists.proofs.GraphTests.{graph-told}
 use Rattle.graph_lists.proofs.Sound.{passes-sound}
 use Rattle.relay_settings.specs.declared.Clip.{Clip}
+use Rattle.relay_settings.specs.declared.Clip.the-variants.{Off, On}
 use Rattle.relay_settings.specs.declared.Schedule.{Schedule}
 use Rattle.relay_settings.specs.declared.Schedule.the-variants.{CheckSerial}
 use Rattle.relay_settings.specs.declared.Settings.{Settings}
+use Rattle.relay_settings.specs.Settings.{published, clipGood, alphaGood, settingsFault}
 use Rattle.relay_settings.proofs.Told.{settings-told}
 use Rattle.relay_orders.specs.Order.{NamesOnce, FirstLate}
-use Rattle.relay_step.specs.Step.{iteration}
+use Rattle.relay_step.specs.Step.{State, scan, weighed, clipped, sent, checkMessages, iteration}
 use Rattle.relay_step.specs.Leg.{correctionWeight}
+use Rattle.relay_step.proofs.Clips.{clip-off-sent, clip-off-messages, never-beyond, keeps-sign, keeps-below, within-stays, beyond-is-clip, infinite-is-clip, nan-stays}
+use Rattle.relay_step.proofs.Tame.{Tame, iteration-tame}
 use Rattle.relay_stores.specs.Stores.{Counted, countedIteration, storesEach, storesAt, mostIterations, maxStores, storesFault}
 use Rattle.relay_stores.proofs.Counting.{counted-state}
 use Rattle.relay_stores.proofs.EachIteration.{by-place-full, iteration-stores}
@@ -50,6 +56,7 @@ use Rattle.relay_laws.proofs.LegLists.{values-read, entry-over, held-al
 use Rattle.relay_laws.proofs.Executed.{holds-all}
 use Rattle.relay_laws.proofs.Best.{best-of-run}
 use Rattle.relay_laws.proofs.Written.{leg-state, fault-when}
+use Rattle.relay_laws.proofs.Clipped.{SourceWithin, GammasWithin, gammas-within, executed-tame, settled, bounded-answered, always-answered}
 
 -- ---- demand 3 of the call
 
@@ -222,3 +229,112 @@ decode-stores-by-formula edges x l = stores-by-formula edges (withOrder x (upto 
 -- "29, exactly when the formula at pre plus legs times leg iterations passes 2^64 - 1"
 pub stores-refused : (t : Settings) (g : Graph) → (storesFault t g ≡ Refused TooManyStores) ↔ (maxStores < storesAt (t .schedule) g (mostIterations t))
 stores-refused = fault-when
+
+-- ---- the clip
+
+-- "off is the update without a clip, for every message": what is sent to a variable is (alpha times sign) times minimum
+pub off-is-without : (alpha : Float) (s : Scan) (variable : ℕ) (message : Float) → sent alpha Off s variable message ≡ weighed alpha s variable message
+off-is-without = clip-off-sent
+
+-- and so is all that a check sends
+pub off-sends-without : (alpha : Float) (odd : Bool) (variables : List ℕ) (messages : List Float)
+    → checkMessages alpha Off odd variables messages
+    ≡ table (length messages) (λ i. weighed alpha (scan odd variables messages (length messages)) (getD variables i 0) (getD messages i nan))
+off-sends-without = clip-off-messages
+
+-- of a clip that passes 9, and every message
+module _ (limit : Float) (good : clipGood (On limit) ≡ true) where
+  -- "A clipped message is never beyond the clip"
+  pub clipped-within : (message : Float) → lt limit (abs (clipped (On limit) message)) ≡ false
+  clipped-within = never-beyond limit good
+
+  -- "and has the sign that it had": its sign bit, that of a zero too
+  pub clipped-sign : (message : Float) → isNegative (clipped (On limit) message) ≡ isNegative message
+  clipped-sign = keeps-sign (On limit) good
+
+  -- and it is below zero where it was
+  pub clipped-below : (message : Float) → lt (clipped (On limit) message) zero⁺ ≡ lt message zero⁺
+  clipped-below = keeps-below (On limit) good
+
+  -- one that is not beyond the clip stays as it was
+  pub clipped-stays : (message : Float) → lt limit (abs message) ≡ false → clipped (On limit) message ≡ message
+  clipped-stays = within-stays limit
+
+  -- one that is has the size of the clip
+  pub clipped-beyond : (message : Float) → lt limit (abs message) ≡ true → abs (clipped (On limit) message) ≡ limit
+  clipped-beyond = beyond-is-clip limit good
+
+  -- an infinite one becomes the clip with its sign
+  pub clipped-infinite : (minus : Bool) → clipped (On limit) (inf minus) ≡ cond minus (neg limit) limit
+  clipped-infinite = infinite-is-clip limit good
+
+  -- and a NaN stays one
+  pub clipped-nan : clipped (On limit) nan ≡ nan
+  clipped-nan = nan-stays (On limit)
+
+-- "With a clip, no check message is infinite": where 9 and 10 are passed and alpha is a binary64, one iteration in any order leaves all check messages finite and not
+-- beyond the clip, if they were so before it, whatever the other messages and the posterior are
+pub iteration-clipped : (schedule : Schedule) (g : Graph) (alpha limit : Float) (syndrome : List ℕ) (prior gamma : List Float) (order : List ℕ) (s : State)
+    → clipGood (On limit) ≡ true → alphaGood alpha ≡ true → fits binary64 alpha ≡ true → Tame limit (s .cToV)
+    → Tame limit (iteration schedule byPlace g alpha (On limit) syndrome prior gamma order s .cToV)
+iteration-clipped schedule g alpha limit syndrome prior gamma order s good able fit =
+    iteration-tame alpha limit able fit good g syndrome schedule prior gamma order s
+
+-- and so does a leg of a decode, from its start, where they are 0, whatever posterior it is handed
+pub leg-clipped : (x : Shot) (limit : Float) → settingsFault (x .settings) (x .graph .mechanisms) (x .gammas) ≡ Done → x .settings .clip ≡ On limit
+    → fits binary64 (x .settings .alpha) ≡ true → (r : ℕ) (posterior : List Float) → Tame limit (executedLeg byPlace x r posterior .left .cToV)
+leg-clipped x limit told on fit = executed-tame x limit on fit told
+
+-- ---- what refusal 30 can come from with a clip
+
+-- every gamma that a leg may use is within 1 where gamma0 is, and the ends of a seeded source's interval, or each gamma of an explicit one: so are drawn ones, each of whose
+-- operations rounds
+pub gammas-by-settings : (x : Shot) → settingsFault (x .settings) (x .graph .mechanisms) (x .gammas) ≡ Done → Within (x .settings .gamma0) 1
+    → SourceWithin (x .settings .«gamma_source») (x .settings .«gamma_low») (x .settings .«gamma_high») (x .gammas) → GammasWithin x 1
+gammas-by-settings = gammas-within
+
+-- as those of the published operating point are
+pub published-within : (flat : List Float)
+    → Within (published .gamma0) 1 × SourceWithin (published .«gamma_source») (published .«gamma_low») (published .«gamma_high») flat
+unfolding lib.Ieee.ofBits
+published-within flat = (omega arith, (omega arith, omega arith))
+
+module _ (edges : ℕ) (x : Shot) (l : DecodeLists) (limit : Float) (on : x .settings .clip ≡ On limit) (fit : fits binary64 (x .settings .alpha) ≡ true) where
+  -- A posterior starts at its prior, which is within 30, and where gammas are within 1 an iteration adds at most 60 + degree * clip to its size. So a decode that passes
+  -- its tests, with a clip within c and degrees of at most d, is not refused while 30 + (pre + legs * leg iterations) * (60 + d * c) is below 2^53
+  pub clip-keeps-from-30 : decodeFault edges x l ≡ Done → GammasWithin x 1 → (c d : ℕ) → Within limit c
+      → ((v : ℕ) → v < x .graph .mechanisms → length (varEntries (x .graph) v) ≤ d) → 30 + mostIterations (x .settings) * (60 + d * c) < 2 ^ 53
+      → summaryOf (decodeInOrder edges x l .answer) .refusal ≡ Done
+  clip-keeps-from-30 passed = bounded-answered edges x l passed limit on fit
+
+  -- by the limits of models and settings that always is so with a clip of at most 31: so with a clip, 30 comes from a gamma beyond 1 or a clip beyond 31 alone
+  pub clip-31-keeps-from-30 : decodeFault edges x l ≡ Done → GammasWithin x 1 → Within limit 31 → summaryOf (decodeInOrder edges x l .answer) .refusal ≡ Done
+  clip-31-keeps-from-30 passed = always-answered edges x l passed limit on fit
+
+  -- and so of `decode`, which passes its tests where the index order does
+  pub decode-clip-keeps-from-30 : decodeFault edges (withOrder x (upto (x .graph .checks))) l ≡ Done → GammasWithin x 1 → (c d : ℕ) → Within limit c
+      → ((v : ℕ) → v < x .graph .mechanisms → length (varEntries (x .graph) v) ≤ d) → 30 + mostIterations (x .settings) * (60 + d * c) < 2 ^ 53
+      → summaryOf (decode edges x l .answer) .refusal ≡ Done
+  unfolding decode
+  decode-clip-keeps-from-30 passed = bounded-answered edges (withOrder x (upto (x .graph .checks))) l passed limit on fit
+
+  -- with a clip of at most 31
+  pub decode-clip-31-keeps-from-30 : decodeFault edges (withOrder x (upto (x .graph .checks))) l ≡ Done → GammasWithin x 1 → Within limit 31
+      → summaryOf (decode edges x l .answer) .refusal ≡ Done
+  unfolding decode
+  decode-clip-31-keeps-from-30 passed = always-answered edges (withOrder x (upto (x .graph .checks))) l passed limit on fit
+
+  -- which is read off the settings: gamma0 and the source within 1, and the clip within 31
+  pub settings-keep-from-30 : decodeFault edges x l ≡ Done → Within limit 31 → Within (x .settings .gamma0) 1
+      → SourceWithin (x .settings .«gamma_source») (x .settings .«gamma_low») (x .settings .«gamma_high») (x .gammas)
+      → summaryOf (decodeInOrder edges x l .answer) .refusal ≡ Done
+  settings-keep-from-30 passed clip first source = always-answered edges x l passed limit on fit (gammas-within x (settled edges x l passed) first source) clip
+
+  -- and so of `decode`
+  pub decode-settings-keep-from-30 : decodeFault edges (withOrder x (upto (x .graph .checks))) l ≡ Done → Within limit 31 → Within (x .settings .gamma0) 1
+      → SourceWithin (x .settings .«gamma_source») (x .settings .«gamma_low») (x .settings .«gamma_high») (x .gammas)
+      → summaryOf (decode edges x l .answer) .refusal ≡ Done
+  unfolding decode
+  decode-settings-keep-from-30 passed clip first source =
+      let y = withOrder x (upto (x .graph .checks)) in
+      always-answered edges y l passed limit on fit (gammas-within y (settled edges y l passed) first source) clip

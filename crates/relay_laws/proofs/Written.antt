@@ -63,7 +63,7 @@ leg-state x r posterior =
   where
     go : (n : ℕ) → countedLeg byPlace x r posterior n .now ≡ steps (stepOf byPlace x r) n (startLeg (x .graph) (x .prior) posterior)
     go zero = refl
-    go (suc n) = counted-state (x .settings .schedule) byPlace (x .graph) _ _ _ _ _ (countedLeg byPlace x r posterior n) ∙ ap (stepOf byPlace x r) (go n)
+    go (suc n) = counted-state (x .settings .schedule) byPlace (x .graph) _ _ _ _ _ _ (countedLeg byPlace x r posterior n) ∙ ap (stepOf byPlace x r) (go n)
 
 -- ---- 29
 
