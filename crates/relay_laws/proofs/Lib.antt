@@ -8,4 +8,5 @@ pub mod Best
 pub mod Written
 pub mod Drawn
 pub mod Clipped
+pub mod StepClipped
 pub mod Theorems

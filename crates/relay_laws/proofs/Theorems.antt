@@ -43,7 +43,7 @@ use Rattle.relay_calls.specs.declared.LegRecord.{LegRecord}
 use Rattle.relay_calls.specs.declared.LegRecord.the-variants as LegRecord
 use Rattle.relay_calls.specs.Records.{valuesOf, recordOf, legRecord}
 use Rattle.relay_calls.specs.Decode.{Shot, Run, executedLeg, decoded, decodeLegs, countedLeg, decodeStores}
-use Rattle.relay_calls.specs.Calls.{DecodeLists, DecodeOutcome, decodeOutcome, decodeFault, answered, leftBy, decodeInOrder, decode, withOrder, Summary, summaryOf}
+use Rattle.relay_calls.specs.Calls.{StepLists, allFinite, stepFault, DecodeLists, DecodeOutcome, decodeOutcome, decodeFault, answered, leftBy, decodeInOrder, decode, withOrder, Summary, summaryOf}
 use Rattle.relay_laws.specs.Legs.{legAt, recordAt}
 use Rattle.relay_laws.specs.Orders.{OrderGood, refusedWith, OthersPass}
 use Rattle.relay_calls.proofs.Named.{names-told}
@@ -56,6 +56,7 @@ use Rattle.relay_laws.proofs.LegLists.{values-read, entry-over, held-al
 use Rattle.relay_laws.proofs.Executed.{holds-all}
 use Rattle.relay_laws.proofs.Best.{best-of-run}
 use Rattle.relay_laws.proofs.Written.{leg-state, fault-when}
+use Rattle.relay_laws.proofs.StepClipped.{step-fine}
 use Rattle.relay_laws.proofs.Clipped.{SourceWithin, GammasWithin, gammas-within, executed-tame, settled, bounded-answered, always-answered}
 
 -- ---- demand 3 of the call
@@ -258,10 +259,10 @@ module _ (limit : Float) (good : clipGood (On limit) ≡ true) where
 
   -- one that is not beyond the clip stays as it was
   pub clipped-stays : (message : Float) → lt limit (abs message) ≡ false → clipped (On limit) message ≡ message
-  clipped-stays = within-stays limit
+  clipped-stays = within-stays limit good
 
-  -- one that is has the size of the clip
-  pub clipped-beyond : (message : Float) → lt limit (abs message) ≡ true → abs (clipped (On limit) message) ≡ limit
+  -- "a message beyond the clip becomes the clip with its sign", where "beyond is strictly greater in magnitude"
+  pub clipped-beyond : (message : Float) → lt limit (abs message) ≡ true → clipped (On limit) message ≡ cond (isNegative message) (neg limit) limit
   clipped-beyond = beyond-is-clip limit good
 
   -- an infinite one becomes the clip with its sign
@@ -279,6 +280,13 @@ pub iteration-clipped : (schedule : Schedule) (g : Graph) (alpha limit : Float) 
     → Tame limit (iteration schedule byPlace g alpha (On limit) syndrome prior gamma order s .cToV)
 iteration-clipped schedule g alpha limit syndrome prior gamma order s good able fit =
     iteration-tame alpha limit able fit good g syndrome schedule prior gamma order s
+
+-- of the call: past its tests, all check messages that the step makes are finite, in every order that 23 takes. So with a clip its 30 comes from a posterior or from a
+-- message to a check
+pub step-check-messages : (edges : ℕ) (prior : List Float) (g : Graph) (schedule : Schedule) (alpha limit : Float) (gamma : List Float) (syndrome order : List ℕ)
+    (l : StepLists) → fits binary64 alpha ≡ true → stepFault edges prior g alpha (On limit) gamma syndrome order l ≡ Done
+    → allFinite (iteration schedule byPlace g alpha (On limit) syndrome prior gamma order (l .now) .cToV) ≡ true
+step-check-messages = step-fine
 
 -- and so does a leg of a decode, from its start, where they are 0, whatever posterior it is handed
 pub leg-clipped : (x : Shot) (limit : Float) → settingsFault (x .settings) (x .graph .mechanisms) (x .gammas) ≡ Done → x .settings .clip ≡ On limit

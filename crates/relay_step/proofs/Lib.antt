@@ -3,6 +3,7 @@ pub mod Parts
 pub mod Lengths
 pub mod Variables
 pub mod Passes
+pub mod Signs
 pub mod Sends
 pub mod Legs
 pub mod Limits

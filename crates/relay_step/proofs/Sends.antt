@@ -1,6 +1,6 @@
 -- What a check sends, as the code finds it: a sign flips below zero, which is a product of signs; the least is known by its place, which is its variable's
 -- only one; the least is sent at all places, and then the next at the place of the least. Assumes nothing.
-use mathlib.Core.Path.{_≡_, refl, sym, _∙_}
+use mathlib.Core.Path.{_≡_, refl, sym, ap, _∙_}
 use mathlib.Core.Bool.{Bool, true, false, cond}
 use mathlib.Core.List.{List}
 use mathlib.Core.Logic.{_⊎_, inl, inr, ⊎-elim}
@@ -8,7 +8,7 @@ use Prim.Native.Nat.{ℕ, zero, suc, _<_, _≤_}
 use native.Mathlib.Nat.{lt-suc-self}
 use native.Mathlib.Omega.{arith}
 use lib.Dec.{eqb}
-use lib.Ieee.{Float, nan, lt, neg, mul}
+use lib.Ieee.{Float, nan, binary64, lt, neg, mul}
 use lib.ListN.{length, getD, set}
 use borrow.Author.Tests.{eq-eqb, ne-eqb}
 use Rattle.numbers.specs.Floats.{_*ᶠ_, zero⁺, one⁺, one⁻, abs, messageSign}
@@ -20,6 +20,7 @@ use Rattle.graph_messages.specs.Needs.{Rises}
 use Rattle.relay_settings.specs.declared.Clip.{Clip}
 use Rattle.relay_step.specs.Step.{noVariable, scanned, scan, saturated, weighed, clipped, sent, sentTo, checkMessages}
 use Rattle.relay_step.specs.Places.{bySigns}
+use Rattle.relay_step.proofs.Signs.{negative-left, negative-right}
 
 -- a sign: 1 or -1
 pub data Sign : Float → Type 0 where
@@ -38,6 +39,22 @@ sign-next sign false negative = (refl, negative)
 pub flips : (sign x : Float) → Sign sign → (sign *ᶠ messageSign x ≡ flippedBy sign x) × Sign (flippedBy sign x)
 unfolding messageSign flippedBy
 flips sign x h = sign-next sign (lt x zero⁺) h
+
+-- what is weighed with a sign of 1, and its negative with one of -1
+module _ (alpha sign m : Float) (h : Sign sign) where
+  weighed-plus : alpha *ᶠ sign *ᶠ m ≡ alpha *ᶠ (sign *ᶠ one⁺) *ᶠ m
+  weighed-plus = ap (λ t. alpha *ᶠ t *ᶠ m) (sym (sign-next sign false h .0))
+
+  weighed-minus : neg (alpha *ᶠ sign *ᶠ m) ≡ alpha *ᶠ (sign *ᶠ one⁻) *ᶠ m
+  weighed-minus =
+      sym (negative-left binary64 (alpha *ᶠ sign) m)
+      ∙ ap (λ t. t *ᶠ m) (sym (negative-right binary64 alpha sign) ∙ ap (λ t. alpha *ᶠ t) (sym (sign-next sign true h .0)))
+
+  -- by a message's sign
+  weighed-by : (x : Float) (b : Bool) → lt x zero⁺ ≡ b → cond b (neg (alpha *ᶠ sign *ᶠ m)) (alpha *ᶠ sign *ᶠ m) ≡ alpha *ᶠ (sign *ᶠ messageSign x) *ᶠ m
+  unfolding messageSign
+  weighed-by x true e = rw e weighed-minus
+  weighed-by x false e = rw e weighed-plus
 
 -- the scan by variables, from the scan s by places: whose the least is; or it is nobody's, and both minima are the same
 pub record Found (odd : Bool) (variables : List ℕ) (messages : List Float) (n : ℕ) (s : Scan) : Type 0 where
@@ -136,20 +153,31 @@ module _ (alpha : Float) (clip : Clip) (sign min1 min2 : Float) (variables : Lis
     unfolding bySigns sentTo
     least-nowhere h = tables-agree (length messages) _ _ (λ i k. elsewhere i k (λ e. absurd (omega arith)))
 
--- all that a check sends, in each case
-module _ (alpha : Float) (clip : Clip) (odd : Bool) (variables : List ℕ) (messages out : List Float) (sign min1 min2 : Float) (least : ℕ) (minus plus : Float)
+-- all that a check sends, in each case: `least-sent` and `next-sent` are what is weighed with a sign of 1
+module _ (alpha : Float) (clip : Clip) (odd : Bool) (variables : List ℕ) (messages out : List Float) (sign min1 min2 : Float) (least : ℕ) (least-sent minus plus : Float)
     (r : Rises variables) (many : length messages ≡ length variables)
     (s : scanOf sign min1 min2 least ≡ first.scan odd messages (length messages))
-    (p : minus ≡ clipped clip (alpha *ᶠ (sign *ᶠ one⁻) *ᶠ saturated min1)) (q : plus ≡ clipped clip (alpha *ᶠ (sign *ᶠ one⁺) *ᶠ saturated min1))
+    (w : least-sent ≡ alpha *ᶠ sign *ᶠ saturated min1) (p : minus ≡ clipped clip (neg least-sent)) (q : plus ≡ clipped clip least-sent)
     (o : out ≡ bySigns minus plus messages (length messages)) where
   f : Found odd variables messages (length messages) (scanOf sign min1 min2 least)
   f = rw s (found odd variables messages (length messages))
 
-  pub sends-next : (x : Float) → least < length messages → x ≡ clipped clip (alpha *ᶠ (sign *ᶠ messageSign (getD messages least nan)) *ᶠ saturated min2)
+  minus-is : minus ≡ clipped clip (alpha *ᶠ (sign *ᶠ one⁻) *ᶠ saturated min1)
+  minus-is = p ∙ ap (clipped clip) (ap neg w ∙ weighed-minus alpha sign (saturated min1) (f .signed))
+
+  plus-is : plus ≡ clipped clip (alpha *ᶠ (sign *ᶠ one⁺) *ᶠ saturated min1)
+  plus-is = q ∙ ap (clipped clip) (w ∙ weighed-plus alpha sign (saturated min1) (f .signed))
+
+  pub sends-next : (next-sent signed x : Float) → least < length messages → next-sent ≡ alpha *ᶠ sign *ᶠ saturated min2
+      → signed ≡ cond (lt (getD messages least nan) zero⁺) (neg next-sent) next-sent → x ≡ clipped clip signed
       → set out least x ≡ checkMessages alpha clip odd variables messages
   unfolding checkMessages
-  sends-next x h e = rw (o, f .is) (least-put alpha clip sign min1 min2 variables messages (f .variable) least r many (f .whose) minus plus p q x h e)
+  sends-next next-sent signed x h n e c =
+      let y = getD messages least nan in
+      let is : x ≡ clipped clip (alpha *ᶠ (sign *ᶠ messageSign y) *ᶠ saturated min2) =
+      c ∙ ap (clipped clip) (e ∙ ap (λ t. cond (lt y zero⁺) (neg t) t) n ∙ weighed-by alpha sign (saturated min2) (f .signed) y (lt y zero⁺) refl) in
+      rw (o, f .is) (least-put alpha clip sign min1 min2 variables messages (f .variable) least r many (f .whose) minus plus minus-is plus-is x h is)
 
   pub sends-least : length messages ≤ least → out ≡ checkMessages alpha clip odd variables messages
   unfolding checkMessages
-  sends-least h = rw (o, f .is) (least-nowhere alpha clip sign min1 min2 variables messages (f .variable) least r many (f .whose) minus plus p q h)
+  sends-least h = rw (o, f .is) (least-nowhere alpha clip sign min1 min2 variables messages (f .variable) least r many (f .whose) minus plus minus-is plus-is h)

@@ -55,11 +55,11 @@ fn clamped(limit: f64, message: f64) -> f64
     x
 }
 
-// (alpha times sign) times minimum, clipped.
-fn sent(alpha: f64, limit: f64, total_sign: f64, sign: f64, minimum: f64) -> f64
-    ensures { λ r. ⌜ r ≡ clampedOf limit (alpha *ᶠ («total_sign» *ᶠ sign) *ᶠ saturatedOf minimum) ⌝ }
+// (alpha times the total sign) times minimum: what is sent for a sign of 1, and for -1 its negative.
+fn weighed(alpha: f64, total_sign: f64, minimum: f64) -> f64
+    ensures { λ r. ⌜ r ≡ alpha *ᶠ «total_sign» *ᶠ saturatedOf minimum ⌝ }
 {
-    clamped(limit, alpha * (total_sign * sign) * saturated(minimum))
+    alpha * total_sign * saturated(minimum)
 }
 
 // What a check sends if all messages are as that of the least: one of two by sign, at each place.
@@ -88,13 +88,15 @@ fn update_check(
     ensures { λ _. ⌜ now («c_to_v» .exit) ≡ checkMessages alpha (On limit) odd (now (variables .entry)) (now («v_to_c» .entry)) ⌝ }
 {
     let s = scan_check(odd, v_to_c);
-    let minus = sent(alpha, limit, s.total_sign, -1.0, s.min1);
-    let plus = sent(alpha, limit, s.total_sign, 1.0, s.min1);
+    let least_sent = weighed(alpha, s.total_sign, s.min1);
+    let minus = clamped(limit, -least_sent);
+    let plus = clamped(limit, least_sent);
     send(minus, plus, v_to_c, c_to_v);
     let least = s.least;
     if least < v_to_c.len() {
-        let sign = numbers::message_sign(v_to_c[least]);
-        c_to_v[least] = sent(alpha, limit, s.total_sign, sign, s.min2);
+        let next_sent = weighed(alpha, s.total_sign, s.min2);
+        let signed = by_sign(v_to_c[least], -next_sent, next_sent);
+        c_to_v[least] = clamped(limit, signed);
     }
 }
 
