@@ -166,7 +166,7 @@ fn case(model: Model, settings: Settings, syndrome: Vec<u8>) -> DecodeCase {
 
 /// Three mechanisms that set off eight neighbouring checks of ten each, or 13 of 14 under CheckSerial, in a ring; priors 4; the published
 /// point. The first happened, and under CheckSerial the third too, which no leg finds in time: a mechanism sums up what so many checks say and
-/// hands it back to each, so messages grow about as many times with each iteration, and the posterior is not finite after some legs.
+/// hands it back to each, so messages grow fourfold with each iteration, 75-fold under CheckSerial, until the posterior is not finite.
 pub fn heavy(serial: bool) -> DecodeCase {
     let (checks, degree) = if serial { (14, 13) } else { (10, 8) };
     let detectors = |first: u32| {

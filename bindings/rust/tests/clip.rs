@@ -22,7 +22,8 @@ fn decode(
     decoder.decode(syndrome, 7).unwrap()
 }
 
-/// The first messages of G's checks have the magnitude 4: -4 from check 0, and 4 from check 1.
+/// The first messages of G's checks have the magnitude 4: check 0 sends -4, and check 1 sends 4, or under CheckSerial what mechanism 1 has left
+/// of its prior.
 #[test]
 fn by_hand() {
     let graph = model_g();
@@ -33,10 +34,14 @@ fn by_hand() {
         }
         for clip in [3.0, 1.0, 0.25] {
             let outcome = decode(&graph, plain(schedule, 1), Some(clip), &[1, 0]);
-            let wanted = [4.0 - clip, 4.0, 4.0 + clip];
+            let last = match schedule {
+                Flooding => clip,
+                CheckSerial => clip.min(4.0 - clip),
+            };
+            let wanted = [4.0 - clip, 4.0, 4.0 + last];
             assert_eq!(bits(&outcome.posterior), bits(&wanted));
         }
-        // Just below 4 it is clipped, and as 4 is subtracted from it, something is left.
+        // By a clip just below 4 it is clipped, and something is left of the prior.
         let clip = f64::from_bits(4.0_f64.to_bits() - 1);
         let outcome = decode(&graph, plain(schedule, 1), Some(clip), &[1, 0]);
         assert_eq!(outcome.posterior[0], 4.0 - clip);
