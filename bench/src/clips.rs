@@ -54,30 +54,41 @@ fn messages(sized: &Sized, lists: &Lists, settings: Settings, syndrome: &[u8]) -
     step.c_to_v.iter().map(|message| message.abs()).collect()
 }
 
-/// The clip, of which it is made sure that it does as much.
+/// A clip that does as much.
 fn clip(acts: Acts, sized: &Sized, lists: &Lists, off: Settings, syndrome: &[u8]) -> f64 {
-    let clip = match acts {
-        Acts::Never => 1e300,
-        Acts::Always => 1e-3,
-        Acts::Often => {
-            let mut sent = messages(sized, lists, off, syndrome);
-            sent.sort_by(f64::total_cmp);
-            sent[sent.len() / 2]
-        }
+    // The part of the messages that are at a clip after five iterations with it.
+    let share = |clip: f64| {
+        let on = Settings {
+            clip: Clip::of(Some(clip)),
+            ..off
+        };
+        let sent = messages(sized, lists, on, syndrome);
+        let at = sent.iter().filter(|&&message| message == clip).count();
+        at as f64 / sent.len() as f64
     };
-    let on = Settings {
-        clip: Clip::of(Some(clip)),
-        ..off
-    };
-    let sent = messages(sized, lists, on, syndrome);
-    let at = sent.iter().filter(|&&message| message == clip).count();
-    let share = at as f64 / sent.len() as f64;
     match acts {
-        Acts::Never => assert_eq!(at, 0),
-        Acts::Often => assert!((0.25..0.75).contains(&share), "{share}"),
-        Acts::Always => assert!(share > 0.99, "{share}"),
+        Acts::Never => {
+            assert_eq!(share(1e300), 0.0);
+            1e300
+        }
+        Acts::Always => {
+            assert!(share(1e-3) > 0.99);
+            1e-3
+        }
+        // The greater the clip, the fewer are at it.
+        Acts::Often => {
+            let (mut low, mut high) = (1e-3_f64, 1e6_f64);
+            for _ in 0..20 {
+                let middle = (low * high).sqrt();
+                match share(middle) {
+                    0.4..=0.6 => return middle,
+                    ..0.4 => high = middle,
+                    _ => low = middle,
+                }
+            }
+            panic!("no clip is at half of the messages")
+        }
     }
-    clip
 }
 
 fn decodes(edges: usize, serial: bool, acts: Acts) -> Row {
