@@ -9,11 +9,11 @@ use oracle::exact::bp::RelayBp;
 use oracle::exact::drive;
 use oracle::splitmix::SplitMix64;
 use oracle::stores::by_formula;
-use proved::{Decode, Settings, Shot};
+use proved::{Clip, Decode, Settings, Shot};
 use std::hint::black_box;
 
 /// Relayed legs, each with gammas of its own.
-const LEGS: usize = 2;
+pub const LEGS: usize = 2;
 
 /// What is decoded, and in which order of checks.
 #[derive(Clone, Copy, PartialEq, Eq)]
@@ -53,6 +53,7 @@ pub fn settings(serial: bool) -> Settings {
     Settings {
         serial,
         alpha: point.alpha,
+        clip: Clip::of(point.clip),
         gamma0: point.gamma0,
         pre_iterations: 20,
         num_legs: LEGS,

@@ -7,7 +7,7 @@ use crate::models::{EDGES, sized};
 use crate::timing::{Row, Work, timed};
 use oracle::bits::bits;
 use pecos_bp_open::{State, load, step, stepping, store};
-use proved::{Iteration, Step};
+use proved::{Clip, Iteration, Step};
 use std::hint::black_box;
 use std::time::Duration;
 
@@ -89,6 +89,7 @@ fn iterations(edges: usize, serial: bool, by_index: bool) -> Row {
                 let asked = Iteration {
                     serial,
                     alpha: ALPHA,
+                    clip: Clip::OFF,
                     gamma: &gamma,
                     syndrome,
                     order: &order,

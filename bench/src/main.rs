@@ -3,6 +3,7 @@
 
 mod beliefs;
 mod building;
+mod clips;
 mod decodes;
 mod iterations;
 mod models;
@@ -17,10 +18,11 @@ use oracle::toolchain;
 use proved::Size;
 use std::path::Path;
 use std::process::ExitCode;
-use timing::{HEAD, Row};
+use timing::{HEAD, HEAD_OF_CLIPS, Row};
 
-const USAGE: &str = "usage: bench/run [building|priors|beliefs|iterations|decodes|tests|stack|bytes] | --write
-  without a word, all of them; --write besides puts the figures into docs/BENCHMARKS.md and docs/benchmarks.svg";
+const USAGE: &str = "usage: bench/run [building|priors|beliefs|iterations|decodes|tests|stack|bytes] | clip | --write
+  without a word, all of them but clip; --write besides puts the figures into docs/BENCHMARKS.md and docs/benchmarks.svg
+  clip: the proved decode with a clip beside the same without one, and no Rust";
 
 type Part = (&'static str, fn() -> Vec<Row>);
 
@@ -32,6 +34,9 @@ const PARTS: [Part; 6] = [
     ("decodes", decodes::run),
     ("tests", refused::run),
 ];
+
+/// By its name alone: its rows have no Rust beside them.
+const CLIP: Part = ("clip", clips::run);
 
 /// How often all rows are gone through.
 const PASSES: usize = 3;
@@ -84,9 +89,10 @@ fn main() -> ExitCode {
         _ => Some(""),
     };
     let known = |name: &str| {
-        matches!(name, "stack" | "bytes") || PARTS.iter().any(|(part, _)| *part == name)
+        matches!(name, "clip" | "stack" | "bytes") || PARTS.iter().any(|(part, _)| *part == name)
     };
     let all = matches!(word, None | Some("--write"));
+    let clips = word == Some(CLIP.0);
     if !all && !word.is_some_and(known) {
         eprintln!("{USAGE}");
         return ExitCode::from(2);
@@ -96,7 +102,8 @@ fn main() -> ExitCode {
     let mut rows: Vec<Row> = Vec::new();
     for pass in 1..=PASSES {
         let mut these = Vec::new();
-        for (name, run) in PARTS {
+        let parts: &[Part] = if clips { &[CLIP] } else { &PARTS };
+        for &(name, run) in parts {
             if asked(name) {
                 eprintln!("pass {pass} of {PASSES}: {name}");
                 these.extend(run());
@@ -112,7 +119,7 @@ fn main() -> ExitCode {
         };
     }
     if !rows.is_empty() {
-        println!("{HEAD}");
+        println!("{}", if clips { HEAD_OF_CLIPS } else { HEAD });
     }
     for row in &rows {
         println!("{}", row.line());

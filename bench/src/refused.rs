@@ -4,7 +4,7 @@
 use crate::decodes::{self, sets};
 use crate::models::{EDGES, Sized, nothing, sized};
 use crate::timing::{Row, Work, timed};
-use proved::{Answer, Beliefs, Decode, Iteration, Lists, Run, Shot, Step};
+use proved::{Answer, Beliefs, Clip, Decode, Iteration, Lists, Run, Shot, Step};
 use std::hint::black_box;
 
 /// Good lists and arguments for every call over a graph.
@@ -95,6 +95,7 @@ impl Lent {
         let asked = Iteration {
             serial: false,
             alpha: 1.0,
+            clip: Clip::OFF,
             gamma: &self.gammas[..size.mechanisms],
             syndrome: &self.syndrome,
             order: &self.order,

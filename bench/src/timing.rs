@@ -75,6 +75,10 @@ impl Row {
 pub const HEAD: &str =
     "what                                    edges iterations    proved ns      Rust ns   ratio";
 
+/// Of rows whose second time is that of the proved code too, with the clip off.
+pub const HEAD_OF_CLIPS: &str =
+    "what                                    edges iterations        on ns       off ns   ratio";
+
 /// What is to be timed. A turn has as many runs.
 pub struct Work {
     pub call: &'static str,
@@ -85,7 +89,7 @@ pub struct Work {
 }
 
 impl Work {
-    /// Times both.
+    /// Times both. What the first does stands for the Rust.
     pub fn beside(self, rust: Turn, proved: Turn) -> Row {
         let (mut least_rust, mut least_proved) = (Duration::MAX, Duration::MAX);
         let start = Instant::now();

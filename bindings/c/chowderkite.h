@@ -49,7 +49,7 @@ extern "C" {
 
 /* ---- the version: raised whenever a call, a list or a code changes its meaning */
 
-#define CHOWDERKITE_VERSION 3
+#define CHOWDERKITE_VERSION 4
 
 /* The version of the archive that is linked. Where it is not CHOWDERKITE_VERSION, this header is another archive's. */
 uint64_t chowderkite_version(void);
@@ -65,8 +65,8 @@ uint64_t chowderkite_version(void);
 #define CHOWDERKITE_MAX_PRIOR 30.0
 
 /* ---- codes: 0 where nothing is refused, else the refusal's number plus 65536 times its place. A code keeps the place modulo
- * 2^32; only those of chowderkite_prior_of and chowderkite_priors_of can reach that. No call gives 9, 26 to 28, or any from
- * 46 on: they are kept for calls to come. */
+ * 2^32; only those of chowderkite_prior_of and chowderkite_priors_of can reach that. No call gives 26 to 28, or any from 46 on:
+ * they are kept for calls to come. */
 
 enum chowderkite_refusal {
     CHOWDERKITE_DONE = 0,
@@ -78,7 +78,7 @@ enum chowderkite_refusal {
     CHOWDERKITE_DETECTOR_REPEATED = 6,     /* within its mechanism. Place: mechanism */
     CHOWDERKITE_NO_SUCH_GRAPH = 7,         /* graph lists that no model within the limits builds */
     CHOWDERKITE_BAD_PROBABILITY = 8,       /* NaN, below 0 or above 1. Place: mechanism */
-    CHOWDERKITE_BAD_CLIP = 9,              /* not finite or not above 0 */
+    CHOWDERKITE_BAD_CLIP = 9,              /* on, and not finite or not above 0 */
     CHOWDERKITE_BAD_ALPHA = 10,            /* not finite or not above 0 */
     CHOWDERKITE_BAD_GAMMA0 = 11,           /* not finite */
     CHOWDERKITE_BAD_ITERATIONS = 12,       /* pre_iterations 0 or above the limit; those of beliefs above it */
@@ -102,7 +102,8 @@ enum chowderkite_refusal {
     CHOWDERKITE_OBSERVABLE_TOO_LARGE = 28, /* 64 or above. Place: mechanism */
     CHOWDERKITE_TOO_MANY_STORES = 29,      /* a decode's message stores could pass 2^64 - 1 */
     CHOWDERKITE_NON_FINITE = 30,           /* a posterior after a leg or a run of beliefs; single iteration: a
-                                              posterior or message after it. Place: first mechanism that has one */
+                                              posterior or message after it. Place: first mechanism that has one.
+                                              Relay's clip can avert it */
     CHOWDERKITE_CUT_RECORD = 40,           /* a stream that ends within a record */
     CHOWDERKITE_UNKNOWN_KIND = 41,         /* a record of another kind than 1, 2 and 3 */
     CHOWDERKITE_PAYLOAD_LENGTH = 42,       /* a payload of wrong length for its kind */
@@ -306,7 +307,13 @@ uint64_t chowderkite_beliefs(
  * A schedule is a byte: CHOWDERKITE_FLOODING, and any other is CHOWDERKITE_CHECK_SERIAL. So is the source of the gammas of
  * relayed legs, explicit: CHOWDERKITE_SEEDED draws them from the shot's seed, and then sets and gammas are not looked at;
  * any other is CHOWDERKITE_EXPLICIT, and gammas holds as many sets as sets says, one after the other, each with a gamma
- * for each mechanism. Relayed leg r, from 1, uses set (r - 1) modulo sets. */
+ * for each mechanism. Relayed leg r, from 1, uses set (r - 1) modulo sets.
+ *
+ * And so is clip_on: CHOWDERKITE_CLIP_OFF, and then clip is not looked at; any other is CHOWDERKITE_CLIP_ON, and clip is a
+ * magnitude, finite and above 0 (9). A check's message that is strictly greater in magnitude, an infinite one too, becomes the
+ * clip with its sign before it is written: after alpha times sign times minimum, and also where the check has one mechanism
+ * alone. Nothing else is clipped, and min-sum beliefs have no clip. Where mechanisms are very busy, messages can grow many times
+ * over with each iteration, until 30 refuses: a clip bounds them. 30, as large as a prior can be, is one to begin with. */
 
 #define CHOWDERKITE_FLOODING 0
 #define CHOWDERKITE_CHECK_SERIAL 1
@@ -314,18 +321,23 @@ uint64_t chowderkite_beliefs(
 #define CHOWDERKITE_SEEDED 0
 #define CHOWDERKITE_EXPLICIT 1
 
-/* Writes the published operating point: floats are alpha, gamma0, gamma_low, gamma_high; counts are pre_iterations,
- * num_legs, leg_iterations, stop_after_converged. Answers its schedule, which is Flooding; its gammas are drawn. Refuses
- * nothing. */
-uint8_t chowderkite_published(
-    double floats[4],
-    uint64_t counts[4]);
+#define CHOWDERKITE_CLIP_OFF 0
+#define CHOWDERKITE_CLIP_ON 1
 
-/* Tests settings as a decode over so many mechanisms does: 1 for the mechanisms, 10 to 19. Length: gammas sets times
+/* Writes the published operating point: floats are alpha, gamma0, gamma_low, gamma_high, and the clip, 0.0 for off; counts are
+ * pre_iterations, num_legs, leg_iterations, stop_after_converged, and whether the clip is on, 1 or 0. Answers its schedule, which
+ * is Flooding; its gammas are drawn, and its clip is off. Refuses nothing. */
+uint8_t chowderkite_published(
+    double floats[5],
+    uint64_t counts[5]);
+
+/* Tests settings as a decode over so many mechanisms does: 1 for the mechanisms, 9 to 19. Length: gammas sets times
  * mechanisms, of an explicit source alone. Writes nothing. */
 uint64_t chowderkite_check_settings(
     uint8_t schedule,
     double alpha,
+    uint8_t clip_on,
+    double clip,
     double gamma0,
     size_t pre_iterations,
     size_t num_legs,
@@ -360,7 +372,7 @@ uint64_t chowderkite_check_settings(
  * Work: gamma and bias, mechanisms long; c_to_v and v_to_c, edges long. What leg lists and rows have beyond their least
  * length is kept.
  *
- * Refuses with 1, 2, 4, 7, 10 to 22, 29, 30. Refusal 30 leaves zeroes in all results, floats positive. */
+ * Refuses with 1, 2, 4, 7, 9 to 22, 29, 30. Refusal 30 leaves zeroes in all results, floats positive. */
 uint64_t chowderkite_decode(
     size_t checks,
     size_t mechanisms,
@@ -373,6 +385,8 @@ uint64_t chowderkite_decode(
     const uint32_t *var_offset, size_t var_offset_len,
     uint8_t schedule,
     double alpha,
+    uint8_t clip_on,
+    double clip,
     double gamma0,
     size_t pre_iterations,
     size_t num_legs,
@@ -413,6 +427,8 @@ uint64_t chowderkite_decode_in_order(
     const uint32_t *var_offset, size_t var_offset_len,
     uint8_t schedule,
     double alpha,
+    uint8_t clip_on,
+    double clip,
     double gamma0,
     size_t pre_iterations,
     size_t num_legs,
@@ -458,7 +474,7 @@ uint64_t chowderkite_leg_record(
  * takes every order that names each check once, those too that a decode refuses with 24. Lengths: gamma, posterior and
  * bias mechanisms; c_to_v and v_to_c edges; syndrome (bytes 0 and 1) and order checks. The bias is for work. A decode starts
  * with the posterior at the priors, and each of its legs with c_to_v at positive zero and with v_to_c at the priors, each
- * message at its mechanism's. Refuses with 1, 2, 4, 7, 10, 20 to 23, 25, 30. Refusal 30 leaves positive zeroes in c_to_v,
+ * message at its mechanism's. Refuses with 1, 2, 4, 7, 9, 10, 20 to 23, 25, 30. Refusal 30 leaves positive zeroes in c_to_v,
  * v_to_c and posterior. */
 uint64_t chowderkite_iteration(
     size_t checks,
@@ -472,6 +488,8 @@ uint64_t chowderkite_iteration(
     const uint32_t *var_offset, size_t var_offset_len,
     uint8_t schedule,
     double alpha,
+    uint8_t clip_on,
+    double clip,
     const double *gamma, size_t gamma_len,
     const uint8_t *syndrome, size_t syndrome_len,
     const uint32_t *order, size_t order_len,
@@ -483,11 +501,12 @@ uint64_t chowderkite_iteration(
 /* ---- record streams
  *
  * A record is a u32 payload length, a u16 kind and the payload, all little-endian; kind 1 is a model, 2 settings, 3 a shot.
- * A session reads a stream byte by byte, decodes its shots, and says what the program shots writes. Its room is 128 checks,
- * 256 mechanisms, 512 edges and 16 relayed legs. None of these calls refuses anything: what 40 to 45 refuse of a stream, the
- * lines say. */
+ * A settings record does not say a clip, and means that it is off. A session reads a stream byte by byte, decodes its shots, and
+ * says what the program shots writes. Its room is 128 checks, 256 mechanisms, 512 edges and 16 relayed legs. None of these calls
+ * refuses anything: what 40 to 45 refuse of a stream, the lines say. */
 
-/* A session's words; its settings' floats stand beside them. Who only feeds a session need not look at them. */
+/* A session's words; its settings' floats stand beside them: alpha, gamma0, gamma_low, gamma_high and the clip, 0.0 for off. Who
+ * only feeds a session need not look at them. */
 enum chowderkite_session {
     CHOWDERKITE_SESSION_READER = 0,        /* eight words: the record's offset, how many of its bytes were taken, its
                                               payload length, its kind, and of a model checks, mechanisms, edges and
@@ -498,28 +517,29 @@ enum chowderkite_session {
     CHOWDERKITE_SESSION_SHOTS = 11,        /* the number of the next shot */
     CHOWDERKITE_SESSION_STOPPED = 12,      /* not 0 once a refusal has ended the run */
     CHOWDERKITE_SESSION_SAID = 13,         /* the length of the line that is to be written now, 0 for none */
-    CHOWDERKITE_SESSION_SETTINGS = 14      /* seven words: schedule, pre_iterations, num_legs, leg_iterations,
+    CHOWDERKITE_SESSION_SETTINGS = 14,     /* seven words: schedule, pre_iterations, num_legs, leg_iterations,
                                               stop_after_converged, explicit, sets */
+    CHOWDERKITE_SESSION_CLIP_ON = 21       /* not 0 if the settings' clip is on */
 };
 
 /* How many words and floats a session has, what the payload of a record within the room has at most, and what a line has
  * room for. */
-#define CHOWDERKITE_SESSION_WORDS 21
-#define CHOWDERKITE_SESSION_FLOATS 4
+#define CHOWDERKITE_SESSION_WORDS 22
+#define CHOWDERKITE_SESSION_FLOATS 5
 #define CHOWDERKITE_MAX_PAYLOAD 5132
 #define CHOWDERKITE_LINE 512
 
 /* A session before the first byte of a stream. */
 void chowderkite_session_new(
-    size_t words[21],
-    double floats[4]);
+    size_t words[22],
+    double floats[5]);
 
 /* One byte of the stream. payload and model are lists of CHOWDERKITE_MAX_PAYLOAD bytes that stay with the session; what is to be
  * written now is the front of line, as long as words[CHOWDERKITE_SESSION_SAID] says. With shorter lists the session answers as
  * if what finds no room were not there. */
 void chowderkite_take(
-    size_t words[21],
-    double floats[4],
+    size_t words[22],
+    double floats[5],
     uint8_t byte,
     uint8_t *payload, size_t payload_len,
     uint8_t *model, size_t model_len,
@@ -527,8 +547,8 @@ void chowderkite_take(
 
 /* The end of the stream: writes the last line and answers its length, 0 after a run that has ended before. */
 size_t chowderkite_finish(
-    const size_t words[21],
-    const double floats[4],
+    const size_t words[22],
+    const double floats[5],
     uint8_t line[512]);
 
 #ifdef __cplusplus

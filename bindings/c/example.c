@@ -58,9 +58,10 @@ static uint64_t build_of_probabilities(const double *probabilities, double *made
         g->var_check, EDGES, g->var_message, EDGES, g->var_offset, MECHANISMS + 1);
 }
 
-/* Alpha 1, gamma0 0, two iterations, no relayed legs: R3's settings under a schedule and in an order, or in index order
- * where the order is NULL. */
-static uint64_t decode(const graph *g, uint8_t schedule, const uint32_t *order, decoded *d) {
+/* Alpha 1, gamma0 0, two iterations, no relayed legs: R3's settings under a schedule, with a clip or without, and in an order,
+ * or in index order where the order is NULL. */
+static uint64_t decode_clipped(
+    const graph *g, uint8_t schedule, uint8_t clip_on, double clip, const uint32_t *order, decoded *d) {
     const double alpha = 1.0, gamma0 = 0.0, low = 0.0, high = 0.0;
     const size_t pre_iterations = 2, num_legs = 0, leg_iterations = 0, stop = 1;
     const uint64_t seed = 7;
@@ -69,7 +70,7 @@ static uint64_t decode(const graph *g, uint8_t schedule, const uint32_t *order, 
             CHECKS, MECHANISMS, EDGES, priors, MECHANISMS,
             g->check_var, EDGES, g->check_offset, CHECKS + 1,
             g->var_check, EDGES, g->var_message, EDGES, g->var_offset, MECHANISMS + 1,
-            schedule, alpha, gamma0, pre_iterations, num_legs, leg_iterations, low, high, stop,
+            schedule, alpha, clip_on, clip, gamma0, pre_iterations, num_legs, leg_iterations, low, high, stop,
             CHOWDERKITE_SEEDED, 0, NULL, 0, syndrome, CHECKS, seed,
             d->leg_state, LEGS, d->leg_steps, LEGS, d->leg_weight, LEGS, d->rows, LEGS * MECHANISMS,
             d->correction, MECHANISMS, d->posterior, MECHANISMS,
@@ -79,11 +80,15 @@ static uint64_t decode(const graph *g, uint8_t schedule, const uint32_t *order, 
         CHECKS, MECHANISMS, EDGES, priors, MECHANISMS,
         g->check_var, EDGES, g->check_offset, CHECKS + 1,
         g->var_check, EDGES, g->var_message, EDGES, g->var_offset, MECHANISMS + 1,
-        schedule, alpha, gamma0, pre_iterations, num_legs, leg_iterations, low, high, stop,
+        schedule, alpha, clip_on, clip, gamma0, pre_iterations, num_legs, leg_iterations, low, high, stop,
         CHOWDERKITE_SEEDED, 0, NULL, 0, syndrome, CHECKS, seed, order, CHECKS,
         d->leg_state, LEGS, d->leg_steps, LEGS, d->leg_weight, LEGS, d->rows, LEGS * MECHANISMS,
         d->correction, MECHANISMS, d->posterior, MECHANISMS,
         d->gamma, MECHANISMS, d->bias, MECHANISMS, d->c_to_v, EDGES, d->v_to_c, EDGES, d->counts, d->weight);
+}
+
+static uint64_t decode(const graph *g, uint8_t schedule, const uint32_t *order, decoded *d) {
+    return decode_clipped(g, schedule, CHOWDERKITE_CLIP_OFF, 0.0, order, d);
 }
 
 /* ---- comparing: bits, so that a zero's sign counts */
@@ -240,6 +245,35 @@ int main(void) {
         expect("and every list is as it was", memcmp(&d, &before, sizeof d) == 0);
     }
 
+    /* R3 with a clip. The greatest message of a check in it is 8. */
+    {
+        const double wanted[MECHANISMS] = {1.0, 4.0, 5.0};
+        const uint64_t counts[4] = {0, 1, 2, 16};
+        decoded d, before;
+        uint64_t code;
+
+        memset(&d, 9, sizeof d);
+        code = decode_clipped(&g, CHOWDERKITE_FLOODING, CHOWDERKITE_CLIP_ON, 8.0, NULL, &d);
+        expect("a clip of 8, which no message passes: as R3", code == CHOWDERKITE_DONE && is_converged_as_r3(&d, 16));
+
+        memset(&d, 9, sizeof d);
+        code = decode_clipped(&g, CHOWDERKITE_FLOODING, CHOWDERKITE_CLIP_ON, 3.0, NULL, &d);
+        printf("with a clip of 3 the posterior is %g, %g, %g\n", d.posterior[0], d.posterior[1], d.posterior[2]);
+        expect("a clip of 3: not converged, posterior 1,4,5",
+               code == CHOWDERKITE_DONE && memcmp(d.posterior, wanted, sizeof wanted) == 0
+                   && memcmp(d.counts, counts, sizeof counts) == 0);
+
+        memset(&d, 9, sizeof d);
+        memcpy(&before, &d, sizeof d);
+        code = decode_clipped(&g, CHOWDERKITE_FLOODING, CHOWDERKITE_CLIP_ON, 0.0, NULL, &d);
+        expect("a clip of 0 is refused with 9, and every list is as it was",
+               chowderkite_number_of(code) == CHOWDERKITE_BAD_CLIP && !chowderkite_has_place(code)
+                   && memcmp(&d, &before, sizeof d) == 0);
+
+        code = decode_clipped(&g, CHOWDERKITE_FLOODING, CHOWDERKITE_CLIP_OFF, -1.0, NULL, &d);
+        expect("off, a clip is not looked at", code == CHOWDERKITE_DONE && is_converged_as_r3(&d, 16));
+    }
+
     /* R6's first half: the single iteration takes that order. */
     {
         const double wanted[MECHANISMS] = {-4.0, 4.0, 8.0}, gamma[MECHANISMS] = {0.0, 0.0, 0.0};
@@ -255,7 +289,7 @@ int main(void) {
             CHECKS, MECHANISMS, EDGES, priors, MECHANISMS,
             g.check_var, EDGES, g.check_offset, CHECKS + 1,
             g.var_check, EDGES, g.var_message, EDGES, g.var_offset, MECHANISMS + 1,
-            CHOWDERKITE_CHECK_SERIAL, 1.0, gamma, MECHANISMS, syndrome, CHECKS, exchanged, CHECKS,
+            CHOWDERKITE_CHECK_SERIAL, 1.0, CHOWDERKITE_CLIP_OFF, 0.0, gamma, MECHANISMS, syndrome, CHECKS, exchanged, CHECKS,
             c_to_v, EDGES, v_to_c, EDGES, posterior, MECHANISMS, bias, MECHANISMS);
         expect("R6: the first serial iteration in order 1,0, posterior -4,4,8",
                code == CHOWDERKITE_DONE && memcmp(posterior, wanted, sizeof wanted) == 0);
@@ -263,12 +297,12 @@ int main(void) {
 
     /* The published operating point. */
     {
-        const double wanted_floats[4] = {1.0, 0.1, -0.24, 0.66};
-        const uint64_t wanted_counts[4] = {80, 40, 60, 1};
-        double floats[4];
-        uint64_t counts[4];
+        const double wanted_floats[5] = {1.0, 0.1, -0.24, 0.66, 0.0};
+        const uint64_t wanted_counts[5] = {80, 40, 60, 1, CHOWDERKITE_CLIP_OFF};
+        double floats[5];
+        uint64_t counts[5];
         const uint8_t schedule = chowderkite_published(floats, counts);
-        expect("the published operating point: Flooding, alpha 1, gamma0 0.1, 80, 40 legs, 60, -0.24 to 0.66, stop 1",
+        expect("the published operating point: Flooding, alpha 1, gamma0 0.1, 80, 40 legs, 60, -0.24 to 0.66, stop 1, no clip",
                schedule == CHOWDERKITE_FLOODING && memcmp(floats, wanted_floats, sizeof floats) == 0 && memcmp(counts, wanted_counts, sizeof counts) == 0);
     }
 

@@ -7,6 +7,8 @@ use crate::splitmix::{SplitMix64, relay_sets};
 
 const SEED: u64 = 0x6465_636f_6465_0003;
 const RANDOM: usize = 600;
+const SEED_OF_CLIPPED: u64 = 0x636c_6970_7065_0004;
+const RANDOM_CLIPPED: usize = 60;
 const MOST_LEGS: usize = 16;
 
 /// Where the gammas of relayed legs come from.
@@ -21,6 +23,8 @@ pub enum Source {
 pub struct Settings {
     pub serial: bool,
     pub alpha: f64,
+    /// Of a check's message, where it is on. The Rust has none: one copy of it has.
+    pub clip: Option<f64>,
     pub gamma0: f64,
     pub pre_iterations: usize,
     pub num_legs: usize,
@@ -45,6 +49,7 @@ impl Settings {
         Self {
             serial,
             alpha: 1.0,
+            clip: None,
             gamma0: 0.0,
             pre_iterations,
             num_legs: 0,
@@ -65,6 +70,7 @@ impl Settings {
         Self {
             serial: false,
             alpha: 1.0,
+            clip: None,
             gamma0: 0.1,
             pre_iterations: 80,
             num_legs: 40,
@@ -99,7 +105,10 @@ impl DecodeCase {
         self.model.write(priors, &mut line);
         let settings = &self.settings;
         line.count(usize::from(settings.serial));
-        line.floats(&[settings.alpha, settings.gamma0]);
+        line.float(settings.alpha);
+        line.count(usize::from(settings.clip.is_some()));
+        line.float(settings.clip.unwrap_or(0.0));
+        line.float(settings.gamma0);
         line.counts([
             &settings.pre_iterations,
             &settings.num_legs,
@@ -122,6 +131,7 @@ impl DecodeCase {
     }
 }
 
+/// Those that the Rust answers, none with a clip.
 pub fn cases() -> Vec<DecodeCase> {
     let mut cases = fixed();
     cases.extend(spoiled().into_iter().map(|(_, case)| case));
@@ -140,17 +150,47 @@ pub fn cases() -> Vec<DecodeCase> {
         }
         cases.push(case);
     }
+    cases.extend([false, true].map(heavy));
     cases
 }
 
-/// The reference's small runs and its default operating point.
-fn fixed() -> Vec<DecodeCase> {
-    let case = |model: Model, settings: Settings, syndrome: Vec<u8>| DecodeCase {
+/// A case from its parts.
+fn case(model: Model, settings: Settings, syndrome: Vec<u8>) -> DecodeCase {
+    DecodeCase {
         model,
         settings,
         syndrome,
         seed: 7,
+    }
+}
+
+/// Three mechanisms that set off eight neighbouring checks of ten each, or 13 of 14 under CheckSerial, in a ring; priors 4; the published
+/// point. The first happened, and under CheckSerial the third too, which no leg finds in time: a mechanism sums up what so many checks say and
+/// hands it back to each, so messages grow fourfold with each iteration, 75-fold under CheckSerial, until the posterior is not finite.
+pub fn heavy(serial: bool) -> DecodeCase {
+    let (checks, degree) = if serial { (14, 13) } else { (10, 8) };
+    let detectors = |first: u32| {
+        let mut list: Vec<u32> = (first..first + degree)
+            .map(|place| place % checks)
+            .collect();
+        list.sort_unstable();
+        list
     };
+    let model = Model {
+        checks: checks as usize,
+        probabilities: vec![crate::model::probability_of(4.0); 3],
+        detectors: (0..3).map(detectors).collect(),
+    };
+    let settings = Settings {
+        serial,
+        ..Settings::default_point()
+    };
+    let syndrome = model.syndrome_of(&[true, false, serial]);
+    case(model, settings, syndrome)
+}
+
+/// The reference's small runs and its default operating point.
+fn fixed() -> Vec<DecodeCase> {
     let free = Model {
         checks: 0,
         probabilities: vec![0.3, 0.7, 0.5, 0.0, 1.0],
@@ -161,20 +201,7 @@ fn fixed() -> Vec<DecodeCase> {
         probabilities: vec![0.1, 0.9],
         detectors: vec![vec![], vec![1]],
     };
-    let ring = Model {
-        checks: 5,
-        probabilities: vec![0.05, 0.04, 0.03, 0.02, 0.01],
-        detectors: (0..5).map(|c| vec![c, (c + 1) % 5]).collect(),
-    };
-    let relayed = |serial: bool| Settings {
-        serial,
-        num_legs: MOST_LEGS,
-        leg_iterations: 3,
-        low: -0.24,
-        high: 0.66,
-        stop: 3,
-        ..Settings::plain(serial, 2)
-    };
+    let ring = ring();
     let mut cases = vec![
         case(Model::g(), Settings::plain(false, 1), vec![1, 0]),
         case(Model::g(), Settings::plain(false, 2), vec![1, 0]),
@@ -206,6 +233,148 @@ fn fixed() -> Vec<DecodeCase> {
         cases.push(case(ring.clone(), relayed(serial), vec![1, 0, 1, 0, 0]));
     }
     cases
+}
+
+/// Each of five mechanisms on two neighbouring checks of five.
+fn ring() -> Model {
+    Model {
+        checks: 5,
+        probabilities: vec![0.05, 0.04, 0.03, 0.02, 0.01],
+        detectors: (0..5).map(|c| vec![c, (c + 1) % 5]).collect(),
+    }
+}
+
+/// Short legs, and as many as the lists have.
+fn relayed(serial: bool) -> Settings {
+    Settings {
+        serial,
+        num_legs: MOST_LEGS,
+        leg_iterations: 3,
+        low: -0.24,
+        high: 0.66,
+        stop: 3,
+        ..Settings::plain(serial, 2)
+    }
+}
+
+/// Clips that 9 refuses.
+pub const BAD_CLIPS: [f64; 8] = [
+    f64::NAN,
+    f64::INFINITY,
+    f64::NEG_INFINITY,
+    0.0,
+    -0.0,
+    -1.0,
+    -5e-324,
+    f64::MIN,
+];
+
+/// Those that have a clip, which the published Rust has not: a copy of it answers them.
+pub fn clipped() -> Vec<DecodeCase> {
+    let mut cases = Vec::new();
+    let mut add = |mut case: DecodeCase, clips: &[f64]| {
+        for &clip in clips {
+            case.settings.clip = Some(clip);
+            cases.push(case.clone());
+        }
+    };
+    // The least clip that there is, the greatest, and some that no message here reaches.
+    let ends = [5e-324, f64::MIN_POSITIVE, 1e300, f64::MAX];
+    for serial in [false, true] {
+        // A check's message has the magnitude 4 at first.
+        let below = 4.0_f64.next_down();
+        let about = [4.0, below, 4.0_f64.next_up(), 2.0, 0.5, 12.0];
+        for pre_iterations in [1, 2, 5] {
+            let settings = Settings::plain(serial, pre_iterations);
+            add(case(Model::g(), settings, vec![1, 0]), &about);
+        }
+        add(
+            case(Model::g(), Settings::plain(serial, 3), vec![1, 1]),
+            &ends,
+        );
+        // A check of one entry sends alpha times 30, which is at the clip, beyond it, or within it. A clip of the prior's size leaves a zero.
+        let single = Model::single(crate::model::probability_of(2.0));
+        for (alpha, clips) in [
+            (1.0, [30.0, 30.0_f64.next_down(), 29.0, 2.0, 1.0]),
+            (2.0, [60.0, 60.0_f64.next_down(), 30.0, 2.0, 0.125]),
+            (1e308, [1e308, 30.0, 2.0, 1.0, f64::MAX]),
+        ] {
+            for bit in [0, 1] {
+                let settings = Settings {
+                    alpha,
+                    ..Settings::plain(serial, 2)
+                };
+                add(case(single.clone(), settings, vec![bit]), &clips);
+            }
+        }
+        // Messages that overflow, and are clipped. Two of the greatest clip overflow again where they are summed up.
+        for alpha in [1e300, f64::MAX] {
+            let settings = Settings {
+                alpha,
+                ..Settings::plain(serial, 4)
+            };
+            add(case(Model::g(), settings, vec![1, 1]), &[30.0, f64::MAX]);
+        }
+        add(
+            case(ring(), relayed(serial), vec![1, 0, 1, 0, 0]),
+            &[3.0, 0.25],
+        );
+        add(
+            case(ring(), relayed(serial), vec![1, 0, 0, 0, 0]),
+            &[3.0, 0.25],
+        );
+        add(heavy(serial), &[30.0, 20.0]);
+    }
+    add(
+        case(Model::nothing(), Settings::plain(false, 1), vec![]),
+        &[1.0],
+    );
+    // 9, and that it comes before the others.
+    add(good(), &BAD_CLIPS);
+    for (_, spoil) in SPOILED {
+        let mut spoiled = good();
+        spoil(&mut spoiled);
+        add(spoiled, &[0.0, 1.0]);
+    }
+    let mut random = SplitMix64::new(SEED_OF_CLIPPED);
+    for number in 0..RANDOM_CLIPPED {
+        let case = random_case(&mut random, number);
+        let clip = random_clip(&mut random, &case);
+        add(case, &[clip]);
+    }
+    cases
+}
+
+/// A clip that 9 takes: of the size of messages, or of one that arises, or the next float to it, or far from any.
+pub fn random_clip(random: &mut SplitMix64, case: &DecodeCase) -> f64 {
+    let DecodeCase {
+        model, settings, ..
+    } = case;
+    // What a check of one entry sends, and what one whose least entry is this prior sends at first.
+    let prior = match model.mechanisms() {
+        0 => 1.0,
+        count => {
+            let probability = model.probabilities[random.below(count)];
+            crate::exact::drive::priors(&[probability])[0].abs()
+        }
+    };
+    let sent = settings.alpha * random.pick(&[30.0, prior]);
+    let clip = match random.below(16) {
+        0 => random.pick(&[5e-324, 1e-310, f64::MIN_POSITIVE, 1e-300, 1e-20]),
+        1 => random.pick(&[1e20, 1e150, 1e300, f64::MAX / 2.0, f64::MAX]),
+        2 => 30.0,
+        3 | 4 => sent,
+        5 => sent.next_down(),
+        6 => sent.next_up(),
+        7 => sent * random.unit(),
+        8..=11 => 0.1 + 9.9 * random.unit(),
+        _ => 0.1 + 39.9 * random.unit(),
+    };
+    if clip > 0.0 && clip < f64::INFINITY {
+        clip
+    } else {
+        1.0
+    }
 }
 
 type Spoil = fn(&mut DecodeCase);
@@ -361,6 +530,7 @@ pub fn random_case(random: &mut SplitMix64, number: usize) -> DecodeCase {
     let settings = Settings {
         serial: random.once_in(2),
         alpha: random.pick(&ALPHAS),
+        clip: None,
         gamma0: random.pick(&[0.0, 0.1, 0.1, 0.5, 0.9, -0.2, -1.0, 1e200]),
         pre_iterations: random.between(1, 10),
         num_legs,

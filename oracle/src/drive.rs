@@ -98,13 +98,18 @@ pub fn decode(case: &DecodeCase) -> Result<Decoded, Refusal> {
 }
 
 /// The same over a graph that is handed in.
+///
+/// # Panics
+///
+/// If the case has a clip, which the Rust has not.
 pub fn decode_over(graph: BpGraph, case: &DecodeCase) -> Result<Decoded, Refusal> {
+    assert_eq!(case.settings.clip, None);
     decode_by(graph, case, |decoder| {
         decoder.decode(&case.syndrome, case.seed)
     })
 }
 
-/// The same by some call of the decoder.
+/// The same by some call of the decoder, which may have put a clip on.
 pub fn decode_by(
     graph: BpGraph,
     case: &DecodeCase,

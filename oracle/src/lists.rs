@@ -97,10 +97,17 @@ pub fn run(tally: &mut Tally) {
     order_of_tests(tally);
     counted_messages(tally, &decodes);
     features(tally, &beliefs.kept, &decodes);
+    let clipped = decode_cases::clipped();
+    clips(tally, &clipped);
+    heavy_models(tally);
     let lines = [
         list("graphs", graphs.iter().map(drive::graph_line)),
         list("beliefs", beliefs.kept.iter().map(drive::belief_line)),
         list("decodes", decodes.iter().map(drive::decode_line)),
+        list(
+            "decodes with a clip",
+            clipped.iter().map(stores::decode_line),
+        ),
     ]
     .concat();
     let size = write(tally, &lines);
@@ -117,6 +124,10 @@ pub fn run(tally: &mut Tally) {
     codes(
         "decodes",
         decodes.iter().map(|case| drive::decode(case).err()),
+    );
+    codes(
+        "decodes with a clip",
+        clipped.iter().map(|case| stores::decode(case).err()),
     );
 }
 
@@ -171,35 +182,120 @@ fn order_of_tests(tally: &mut Tally) {
 
 /// The copy that counts messages must answer as the published files do, and count what the formula says.
 fn counted_messages(tally: &mut Tally, decodes: &[DecodeCase]) {
-    let pairs: Vec<_> = decodes
-        .iter()
-        .map(|case| (case, drive::decode(case), stores::decode(case)))
-        .collect();
-    let alike = pairs.iter().filter(|(_, one, other)| match (one, other) {
-        (Ok(one), Ok(other)) => one.is_same(other),
-        (Err(one), Err(other)) => one == other,
-        _ => false,
-    });
+    let counted: Vec<_> = decodes.iter().map(stores::decode).collect();
+    let pairs = decodes.iter().zip(&counted);
+    let alike = pairs.filter(|(case, counted)| alike(&drive::decode(case), counted));
     let alike = alike.count();
     tally.check(
         "decodes on the copy that counts messages",
         alike == decodes.len(),
         &format!("{alike} of {} equal", decodes.len()),
     );
-    let answered: Vec<_> = pairs
-        .iter()
-        .filter_map(|(case, _, counted)| Some((case, counted.as_ref().ok()?)))
+    let name = "decodes: messages written, by the formula";
+    by_formula(tally, name, decodes, &counted);
+}
+
+type Answer = Result<Decoded, Refusal>;
+
+/// The same refusal, or the same outcome bit for bit.
+fn alike(one: &Answer, other: &Answer) -> bool {
+    match (one, other) {
+        (Ok(one), Ok(other)) => one.is_same(other),
+        (Err(one), Err(other)) => one == other,
+        _ => false,
+    }
+}
+
+/// What was counted must be what the formula says.
+fn by_formula(tally: &mut Tally, name: &str, decodes: &[DecodeCase], counted: &[Answer]) {
+    let answered = decodes.iter().zip(counted);
+    let answered: Vec<_> = answered
+        .filter_map(|(case, counted)| Some((case, counted.as_ref().ok()?)))
         .collect();
-    let formula = |(case, outcome): &&(&&DecodeCase, &Decoded)| {
+    let formula = |(case, outcome): &&(&DecodeCase, &Decoded)| {
         let each = stores::by_formula(case.settings.serial, &case.model.detectors);
         outcome.stores.map(u128::from) == Some(outcome.total as u128 * each)
     };
     let equal = answered.iter().filter(formula).count();
     tally.check(
-        "decodes: messages written, by the formula",
+        name,
         equal == answered.len() && equal > 0,
         &format!("{equal} of {} answered ones", answered.len()),
     );
+}
+
+/// Of the cases with a clip, which the copy answers: without it the copy must answer as the published files do, and the clip must do
+/// something, and nothing, each on both schedules.
+fn clips(tally: &mut Tally, clipped: &[DecodeCase]) {
+    let on: Vec<_> = clipped.iter().map(stores::decode).collect();
+    let without = |case: &DecodeCase| {
+        let mut case = case.clone();
+        case.settings.clip = None;
+        (drive::decode(&case), stores::decode(&case))
+    };
+    let off: Vec<_> = clipped.iter().map(without).collect();
+    let equal = off.iter().filter(|(rust, copy)| alike(rust, copy)).count();
+    tally.check(
+        "decodes with a clip, taken off",
+        equal == clipped.len() && equal > 0,
+        &format!("{equal} of {} as the published files answer", clipped.len()),
+    );
+    let name = "decodes with a clip: messages written, by the formula";
+    by_formula(tally, name, clipped, &on);
+    let code = |answer: &Answer| answer.as_ref().err().map(|refusal| refusal.code);
+    for serial in [false, true] {
+        let count = |holds: &dyn Fn(&Answer, &Answer) -> bool| {
+            let cases = clipped.iter().zip(on.iter().zip(&off));
+            cases
+                .filter(|(case, (on, (off, _)))| case.settings.serial == serial && holds(on, off))
+                .count()
+        };
+        let counts = [
+            count(&|on, off| on.is_ok() && alike(on, off)),
+            count(&|on, off| on.is_ok() && off.is_ok() && !alike(on, off)),
+            count(&|on, off| on.is_ok() && code(off) == Some(30)),
+            count(&|on, _| code(on) == Some(30)),
+        ];
+        let name = if serial { "CheckSerial" } else { "Flooding" };
+        tally.check(
+            &format!("decodes with a clip, {name}: as off, another outcome, one for 30, and 30"),
+            counts.iter().all(|count| *count > 0),
+            &format!("{counts:?} cases"),
+        );
+    }
+    let nine = on.iter().filter(|on| code(on) == Some(9)).count();
+    let bad = clipped
+        .iter()
+        .filter(|case| !stores::is_clip(case.settings.clip));
+    tally.check(
+        "decodes with a clip: 9",
+        nine == bad.count() && nine > 0,
+        &format!("{nine} cases"),
+    );
+}
+
+/// Models with busy mechanisms, which the published point refuses with 30, and with a clip of 30 decodes.
+fn heavy_models(tally: &mut Tally) {
+    for serial in [false, true] {
+        let mut case = decode_cases::heavy(serial);
+        let off = drive::decode(&case).err();
+        case.settings.clip = Some(30.0);
+        let on = stores::decode(&case).ok();
+        let weight = on.as_ref().and_then(|on| on.weight);
+        let happened: Vec<u8> = vec![1, 0, u8::from(serial)];
+        tally.check(
+            &format!("a heavy model, serial {serial}: 30, and with a clip what happened"),
+            off.map(|refusal| refusal.code) == Some(30)
+                && on.as_ref().is_some_and(|on| on.correction == happened)
+                && weight.is_some(),
+            &format!(
+                "{off:?}; weight {weight:?}, {:?} iterations, {:?} legs, posterior {:?}",
+                on.as_ref().map(|on| on.total),
+                on.as_ref().map(|on| on.legs.len()),
+                on.as_ref().map(|on| &on.posterior)
+            ),
+        );
+    }
 }
 
 /// The lines of one list.

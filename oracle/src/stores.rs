@@ -1,5 +1,5 @@
-//! The copy that counts the messages which its iterations write, and what runs a case on it. It takes log ratios as the open copy does, whose
-//! graph it has, and its checks may come in an order.
+//! The copy that counts the messages which its iterations write, and clips those of checks where a case says so, and what runs a case on it. It
+//! takes log ratios as the open copy does, whose graph it has, and its checks may come in an order.
 
 pub use pecos_bp_open::counting as bp;
 
@@ -8,16 +8,20 @@ pub mod drive;
 
 use crate::answers::{Decoded, Refusal};
 use crate::decode_cases::DecodeCase;
-use bp::BpGraph;
+use bp::{BpGraph, RelayBp, RelayOutcome};
+use pecos_decoder_core::errors::DecoderError;
 
 /// A decode with the messages counted.
 pub fn decode(case: &DecodeCase) -> Result<Decoded, Refusal> {
-    counted(|| drive::decode(case))
+    let graph = drive::sparse_graph(&case.model).expect("decode cases have models that build");
+    decode_over(graph, case)
 }
 
 /// The same over a graph that is handed in.
 pub fn decode_over(graph: BpGraph, case: &DecodeCase) -> Result<Decoded, Refusal> {
-    counted(|| drive::decode_over(graph, case))
+    decode_by(graph, case, |decoder| {
+        decoder.decode(&case.syndrome, case.seed)
+    })
 }
 
 /// The same with its checks in an order, which must name each once.
@@ -26,17 +30,39 @@ pub fn decode_in_order(
     case: &DecodeCase,
     order: &[u32],
 ) -> Result<Decoded, Refusal> {
-    counted(|| {
-        drive::decode_by(graph, case, |decoder| {
-            bp::decode_in_order(decoder, &case.syndrome, case.seed, order)
-        })
+    decode_by(graph, case, |decoder| {
+        bp::decode_in_order(decoder, &case.syndrome, case.seed, order)
     })
 }
 
-fn counted(run: impl FnOnce() -> Result<Decoded, Refusal>) -> Result<Decoded, Refusal> {
-    let (answer, stores) = bp::counted(run);
+/// 9 is ours, and is tested before the Rust's own tests of settings.
+fn decode_by(
+    graph: BpGraph,
+    case: &DecodeCase,
+    decode: impl FnOnce(&mut RelayBp) -> Result<RelayOutcome, DecoderError>,
+) -> Result<Decoded, Refusal> {
+    let clip = case.settings.clip;
+    if !is_clip(clip) {
+        return Err(Refusal { code: 9, place: 0 });
+    }
+    let (answer, stores) = bp::counted(|| {
+        drive::decode_by(graph, case, |decoder| {
+            bp::set_clip(decoder, clip);
+            decode(decoder)
+        })
+    });
     let stores = Some(stores);
     answer.map(|outcome| Decoded { stores, ..outcome })
+}
+
+/// The line of a case, with this copy's answer.
+pub fn decode_line(case: &DecodeCase) -> String {
+    case.line(&drive::priors(&case.model.probabilities), &decode(case))
+}
+
+/// Whether a clip is off, or finite and above 0.
+pub fn is_clip(clip: Option<f64>) -> bool {
+    clip.is_none_or(|limit| limit > 0.0 && limit < f64::INFINITY)
 }
 
 /// How many messages one iteration writes by the reference's formula, which knows the detectors of each mechanism and runs nothing.
@@ -60,7 +86,7 @@ pub fn by_degrees(serial: bool, degrees: &[usize]) -> u128 {
 #[cfg(test)]
 mod tests {
     use super::{by_degrees, by_formula, decode, decode_in_order, drive};
-    use crate::decode_cases::{DecodeCase, Settings};
+    use crate::decode_cases::{BAD_CLIPS, DecodeCase, Settings};
     use crate::exact;
     use crate::model::Model;
 
@@ -114,6 +140,57 @@ mod tests {
         let serial = decode_in_order(graph(), &case(true, 2), &[1, 0]).expect("R6");
         assert_eq!((serial.total, serial.stores), (1, Some(10)));
         assert_eq!(serial.posterior, [-4.0, 4.0, 8.0]);
+    }
+
+    /// A clip on G: at the first messages, 4, it does nothing, and just below them it does.
+    #[test]
+    fn with_a_clip() {
+        for serial in [false, true] {
+            let off = decode(&case(serial, 1)).expect("a finite posterior");
+            for (clip, same) in [(5.0, true), (4.0, true), (4.0_f64.next_down(), false)] {
+                let mut case = case(serial, 1);
+                case.settings.clip = Some(clip);
+                let on = decode(&case).expect("a finite posterior");
+                assert_eq!(on.is_same(&off), same);
+                assert_eq!(on.stores, off.stores);
+            }
+        }
+        // Check 0 sends -1 and -1, and check 1 sends 1 and 1.
+        let mut case = case(false, 1);
+        case.settings.clip = Some(1.0);
+        let on = decode(&case).expect("a finite posterior");
+        assert_eq!(on.posterior, [3.0, 4.0, 5.0]);
+    }
+
+    /// An infinite message is beyond every clip. A check of one entry sends 30, times alpha.
+    #[test]
+    fn of_one_entry() {
+        for (alpha, clip, posterior) in [
+            (1.0, None, -28.0),
+            (1.0, Some(30.0), -28.0),
+            (1.0, Some(5.0), -3.0),
+            (f64::MAX, Some(5.0), -3.0),
+        ] {
+            let mut case = case(false, 1);
+            case.model = Model::single(crate::model::probability_of(2.0));
+            case.syndrome = vec![1];
+            (case.settings.alpha, case.settings.clip) = (alpha, clip);
+            let outcome = decode(&case).expect("a finite posterior");
+            assert_eq!(outcome.posterior, [posterior]);
+        }
+    }
+
+    #[test]
+    fn a_bad_clip_is_9_before_10() {
+        for clip in BAD_CLIPS {
+            let mut case = case(false, 1);
+            case.settings.clip = Some(clip);
+            assert_eq!(decode(&case).expect_err("9").pair(), (9, 0));
+            case.settings.alpha = -1.0;
+            assert_eq!(decode(&case).expect_err("9").pair(), (9, 0));
+            case.settings.clip = None;
+            assert_eq!(decode(&case).expect_err("10").pair(), (10, 0));
+        }
     }
 
     /// The limits of 29.

@@ -8,7 +8,7 @@ macro_rules! refusals {
         /// Why a call refused, with its number.
         ///
         /// All refusals of the project are here. 40 to 45 belong to record streams, where [`Shots`](crate::Shots) says them in a
-        /// line and no call answers them; 9, 26 to 28 and those from 46 on are kept for calls to come.
+        /// line and no call answers them; 26 to 28 and those from 46 on are kept for calls to come.
         ///
         /// ```
         /// use chowderkite::Refusal;

@@ -45,48 +45,53 @@ impl RelayState {
 /// One Relay iteration over a state, the checks in a given order.
 ///
 /// A decode repeats this step. It takes every order that names each check once, those too that a decode refuses with 24: under
-/// [`Schedule::CheckSerial`] an order can change what comes out. `gamma` has a memory strength for each mechanism.
+/// [`Schedule::CheckSerial`] an order can change what comes out. `clip` is that of [`RelayConfig`](crate::RelayConfig), `None` for off,
+/// and `gamma` has a memory strength for each mechanism.
 ///
 /// ```
 /// use chowderkite::{iteration, BpGraph, RelayState, Schedule};
 ///
 /// let graph = BpGraph::from_sparse(2, &[(4.0, vec![0]), (4.0, vec![0, 1]), (4.0, vec![1])])?;
-/// let first = |order: [u32; 2]| {
+/// let first = |clip: Option<f64>, order: [u32; 2]| {
 ///     let mut state = RelayState::new(&graph);
-///     iteration(&graph, Schedule::CheckSerial, 1.0, &[0.0; 3], &[1, 0], &order, &mut state)?;
+///     iteration(&graph, Schedule::CheckSerial, 1.0, clip, &[0.0; 3], &[1, 0], &order, &mut state)?;
 ///     Ok::<_, chowderkite::Error>(state.posterior)
 /// };
-/// assert_eq!(first([0, 1])?, [0.0, 4.0, 4.0]);
-/// assert_eq!(first([1, 0])?, [-4.0, 4.0, 8.0]);
+/// assert_eq!(first(None, [0, 1])?, [0.0, 4.0, 4.0]);
+/// assert_eq!(first(None, [1, 0])?, [-4.0, 4.0, 8.0]);
+/// assert_eq!(first(Some(1.0), [0, 1])?, [3.0, 4.0, 5.0]);
 /// # Ok::<(), chowderkite::Error>(())
 /// ```
 ///
 /// # Errors
 ///
-/// 10, 20 to 23, 25, 30. 22 is for gammas or a state that do not fit the graph. 30 leaves positive zeroes in the state, and
+/// 9, 10, 20 to 23, 25, 30. 22 is for gammas or a state that do not fit the graph. 30 leaves positive zeroes in the state, and
 /// the others leave it as it was.
+#[allow(clippy::too_many_arguments)] // as the proved call has them
 pub fn iteration(
     graph: &BpGraph,
     schedule: Schedule,
     alpha: f64,
+    clip: Option<f64>,
     gamma: &[f64],
     syndrome: &[u8],
     order: &[u32],
     state: &mut RelayState,
 ) -> Result<(), Error> {
+    let asked = calls::Iteration {
+        schedule: schedule.byte(),
+        alpha,
+        clip_on: u8::from(clip.is_some()),
+        clip: clip.unwrap_or(0.0),
+        gamma,
+        syndrome,
+        order,
+    };
     let lists = calls::IterationLists {
         c_to_v: &mut state.c_to_v,
         v_to_c: &mut state.v_to_c,
         posterior: &mut state.posterior,
         bias: &mut state.bias,
     };
-    Error::of_code(calls::iteration(
-        graph.lent(),
-        schedule.byte(),
-        alpha,
-        gamma,
-        syndrome,
-        order,
-        lists,
-    ))
+    Error::of_code(calls::iteration(graph.lent(), asked, lists))
 }

@@ -86,6 +86,7 @@
 //! | gammas drawn by PECOS's generator | SplitMix64: other gammas for the same seed; [`GammaSource::drawn`] hands them out |
 //! | `RelayOutcome::legs` has executed legs | it has all; the first [`RelayOutcome::executed_legs`] were executed |
 //! | messages are not counted | [`RelayOutcome::stores`] |
+//! | check messages have no limit | [`RelayConfig::clip`], off unless it is said |
 //! | sizes up to `u32` | [`MAX_CHECKS`], [`MAX_MECHANISMS`], [`MAX_EDGES`], [`MAX_COUNT`] |
 //! | checks in index order | [`RelayBp::decode_in_order`] and [`iteration()`] take others |
 //!

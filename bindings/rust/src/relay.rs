@@ -77,7 +77,7 @@ impl GammaSource {
 ///
 /// let config = RelayConfig::default();
 /// assert_eq!(config.schedule, Schedule::Flooding);
-/// assert_eq!((config.alpha, config.gamma0), (1.0, 0.1));
+/// assert_eq!((config.alpha, config.clip, config.gamma0), (1.0, None, 0.1));
 /// assert_eq!((config.pre_iterations, config.num_legs, config.leg_iterations), (80, 40, 60));
 /// assert_eq!(config.gamma_range, (-0.24, 0.66));
 /// assert_eq!(config.stop_after_converged, 1);
@@ -104,6 +104,32 @@ pub struct RelayConfig {
     pub schedule: Schedule,
     /// Scale of check messages, finite and above 0.
     pub alpha: f64,
+    /// Clip of check messages, finite and above 0; `None` is off, which is what `pecos-bp` does.
+    ///
+    /// A check's message that is strictly greater in magnitude becomes the clip with its sign, once it has been scaled by `alpha`. Nothing
+    /// else is clipped.
+    ///
+    /// A mechanism sums up what its checks say, and hands it back to each of them. So where mechanisms are very busy, messages can grow many
+    /// times over with each iteration, until a posterior is not finite and 30 refuses. A clip bounds them; 30, as large as a prior can be,
+    /// is one to begin with.
+    ///
+    /// ```
+    /// use chowderkite::{BpGraph, RelayBp, RelayConfig};
+    ///
+    /// // Three mechanisms, which set off eight neighbouring checks each. The first of them happened.
+    /// let busy = [0..8, 1..9, 2..10].map(|checks| (4.0, checks.collect::<Vec<u32>>()));
+    /// let graph = BpGraph::from_sparse(10, &busy)?;
+    /// let decode = |clip: Option<f64>| {
+    ///     let config = RelayConfig { clip, ..RelayConfig::default() };
+    ///     RelayBp::new(graph.clone(), config)?.decode(&[1, 1, 1, 1, 1, 1, 1, 1, 0, 0], 7)
+    /// };
+    /// assert_eq!(decode(None).unwrap_err().number(), 30);
+    /// let outcome = decode(Some(30.0))?;
+    /// assert!(outcome.converged);
+    /// assert_eq!(outcome.correction, [1, 0, 0]);
+    /// # Ok::<(), chowderkite::Error>(())
+    /// ```
+    pub clip: Option<f64>,
     /// Memory strength of leg zero, for every mechanism.
     pub gamma0: f64,
     /// At most so many iterations in leg zero, 1 to 65,535.
@@ -125,8 +151,8 @@ impl Default for RelayConfig {
     fn default() -> Self {
         version::check();
         let (schedule, floats, counts) = calls::published();
-        let [alpha, gamma0, low, high] = floats;
-        let [pre_iterations, num_legs, leg_iterations, stop_after_converged] =
+        let [alpha, gamma0, low, high, clip] = floats;
+        let [pre_iterations, num_legs, leg_iterations, stop_after_converged, clip_on] =
             counts.map(|count| count as usize);
         Self {
             schedule: if schedule == 0 {
@@ -135,6 +161,7 @@ impl Default for RelayConfig {
                 Schedule::CheckSerial
             },
             alpha,
+            clip: (clip_on != 0).then_some(clip),
             gamma0,
             pre_iterations,
             num_legs,
@@ -151,7 +178,7 @@ impl RelayConfig {
     ///
     /// # Errors
     ///
-    /// 1 for the mechanisms; 10 to 19.
+    /// 1 for the mechanisms; 9 to 19.
     pub fn check(&self, mechanisms: usize) -> Result<(), Error> {
         version::check();
         Error::of_code(calls::check_settings(self.lent(), mechanisms))
@@ -165,6 +192,8 @@ impl RelayConfig {
         calls::Settings {
             schedule: self.schedule.byte(),
             alpha: self.alpha,
+            clip_on: u8::from(self.clip.is_some()),
+            clip: self.clip.unwrap_or(0.0),
             gamma0: self.gamma0,
             pre_iterations: self.pre_iterations,
             num_legs: self.num_legs,
@@ -339,7 +368,7 @@ impl RelayBp {
     ///
     /// # Errors
     ///
-    /// 10 to 19.
+    /// 9 to 19.
     pub fn new(graph: BpGraph, config: RelayConfig) -> Result<Self, Error> {
         config.check(graph.mechanism_count())?;
         let lists = DecodeLists::filled(graph.size(), config.num_legs + 1, 0);

@@ -6,7 +6,8 @@ use chowderkite_sys::streams::{self, Line, LINE, MAX_PAYLOAD};
 /// A run of the program `shots` over a record stream that is fed in pieces of any size: the proved session, with its lists.
 ///
 /// The reference has the stream's records and the lines; `./shots --help` and `tools/stream` in the repository say the same. Its room is
-/// 128 checks, 256 mechanisms, 512 edges and 16 relayed legs.
+/// 128 checks, 256 mechanisms, 512 edges and 16 relayed legs. A stream's settings say no [clip](crate::RelayConfig::clip), and mean that it is
+/// off.
 ///
 /// ```
 /// use chowderkite::Shots;

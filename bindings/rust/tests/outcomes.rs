@@ -232,52 +232,59 @@ fn seeded_is_explicit() {
     }
 }
 
-/// A decode is single iterations, leg by leg.
+/// A decode is single iterations, leg by leg, with a clip too.
 #[test]
 fn decode_is_iterations() {
     let mut random = Random::new(6);
     let graph = random.model(20, 50);
-    let order: Vec<u32> = (0..20).collect();
     for schedule in [Flooding, CheckSerial] {
         for _ in 0..20 {
             let syndrome = random.syndrome(&graph, 6);
             let seed = random.draw();
             let mut config = settings(schedule);
             config.gamma_source = GammaSource::drawn(config.gamma_range, seed, 2, 50);
-            let mut decoder = RelayBp::new(graph.clone(), config.clone()).unwrap();
-            let outcome = decoder.decode(&syndrome, seed).unwrap();
-
-            let GammaSource::Explicit { gammas, .. } = &config.gamma_source else {
-                unreachable!()
-            };
-            let mut state = RelayState::new(&graph);
-            for (leg, record) in outcome.legs[..outcome.executed_legs].iter().enumerate() {
-                let gamma = match leg {
-                    0 => vec![config.gamma0; 50],
-                    _ => gammas[(leg - 1) % 2 * 50..][..50].to_vec(),
-                };
-                state.start_leg(&graph);
-                for step in 1..=record.iterations() {
-                    iteration(
-                        &graph,
-                        schedule,
-                        config.alpha,
-                        &gamma,
-                        &syndrome,
-                        &order,
-                        &mut state,
-                    )
-                    .unwrap();
-                    let is_end = record.converged() && step == record.iterations();
-                    assert_eq!(matches(&graph, &state, &syndrome), is_end);
-                }
-                if let Some(correction) = record.correction() {
-                    assert_eq!(correction, decision(&state));
-                }
+            for clip in [None, Some(1.5), Some(1e-310)] {
+                config.clip = clip;
+                assert_is_iterations(&graph, &config, &syndrome);
             }
-            assert_eq!(bits(&state.posterior), bits(&outcome.posterior));
         }
     }
+}
+
+fn assert_is_iterations(graph: &BpGraph, config: &RelayConfig, syndrome: &[u8]) {
+    let order: Vec<u32> = (0..20).collect();
+    let mut decoder = RelayBp::new(graph.clone(), config.clone()).unwrap();
+    let outcome = decoder.decode(syndrome, 0).unwrap();
+    let GammaSource::Explicit { gammas, .. } = &config.gamma_source else {
+        unreachable!()
+    };
+    let mut state = RelayState::new(graph);
+    for (leg, record) in outcome.legs[..outcome.executed_legs].iter().enumerate() {
+        let gamma = match leg {
+            0 => vec![config.gamma0; 50],
+            _ => gammas[(leg - 1) % 2 * 50..][..50].to_vec(),
+        };
+        state.start_leg(graph);
+        for step in 1..=record.iterations() {
+            iteration(
+                graph,
+                config.schedule,
+                config.alpha,
+                config.clip,
+                &gamma,
+                syndrome,
+                &order,
+                &mut state,
+            )
+            .unwrap();
+            let is_end = record.converged() && step == record.iterations();
+            assert_eq!(matches(graph, &state, syndrome), is_end);
+        }
+        if let Some(correction) = record.correction() {
+            assert_eq!(correction, decision(&state));
+        }
+    }
+    assert_eq!(bits(&state.posterior), bits(&outcome.posterior));
 }
 
 fn decision(state: &RelayState) -> Vec<u8> {

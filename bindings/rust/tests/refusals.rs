@@ -7,7 +7,7 @@ use chowderkite::{
     GraphLists, Refusal, RelayBp, RelayConfig, RelayState, Schedule, MAX_CHECKS, MAX_COUNT,
     MAX_EDGES, MAX_MECHANISMS,
 };
-use common::{bits, model_g, plain, stores_at};
+use common::{bits, model_g, plain, stores_at, BAD_CLIPS};
 use Schedule::{CheckSerial, Flooding};
 
 fn assert_refused<T>(answer: Result<T, Error>, refusal: Refusal, place: Option<usize>) {
@@ -205,6 +205,50 @@ fn refusal_8() {
     );
 }
 
+/// Before 10, and behind 1; `tests/clip.rs` has the calls themselves.
+#[test]
+fn refusal_9() {
+    let graph = model_g();
+    let good = RelayState::new(&graph);
+    for clip in BAD_CLIPS {
+        let refusal = Refusal::BadClip;
+        assert_refused(new(|config| config.clip = Some(clip)), refusal, None);
+        for alpha in [1.0, 0.0, f64::NAN] {
+            let config = RelayConfig {
+                alpha,
+                clip: Some(clip),
+                ..RelayConfig::default()
+            };
+            assert_refused(config.check(3), refusal, None);
+            let answer = config.check(MAX_MECHANISMS + 1);
+            assert_refused(answer, Refusal::SizeAboveLimit, None);
+            let mut state = good.clone();
+            let clip = Some(clip);
+            assert_refused(
+                iteration(&graph, Flooding, alpha, clip, &[], &[2], &[0], &mut state),
+                refusal,
+                None,
+            );
+            assert_eq!(state, good);
+        }
+    }
+    assert_eq!(
+        new(|config| config.clip = Some(0.0))
+            .unwrap_err()
+            .to_string(),
+        "refused with 9, BadClip: clip not finite or not above 0"
+    );
+    for clip in [5e-324, f64::MIN_POSITIVE, 30.0, f64::MAX] {
+        new(|config| config.clip = Some(clip)).unwrap();
+        let config = RelayConfig {
+            alpha: 0.0,
+            clip: Some(clip),
+            ..RelayConfig::default()
+        };
+        assert_refused(config.check(3), Refusal::BadAlpha, None);
+    }
+}
+
 #[test]
 fn refusals_10_to_16() {
     let above = MAX_COUNT + 1;
@@ -281,7 +325,7 @@ fn refusals_20_and_21() {
     let mut step = |syndrome: &[u8]| {
         let order = [0, 1];
         iteration(
-            &graph, Flooding, 1.0, &[0.0; 3], syndrome, &order, &mut state,
+            &graph, Flooding, 1.0, None, &[0.0; 3], syndrome, &order, &mut state,
         )
     };
     for syndrome in [&[1][..], &[1, 0, 0]] {
@@ -328,7 +372,7 @@ fn refusal_22() {
     assert_eq!(posterior, [9.0; 3]);
 
     let step = |gamma: &[f64], state: &mut RelayState| {
-        iteration(&graph, Flooding, 1.0, gamma, &[1, 0], &[0, 1], state)
+        iteration(&graph, Flooding, 1.0, None, gamma, &[1, 0], &[0, 1], state)
     };
     let refusal = Refusal::LentListLength;
     assert_refused(step(&[0.0; 3], &mut RelayState::new(&other)), refusal, None);
@@ -351,7 +395,16 @@ fn refusals_23_and_24() {
         assert_refused(serial.decode_in_order(&[1, 0], 0, order), refusal, None);
         let mut state = RelayState::new(&graph);
         assert_refused(
-            iteration(&graph, Flooding, 1.0, &[0.0; 3], &[1, 0], order, &mut state),
+            iteration(
+                &graph,
+                Flooding,
+                1.0,
+                None,
+                &[0.0; 3],
+                &[1, 0],
+                order,
+                &mut state,
+            ),
             refusal,
             None,
         );
@@ -371,7 +424,16 @@ fn refusal_25() {
         change(&mut state);
         let before = bits(&state.posterior);
         assert_refused(
-            iteration(&graph, Flooding, 1.0, &gamma, &[1, 0], &[0, 1], &mut state),
+            iteration(
+                &graph,
+                Flooding,
+                1.0,
+                None,
+                &gamma,
+                &[1, 0],
+                &[0, 1],
+                &mut state,
+            ),
             Refusal::StateNotFinite,
             None,
         );
@@ -466,7 +528,16 @@ fn refusal_30() {
 
     let mut state = RelayState::new(&graph);
     assert_refused(
-        iteration(&graph, Flooding, huge, &[0.0; 3], &[1], &[0], &mut state),
+        iteration(
+            &graph,
+            Flooding,
+            huge,
+            None,
+            &[0.0; 3],
+            &[1],
+            &[0],
+            &mut state,
+        ),
         Refusal::NonFinite,
         Some(1),
     );

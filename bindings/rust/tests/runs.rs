@@ -75,6 +75,7 @@ fn r5_and_r6_first_serial_iteration() {
             &graph,
             CheckSerial,
             1.0,
+            None,
             &[0.0; 3],
             &[1, 0],
             &order,

@@ -168,6 +168,8 @@ fn none_where_refused() {
         let settings = calls::Settings {
             schedule: 1,
             alpha,
+            clip_on: 0,
+            clip: 0.0,
             gamma0: 0.0,
             pre_iterations: 2,
             num_legs: 0,

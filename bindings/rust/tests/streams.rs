@@ -1,6 +1,8 @@
-//! Record streams: the repository's examples in pieces of every kind, a cut stream, and what comes after a refusal.
+//! Record streams: the repository's examples in pieces of every kind, a cut stream, what comes after a refusal, and the clip, which no
+//! stream says.
 
 use chowderkite::Shots;
+use chowderkite_sys::streams::{self, LINE, MAX_PAYLOAD};
 use std::fs;
 use std::path::{Path, PathBuf};
 
@@ -59,4 +61,46 @@ fn nothing_is_said_after_a_refusal() {
     assert_eq!(shots.feed(&[0, 0, 0, 0, 9, 0]), b"stopped 41 0\n");
     assert_eq!(shots.feed(&example("g.stream")), b"");
     assert_eq!(shots.finish(), b"");
+}
+
+/// Settings of a stream mean that the clip is off. A session's own words can have it on, and then it acts, until other settings come.
+#[test]
+fn a_clip_of_a_session() {
+    const CLIP_ON: usize = 21;
+    const CLIP: usize = 4;
+    // A model of 70 bytes, settings of 55 and a shot of 16.
+    let stream = example("g.stream");
+    let (settings, shot) = (&stream[70..125], &stream[125..]);
+    let mut session = streams::session_new();
+    let (mut payload, mut model, mut line) =
+        (vec![0; MAX_PAYLOAD], vec![0; MAX_PAYLOAD], [0; LINE]);
+    let mut feed = |session: &mut streams::Session, bytes: &[u8]| {
+        let mut text = Vec::new();
+        for &byte in bytes {
+            streams::take(session, byte, &mut payload, &mut model, &mut line);
+            text.extend_from_slice(&line[..session.said()]);
+        }
+        String::from_utf8(text).unwrap()
+    };
+    let is_off = |session: &streams::Session| {
+        (session.words[CLIP_ON], session.floats[CLIP].to_bits()) == (0, 0)
+    };
+    assert!(is_off(&session));
+    feed(&mut session, &stream[..125]);
+    assert!(is_off(&session));
+    assert_eq!(feed(&mut session, shot), "shot 0 1 2 1 100\n");
+    for (number, on, clip, said) in [
+        (1, 1, 8.0, "1 2 1 100"),
+        (2, 1, 3.0, "0 2 1 000"),
+        (3, 7, 3.0, "0 2 1 000"),
+        (4, 0, 3.0, "1 2 1 100"),
+    ] {
+        (session.words[CLIP_ON], session.floats[CLIP]) = (on, clip);
+        let line = feed(&mut session, shot);
+        assert_eq!(line, format!("shot {number} {said}\n"));
+    }
+    (session.words[CLIP_ON], session.floats[CLIP]) = (1, 3.0);
+    feed(&mut session, settings);
+    assert!(is_off(&session));
+    assert_eq!(feed(&mut session, shot), "shot 5 1 2 1 100\n");
 }

@@ -1,8 +1,9 @@
 //! Whole decodes against the Rust, every field and every bit; and each again in several orders of its checks, against the decode in
 //! index order, or against a plain test of the order. What any of them leaves is held to the lines of `best`, and the messages that it
-//! wrote to the count of the copy that counts them, in the same order, and to the formula.
+//! wrote to the count of the copy that counts them, in the same order, and to the formula. Decodes with a clip are in `clips`.
 
 use crate::best::{self, Asked};
+use crate::clips;
 use crate::counts::Counts;
 use crate::damage::{damage_lists, nudge_length};
 use crate::given::{Given, model_of};
@@ -11,8 +12,8 @@ use crate::rounds::{Part, Rate};
 use crate::spoils;
 use crate::steps::random_order;
 use crate::table::{
-    MOST_COUNT, MOST_TURNS, test, wanted_alpha, wanted_lengths, wanted_lists, wanted_mechanisms,
-    wanted_names, wanted_stores, wanted_syndrome,
+    MOST_COUNT, MOST_TURNS, test, wanted_alpha, wanted_clip, wanted_lengths, wanted_lists,
+    wanted_mechanisms, wanted_names, wanted_stores, wanted_syndrome,
 };
 use oracle::answers::{Decoded, Refusal};
 use oracle::bits::is_zero;
@@ -24,7 +25,7 @@ use oracle::open::bp::{BpGraph, with_priors};
 use oracle::open::drive as open;
 use oracle::splitmix::SplitMix64;
 use oracle::stores;
-use proved::{Answer, Decode, Settings, Shot, Size};
+use proved::{Answer, Clip, Decode, Settings, Shot, Size};
 use std::collections::BTreeSet;
 
 const ORDERS: usize = 3;
@@ -62,16 +63,36 @@ pub const PARTS: &[Part] = &[
         rate: Rate::First(1),
         case: limits::at_the_limit,
     },
+    Part {
+        rate: Rate::Each(1),
+        case: clips::small,
+    },
+    Part {
+        rate: Rate::Every(4000),
+        case: clips::large,
+    },
+    Part {
+        rate: Rate::Every(20),
+        case: clips::heavy,
+    },
+    Part {
+        rate: Rate::Every(2),
+        case: clips::damaged,
+    },
+    Part {
+        rate: Rate::First(clips::ORDERS_OF_TESTS),
+        case: clips::order_of_tests,
+    },
 ];
 
 fn small(case: u64, random: &mut SplitMix64, counts: &mut Counts) {
     let case = random_case(random, case as usize);
-    let names = [
+    let names = Names::of([
         "decodes, small",
         "orders of small decodes",
         "legs, best of small decodes",
         "stores of small decodes",
-    ];
+    ]);
     compare(names, &case, random, counts);
 }
 
@@ -106,12 +127,12 @@ fn of_two_minds(_: u64, random: &mut SplitMix64, counts: &mut Counts) {
         },
         seed: random.draw(),
     };
-    let names = [
+    let names = Names::of([
         "decodes, of two minds",
         "orders of decodes of two minds",
         "legs, best of decodes of two minds",
         "stores of decodes of two minds",
-    ];
+    ]);
     compare(names, &case, random, counts);
 }
 
@@ -119,6 +140,7 @@ pub fn settings_of(case: &CaseSettings) -> Settings {
     Settings {
         serial: case.serial,
         alpha: case.alpha,
+        clip: Clip::of(case.clip),
         gamma0: case.gamma0,
         pre_iterations: case.pre_iterations,
         num_legs: case.num_legs,
@@ -139,6 +161,7 @@ pub fn case_of(settings: Settings, gammas: &[f64], mechanisms: usize) -> CaseSet
     CaseSettings {
         serial: settings.serial,
         alpha: settings.alpha,
+        clip: settings.clip.meant(),
         gamma0: settings.gamma0,
         pre_iterations: settings.pre_iterations,
         num_legs: settings.num_legs,
@@ -153,7 +176,7 @@ pub fn case_of(settings: Settings, gammas: &[f64], mechanisms: usize) -> CaseSet
     }
 }
 
-fn flat_of(case: &CaseSettings) -> Vec<f64> {
+pub fn flat_of(case: &CaseSettings) -> Vec<f64> {
     match &case.source {
         Source::Seeded => Vec::new(),
         Source::Explicit(sets) => sets.concat(),
@@ -277,13 +300,40 @@ pub fn check_stores(
 
 /// The name of a decode's comparison, that of its comparisons in other orders, that of the lines of what they leave, and that of the messages
 /// that they wrote.
-pub type Names = [&'static str; 4];
+#[derive(Clone, Copy)]
+pub struct Names {
+    names: [&'static str; 4],
+    /// Whether the reader of these lines is tried too.
+    tries_reader: bool,
+}
 
-/// One decode both ways, and then in other orders.
-fn compare(names: Names, case: &DecodeCase, random: &mut SplitMix64, counts: &mut Counts) {
+impl Names {
+    pub const fn of(names: [&'static str; 4]) -> Self {
+        let tries_reader = true;
+        Self {
+            names,
+            tries_reader,
+        }
+    }
+
+    /// Without trying the reader.
+    pub const fn alone(names: [&'static str; 4]) -> Self {
+        let tries_reader = false;
+        Self {
+            names,
+            tries_reader,
+        }
+    }
+}
+
+/// One decode both ways, and then in other orders. With a clip the other way is the copy that has one.
+pub fn compare(names: Names, case: &DecodeCase, random: &mut SplitMix64, counts: &mut Counts) {
     let (given, built) = Given::built(&case.model, random);
     let graph = open::sparse_graph(&case.model).expect("these models build");
-    let rust = drive::decode(case);
+    let rust = match case.settings.clip {
+        None => drive::decode(case),
+        Some(_) => stores::decode(case),
+    };
     compare_over(
         names,
         (&given, built),
@@ -297,7 +347,10 @@ fn compare(names: Names, case: &DecodeCase, random: &mut SplitMix64, counts: &mu
 /// The same over a graph that was built, beside what the Rust answers. The open copy's graph is for the copy that counts messages, which must
 /// come to what the Rust does.
 pub fn compare_over(
-    [name, orders, lines, written]: Names,
+    Names {
+        names: [name, orders, lines, written],
+        tries_reader,
+    }: Names,
     (given, built): (&Given, Answer),
     case: &DecodeCase,
     (rust, graph): (&Result<Decoded, Refusal>, &BpGraph),
@@ -311,7 +364,10 @@ pub fn compare_over(
     };
     let outcome = rust.as_ref().ok().zip(stores);
     let incidences = (case.settings.serial, case.model.detectors.as_slice());
-    let settings = settings_of(&case.settings);
+    let settings = Settings {
+        clip: clips::said(case),
+        ..settings_of(&case.settings)
+    };
     let gammas = flat_of(&case.settings);
     let legs = settings.num_legs + 1;
     let before = Decode::filled(given.size, legs + random.below(3), 9);
@@ -345,7 +401,7 @@ pub fn compare_over(
         syndrome: &case.syndrome,
         legs,
     };
-    if answer == Ok(()) && best::check(lines, asked, &left, counts) {
+    if answer == Ok(()) && best::check(lines, asked, &left, counts) && tries_reader {
         best::note(asked, &left, counts);
         spoils::check(asked, &left, seed_of_spoils(case), counts);
     }
@@ -445,12 +501,12 @@ const LARGE: [(usize, usize, usize, usize, usize); 4] = [
 
 fn large(case: u64, random: &mut SplitMix64, counts: &mut Counts) {
     let case = large_case(case, random);
-    let names = [
+    let names = Names::of([
         "decodes, large",
         "orders of large decodes",
         "legs, best of large decodes",
         "stores of large decodes",
-    ];
+    ]);
     compare(names, &case, random, counts);
 }
 
@@ -489,6 +545,7 @@ fn published(_: u64, _: &mut SplitMix64, counts: &mut Counts) {
     let case = CaseSettings {
         serial: ours.serial,
         alpha: ours.alpha,
+        clip: ours.clip.meant(),
         gamma0: ours.gamma0,
         pre_iterations: ours.pre_iterations,
         num_legs: ours.num_legs,
@@ -498,16 +555,18 @@ fn published(_: u64, _: &mut SplitMix64, counts: &mut Counts) {
         stop: ours.stop,
         source: Source::Seeded,
     };
-    let same = format!("{:?}", drive::config(&case, None)) == theirs;
+    let is_off = (ours.clip.on, ours.clip.magnitude.to_bits()) == (0, 0);
+    let same = is_off && format!("{:?}", drive::config(&case, None)) == theirs;
     counts.check("decodes, the published point", Ok(()), same, || {
         format!("{ours:?} for {theirs}")
     });
 }
 
-/// What the reference's table says of settings over as many mechanisms: 1, 10 to 19.
-fn wanted_settings(settings: Settings, gammas: &[f64], mechanisms: usize) -> Answer {
+/// What the reference's table says of settings over as many mechanisms: 1, 9 to 19.
+pub fn wanted_settings(settings: Settings, gammas: &[f64], mechanisms: usize) -> Answer {
     let finite = |value: f64| value.is_finite();
     wanted_mechanisms(mechanisms)?;
+    wanted_clip(settings.clip)?;
     wanted_alpha(settings.alpha)?;
     test(finite(settings.gamma0), 11)?;
     test((1..=MOST_TURNS).contains(&settings.pre_iterations), 12)?;
@@ -535,8 +594,8 @@ fn wanted_settings(settings: Settings, gammas: &[f64], mechanisms: usize) -> Ans
     }
 }
 
-/// What it says before the legs: 1, 2, 4, 7, 10 to 24, 29.
-fn wanted_before(given: &Given, settings: Settings, shot: Shot, left: &Decode) -> Answer {
+/// What it says before the legs: 1, 2, 4, 7, 9 to 24, 29.
+pub fn wanted_before(given: &Given, settings: Settings, shot: Shot, left: &Decode) -> Answer {
     wanted_lists(given)?;
     let mechanisms = given.size.mechanisms;
     wanted_settings(settings, shot.gammas, mechanisms)?;
@@ -588,10 +647,27 @@ fn damage_settings(random: &mut SplitMix64, settings: &mut Settings) {
 }
 
 fn damaged(_: u64, random: &mut SplitMix64, counts: &mut Counts) {
+    let names = [
+        "settings, damaged",
+        "decodes, damaged",
+        "legs, best of damaged decodes",
+        "stores of damaged decodes",
+    ];
+    compare_damaged(names, Clip::OFF, random, counts);
+}
+
+/// A call with a clip, damaged in one place or two.
+pub fn compare_damaged(
+    [alone, name, lines, written]: [&'static str; 4],
+    clip: Clip,
+    random: &mut SplitMix64,
+    counts: &mut Counts,
+) {
     let round = random.below(2);
     let mut case = random_case(random, round);
     let (mut given, built) = Given::built(&case.model, random);
     let mut settings = settings_of(&case.settings);
+    settings.clip = clip;
     settings.num_legs = settings.num_legs.min(2);
     let mut gammas = flat_of(&case.settings);
     let mut order = some_order(&given, random);
@@ -641,7 +717,7 @@ fn damaged(_: u64, random: &mut SplitMix64, counts: &mut Counts) {
     };
     let wanted = wanted_settings(settings, &gammas, mechanisms);
     let answer = proved::check_settings(settings, &gammas, mechanisms);
-    counts.check("settings, damaged", wanted, answer == wanted, || {
+    counts.check(alone, wanted, answer == wanted, || {
         format!("{answer:?} for {wanted:?}: {settings:?}, {mechanisms} mechanisms, {gammas:?}")
     });
     let wanted = wanted_before(&given, settings, shot, &left);
@@ -665,7 +741,7 @@ fn damaged(_: u64, random: &mut SplitMix64, counts: &mut Counts) {
         },
         Err(_) => answer == wanted && bits(&left) == bits(&before),
     };
-    counts.check("decodes, damaged", wanted, good && built == Ok(()), || {
+    counts.check(name, wanted, good && built == Ok(()), || {
         format!("{answer:?} for {wanted:?}: {settings:?}, {shot:?}, {given:?}")
     });
     if (wanted, answer) == (Ok(()), Ok(())) {
@@ -677,11 +753,10 @@ fn damaged(_: u64, random: &mut SplitMix64, counts: &mut Counts) {
             syndrome: &case.syndrome,
             legs: settings.num_legs + 1,
         };
-        best::check("legs, best of damaged decodes", asked, &left, counts);
+        best::check(lines, asked, &left, counts);
         let counted = count_again(&given, &detectors, settings, shot);
         let incidences = (settings.serial, detectors.as_slice());
-        let name = "stores of damaged decodes";
-        check_stores(name, incidences, (&counted, None), &left, counts);
+        check_stores(written, incidences, (&counted, None), &left, counts);
     }
 }
 

@@ -4,6 +4,7 @@
 mod beliefs;
 mod best;
 mod chances;
+mod clips;
 mod counts;
 mod damage;
 mod decodes;

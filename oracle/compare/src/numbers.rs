@@ -2,9 +2,10 @@
 
 use crate::counts::Counts;
 use crate::rounds::{Part, Rate};
-use crate::table::test;
+use crate::table::{test, wanted_clip};
 use oracle::bits::same;
 use oracle::splitmix::SplitMix64;
+use proved::Clip;
 
 pub const PARTS: &[Part] = &[
     Part {
@@ -14,6 +15,10 @@ pub const PARTS: &[Part] = &[
     Part {
         rate: Rate::Each(4),
         case: stores_fit,
+    },
+    Part {
+        rate: Rate::Each(4),
+        case: clip_good,
     },
 ];
 
@@ -95,4 +100,26 @@ fn stores_fit(_: u64, g: &mut SplitMix64, counts: &mut Counts) {
     counts.check("numbers, of 29", wanted, fits == wanted.is_ok(), || {
         format!("{fits} for {iterations} iterations of {each} messages")
     });
+}
+
+/// Test 9 of a clip: of any float, and of all bytes.
+fn clip_good(_: u64, g: &mut SplitMix64, counts: &mut Counts) {
+    let magnitude = any_float(g);
+    let on = match g.below(4) {
+        0 => 0,
+        1 => 1,
+        _ => g.below(256) as u8,
+    };
+    let clip = Clip { on, magnitude };
+    // By the bits alone: a number above 0 that is finite has bits from 1 up to those of the greatest.
+    let bits = magnitude.to_bits();
+    let is_good = on == 0 || (1..=f64::MAX.to_bits()).contains(&bits);
+    let wanted = wanted_clip(clip);
+    let good = proved::clip_good(clip);
+    counts.check(
+        "numbers, of 9",
+        wanted,
+        good == is_good && wanted.is_ok() == is_good,
+        || format!("{good} for {clip:?}, bits {bits:016x}"),
+    );
 }

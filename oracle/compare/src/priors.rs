@@ -559,22 +559,22 @@ fn decode(names: Names, mut case: DecodeCase, random: &mut SplitMix64, counts: &
 fn decodes(case: u64, random: &mut SplitMix64, counts: &mut Counts) {
     let mut case = random_case(random, case as usize);
     case.model = with_chances(case.model, random);
-    let names = [
+    let names = Names::of([
         "decodes of probabilities",
         "orders of decodes of probabilities",
         "legs, best of decodes of probabilities",
         "stores of decodes of probabilities",
-    ];
+    ]);
     decode(names, case, random, counts);
 }
 
 fn large_decodes(case: u64, random: &mut SplitMix64, counts: &mut Counts) {
     let case = decodes::large_case(2 * case, random);
-    let names = [
+    let names = Names::of([
         "large decodes of probabilities",
         "orders of large decodes of probabilities",
         "legs, best of large decodes of probabilities",
         "stores of large decodes of probabilities",
-    ];
+    ]);
     decode(names, case, random, counts);
 }

@@ -5,7 +5,7 @@ use crate::counts::Counts;
 use crate::rounds::{Part, Rate};
 use oracle::bits::same;
 use oracle::splitmix::SplitMix64;
-use proved::streams::{self as calls, Line, MAX_PAYLOAD};
+use proved::streams::{self as calls, Line, MAX_PAYLOAD, Session};
 use streams::expect::{self, Asked};
 use streams::random;
 
@@ -23,10 +23,13 @@ pub const PARTS: &[Part] = &[
 fn stream(_: u64, g: &mut SplitMix64, counts: &mut Counts) {
     let stream = random::stream(g);
     let wanted = expect::run(&stream);
-    let found = said(&stream);
-    counts.check("sessions", Ok(()), found == wanted.text.as_bytes(), || {
+    let (found, session) = said(&stream);
+    // No stream says a clip.
+    let is_off = (session.words[CLIP_ON], session.floats[CLIP].to_bits()) == (0, 0);
+    let good = found == wanted.text.as_bytes() && is_off;
+    counts.check("sessions", Ok(()), good, || {
         format!(
-            "{stream:?} gave {:?}, wanted {:?}",
+            "{stream:?} gave {:?}, wanted {:?}, {session:?}",
             String::from_utf8_lossy(&found),
             wanted.text
         )
@@ -73,8 +76,12 @@ fn bit(digit: &[u8]) -> Option<bool> {
     }
 }
 
-/// What a session says of a stream.
-fn said(stream: &[u8]) -> Vec<u8> {
+/// Where a session has its settings' clip: among the words and among the floats.
+const CLIP_ON: usize = 21;
+const CLIP: usize = 4;
+
+/// What a session says of a stream, and what it is then.
+fn said(stream: &[u8]) -> (Vec<u8>, Session) {
     let mut session = calls::session_new();
     let (mut payload, mut model, mut line) = (vec![9; MAX_PAYLOAD], vec![9; MAX_PAYLOAD], [9; 512]);
     let mut text = Vec::new();
@@ -84,7 +91,7 @@ fn said(stream: &[u8]) -> Vec<u8> {
     }
     let length = calls::finish(&session, &mut line);
     text.extend_from_slice(&line[..length]);
-    text
+    (text, session)
 }
 
 fn number(bytes: &[u8]) -> u64 {
@@ -181,7 +188,7 @@ fn is_model(reader: &calls::Reader, payload: &[u8], bytes: &[u8]) -> bool {
 
 /// Whether settings that 41 to 45 let through are read as their bytes lie.
 fn is_settings(payload: &[u8], bytes: &[u8]) -> bool {
-    let (schedule, floats, counts) = calls::read_settings(payload);
+    let (schedule, [floats @ .., clip], [counts @ .., clip_on]) = calls::read_settings(payload);
     let wanted = [1, 9, 29, 37].map(|place| float(&bytes[place..place + 8]));
     schedule == bytes[0]
         && floats
@@ -189,6 +196,8 @@ fn is_settings(payload: &[u8], bytes: &[u8]) -> bool {
             .zip(wanted)
             .all(|(found, wanted)| same(*found, wanted))
         && counts == [17, 21, 25, 45].map(|place| number(&bytes[place..place + 4]))
+        // They say no clip, and mean that it is off.
+        && (clip_on, clip.to_bits()) == (0, 0)
 }
 
 /// A line over the front of a list whose surplus is kept.

@@ -4,7 +4,7 @@
 use crate::given::{Given, rust};
 use oracle::graph_cases::{GraphCase, Incidence};
 use oracle::stores;
-use proved::{Answer, Lists, Settings, Size};
+use proved::{Answer, Clip, Lists, Settings, Size};
 use std::collections::BTreeSet;
 
 pub const MOST_COUNT: usize = 65_536;
@@ -190,6 +190,14 @@ fn told(size: Size, lists: &Lists) -> Option<GraphCase> {
 /// 1, of the mechanisms alone.
 pub fn wanted_mechanisms(mechanisms: usize) -> Answer {
     test(mechanisms <= MOST_COUNT, 1)
+}
+
+/// 9: a clip that is on.
+pub fn wanted_clip(clip: Clip) -> Answer {
+    test(
+        clip.on == 0 || clip.magnitude.is_finite() && clip.magnitude > 0.0,
+        9,
+    )
 }
 
 pub fn wanted_alpha(alpha: f64) -> Answer {

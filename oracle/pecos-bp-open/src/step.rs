@@ -1,13 +1,28 @@
-    //! Put at the end of the published relay.rs by build.rs, as a module of it: `super` is that file.
+    //! Put at the end of each copy of relay.rs by build.rs, as a module of it: `super` is that file.
 
-    use super::{RelayBp, Schedule};
+    use super::{RelayBp, RelayConfig, Schedule};
+    use crate::{BpGraph, State};
+    use pecos_decoder_core::dem::SparseDem;
 
-    /// What an iteration starts from, and what it leaves.
-    #[derive(Clone, Debug)]
-    pub struct State {
-        pub c_to_v: Vec<f64>,
-        pub v_to_c: Vec<f64>,
-        pub posterior: Vec<f64>,
+    /// A decoder for single iterations over a model.
+    ///
+    /// # Panics
+    ///
+    /// If the model or alpha is refused.
+    #[must_use]
+    pub fn stepping(model: &SparseDem, serial: bool, alpha: f64) -> RelayBp {
+        let config = RelayConfig {
+            schedule: if serial {
+                Schedule::CheckSerial
+            } else {
+                Schedule::Flooding
+            },
+            alpha,
+            num_legs: 0,
+            ..RelayConfig::default()
+        };
+        let graph = BpGraph::from_sparse_dem(model).expect("the model builds");
+        RelayBp::new(graph, config).expect("the settings are good")
     }
 
     /// One iteration from a state and its gammas, with the checks in the order given.

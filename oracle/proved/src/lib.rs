@@ -12,8 +12,8 @@ pub use chowderkite_sys::lists::{DecodeLists as Decode, GraphLists as Lists, Siz
 pub use chowderkite_sys::{chowderkite_number_of as number_of, chowderkite_place_of as place_of};
 pub use priors::{build_dense_probabilities, build_sparse_probabilities, prior_of, priors_of};
 pub use single::{
-    alpha_good, draw, gamma, infinity, is_finite, is_negative, is_of_shot, magnitude, message_sign,
-    next_state, stores_fit, unit, wrapping_mul,
+    alpha_good, clip_good, draw, gamma, infinity, is_finite, is_negative, is_of_shot, magnitude,
+    message_sign, next_state, stores_fit, unit, wrapping_mul,
 };
 
 /// What a call answers: nothing, or a refusal's number and place in the reference's table. The place is 0 where it has none.
@@ -149,11 +149,36 @@ impl Step {
     }
 }
 
+/// A clip as the calls take it: a byte that is 0 for off, and a magnitude, which then is not to be looked at.
+#[derive(Clone, Copy, Debug)]
+pub struct Clip {
+    pub on: u8,
+    pub magnitude: f64,
+}
+
+impl Clip {
+    pub const OFF: Self = Self {
+        on: 0,
+        magnitude: 0.0,
+    };
+
+    /// Off, or on with a magnitude.
+    pub fn of(clip: Option<f64>) -> Self {
+        clip.map_or(Self::OFF, |magnitude| Self { on: 1, magnitude })
+    }
+
+    /// What it means.
+    pub fn meant(self) -> Option<f64> {
+        (self.on != 0).then_some(self.magnitude)
+    }
+}
+
 /// A single iteration: what is asked for beside the graph.
 #[derive(Clone, Copy, Debug)]
 pub struct Iteration<'a> {
     pub serial: bool,
     pub alpha: f64,
+    pub clip: Clip,
     pub gamma: &'a [f64],
     pub syndrome: &'a [u8],
     pub order: &'a [u32],
@@ -169,11 +194,15 @@ pub fn iteration(
     let [c_to_v, v_to_c, posterior, bias] = step.each();
     answer(calls::iteration(
         lists.graph(size, priors),
-        u8::from(iteration.serial),
-        iteration.alpha,
-        iteration.gamma,
-        iteration.syndrome,
-        iteration.order,
+        calls::Iteration {
+            schedule: u8::from(iteration.serial),
+            alpha: iteration.alpha,
+            clip_on: iteration.clip.on,
+            clip: iteration.clip.magnitude,
+            gamma: iteration.gamma,
+            syndrome: iteration.syndrome,
+            order: iteration.order,
+        },
         calls::IterationLists {
             c_to_v,
             v_to_c,
@@ -188,6 +217,7 @@ pub fn iteration(
 pub struct Settings {
     pub serial: bool,
     pub alpha: f64,
+    pub clip: Clip,
     pub gamma0: f64,
     pub pre_iterations: usize,
     pub num_legs: usize,
@@ -203,6 +233,8 @@ impl Settings {
         calls::Settings {
             schedule: u8::from(self.serial),
             alpha: self.alpha,
+            clip_on: self.clip.on,
+            clip: self.clip.magnitude,
             gamma0: self.gamma0,
             pre_iterations: self.pre_iterations,
             num_legs: self.num_legs,
@@ -220,11 +252,13 @@ impl Settings {
 /// The published operating point.
 pub fn published() -> Settings {
     let (schedule, floats, counts) = calls::published();
-    let [alpha, gamma0, low, high] = floats;
-    let [pre_iterations, num_legs, leg_iterations, stop] = counts.map(|count| count as usize);
+    let [alpha, gamma0, low, high, magnitude] = floats;
+    let [pre_iterations, num_legs, leg_iterations, stop, on] = counts.map(|count| count as usize);
+    let on = on as u8;
     Settings {
         serial: schedule != 0,
         alpha,
+        clip: Clip { on, magnitude },
         gamma0,
         pre_iterations,
         num_legs,

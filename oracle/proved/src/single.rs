@@ -1,5 +1,7 @@
 //! The calls of `exports_compare` over single numbers.
 
+use crate::Clip;
+
 unsafe extern "C" {
     /// The magnitude of `x`.
     pub safe fn chowderkite_magnitude(x: f64) -> f64;
@@ -34,6 +36,9 @@ unsafe extern "C" {
     /// 1 if 10 passes an alpha, else 0.
     pub safe fn chowderkite_alpha_good(alpha: f64) -> u8;
 
+    /// 1 if 9 passes a clip, else 0.
+    pub safe fn chowderkite_clip_good(clip_on: u8, clip: f64) -> u8;
+
     /// Test 29 alone, of so many iterations that write so many messages each: 1 if it is passed, else 0.
     pub safe fn chowderkite_stores_fit(iterations: u64, each: u64) -> u8;
 
@@ -52,6 +57,10 @@ pub use chowderkite_wrapping_mul as wrapping_mul;
 
 pub fn alpha_good(alpha: f64) -> bool {
     chowderkite_alpha_good(alpha) == 1
+}
+
+pub fn clip_good(clip: Clip) -> bool {
+    chowderkite_clip_good(clip.on, clip.magnitude) == 1
 }
 
 pub fn stores_fit(iterations: u64, each: u64) -> bool {

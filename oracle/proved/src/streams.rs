@@ -57,8 +57,8 @@ unsafe extern "C" {
     unsafe fn chowderkite_read_settings(
         payload: *const u8,
         payload_len: usize,
-        floats: *mut [f64; 4],
-        counts: *mut [u64; 4],
+        floats: *mut [f64; 5],
+        counts: *mut [u64; 5],
     ) -> u8;
 
     /// The seed of a shot's payload.
@@ -156,8 +156,8 @@ pub fn read_model(
 }
 
 /// The settings of their payload, as `chowderkite_sys::calls::published` has them.
-pub fn read_settings(payload: &[u8]) -> (u8, [f64; 4], [u64; 4]) {
-    let (mut floats, mut counts) = ([0.0; 4], [0; 4]);
+pub fn read_settings(payload: &[u8]) -> (u8, [f64; 5], [u64; 5]) {
+    let (mut floats, mut counts) = ([0.0; 5], [0; 5]);
     // SAFETY: as in `push`.
     let schedule = unsafe {
         chowderkite_read_settings(payload.as_ptr(), payload.len(), &mut floats, &mut counts)

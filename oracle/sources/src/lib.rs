@@ -1,5 +1,6 @@
 //! For the build scripts: where the published files stand, and how they are handed to the compiler.
 
+pub mod changes;
 pub mod marks;
 pub mod writes;
 

@@ -123,7 +123,11 @@ impl Settings {
     }
 
     /// Settings of a case, whatever their source.
+    /// # Panics
+    ///
+    /// If they have a clip, which no record says.
     pub fn of(case: &decode_cases::Settings) -> Self {
+        assert_eq!(case.clip, None);
         Self {
             schedule: u8::from(case.serial),
             alpha: case.alpha,

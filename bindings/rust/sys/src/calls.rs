@@ -34,11 +34,13 @@ pub struct MadeLists<'a> {
     pub graph: GraphLists<'a>,
 }
 
-/// Settings of Relay. `schedule` is 0 for Flooding, and `explicit` is 0 for gammas that are drawn.
+/// Settings of Relay. `schedule` is 0 for Flooding, `clip_on` for no clip, and `explicit` for gammas that are drawn.
 #[derive(Clone, Copy, Debug)]
 pub struct Settings<'a> {
     pub schedule: u8,
     pub alpha: f64,
+    pub clip_on: u8,
+    pub clip: f64,
     pub gamma0: f64,
     pub pre_iterations: usize,
     pub num_legs: usize,
@@ -58,6 +60,18 @@ pub struct BeliefLists<'a> {
     pub ewa_posterior: &'a mut [f64],
     pub c_to_v: &'a mut [f64],
     pub v_to_c: &'a mut [f64],
+}
+
+/// What [`iteration`] takes beside the graph; `schedule` and `clip_on` as in [`Settings`].
+#[derive(Clone, Copy, Debug)]
+pub struct Iteration<'a> {
+    pub schedule: u8,
+    pub alpha: f64,
+    pub clip_on: u8,
+    pub clip: f64,
+    pub gamma: &'a [f64],
+    pub syndrome: &'a [u8],
+    pub order: &'a [u32],
 }
 
 /// What [`iteration`] takes and gives back; the bias is for work.
@@ -343,12 +357,12 @@ pub fn beliefs(
     }
 }
 
-/// The published operating point: its schedule; alpha, gamma0, gamma_low and gamma_high; pre_iterations, num_legs, leg_iterations
-/// and stop_after_converged.
+/// The published operating point: its schedule; alpha, gamma0, gamma_low, gamma_high and the clip, 0.0 for off; pre_iterations, num_legs,
+/// leg_iterations, stop_after_converged, and 1 or 0 for a clip that is on or off.
 #[inline]
 #[must_use]
-pub fn published() -> (u8, [f64; 4], [u64; 4]) {
-    let (mut floats, mut counts) = ([0.0; 4], [0; 4]);
+pub fn published() -> (u8, [f64; 5], [u64; 5]) {
+    let (mut floats, mut counts) = ([0.0; 5], [0; 5]);
     // SAFETY: both are arrays of the length that the call writes, and apart.
     let schedule = unsafe { crate::chowderkite_published(&mut floats, &mut counts) };
     (schedule, floats, counts)
@@ -363,6 +377,8 @@ pub fn check_settings(settings: Settings, mechanisms: usize) -> u64 {
         crate::chowderkite_check_settings(
             settings.schedule,
             settings.alpha,
+            settings.clip_on,
+            settings.clip,
             settings.gamma0,
             settings.pre_iterations,
             settings.num_legs,
@@ -409,6 +425,8 @@ pub fn decode(
             graph.var_offset.len(),
             settings.schedule,
             settings.alpha,
+            settings.clip_on,
+            settings.clip,
             settings.gamma0,
             settings.pre_iterations,
             settings.num_legs,
@@ -480,6 +498,8 @@ pub fn decode_in_order(
             graph.var_offset.len(),
             settings.schedule,
             settings.alpha,
+            settings.clip_on,
+            settings.clip,
             settings.gamma0,
             settings.pre_iterations,
             settings.num_legs,
@@ -552,15 +572,7 @@ pub fn leg_record(
 /// One Relay iteration, the checks in the order that is handed in.
 #[inline]
 #[must_use]
-pub fn iteration(
-    graph: Graph,
-    schedule: u8,
-    alpha: f64,
-    gamma: &[f64],
-    syndrome: &[u8],
-    order: &[u32],
-    lists: IterationLists,
-) -> u64 {
+pub fn iteration(graph: Graph, asked: Iteration, lists: IterationLists) -> u64 {
     // SAFETY: as in `build_sparse`.
     unsafe {
         crate::chowderkite_iteration(
@@ -579,14 +591,16 @@ pub fn iteration(
             graph.var_message.len(),
             graph.var_offset.as_ptr(),
             graph.var_offset.len(),
-            schedule,
-            alpha,
-            gamma.as_ptr(),
-            gamma.len(),
-            syndrome.as_ptr(),
-            syndrome.len(),
-            order.as_ptr(),
-            order.len(),
+            asked.schedule,
+            asked.alpha,
+            asked.clip_on,
+            asked.clip,
+            asked.gamma.as_ptr(),
+            asked.gamma.len(),
+            asked.syndrome.as_ptr(),
+            asked.syndrome.len(),
+            asked.order.as_ptr(),
+            asked.order.len(),
             lists.c_to_v.as_mut_ptr(),
             lists.c_to_v.len(),
             lists.v_to_c.as_mut_ptr(),

@@ -29,7 +29,7 @@ pub mod lists;
 pub mod streams;
 
 /// The version of the calls that are declared here; [`chowderkite_version`] answers that of the archive that is linked.
-pub const VERSION: u64 = 3;
+pub const VERSION: u64 = 4;
 
 unsafe extern "C" {
     /// The version of the calls: raised whenever a call, a list or a code changes its meaning.
@@ -197,14 +197,16 @@ unsafe extern "C" {
         v_to_c_len: usize,
     ) -> u64;
 
-    /// Writes the published operating point: alpha, gamma0, gamma_low, gamma_high; pre_iterations, num_legs, leg_iterations,
-    /// stop_after_converged. Answers its schedule.
-    pub unsafe fn chowderkite_published(floats: *mut [f64; 4], counts: *mut [u64; 4]) -> u8;
+    /// Writes the published operating point: alpha, gamma0, gamma_low, gamma_high, the clip or 0.0; pre_iterations, num_legs,
+    /// leg_iterations, stop_after_converged, 1 or 0 for a clip that is on or off. Answers its schedule.
+    pub unsafe fn chowderkite_published(floats: *mut [f64; 5], counts: *mut [u64; 5]) -> u8;
 
     /// Tests settings over so many mechanisms.
     pub unsafe fn chowderkite_check_settings(
         schedule: u8,
         alpha: f64,
+        clip_on: u8,
+        clip: f64,
         gamma0: f64,
         pre_iterations: usize,
         num_legs: usize,
@@ -239,6 +241,8 @@ unsafe extern "C" {
         var_offset_len: usize,
         schedule: u8,
         alpha: f64,
+        clip_on: u8,
+        clip: f64,
         gamma0: f64,
         pre_iterations: usize,
         num_legs: usize,
@@ -296,6 +300,8 @@ unsafe extern "C" {
         var_offset_len: usize,
         schedule: u8,
         alpha: f64,
+        clip_on: u8,
+        clip: f64,
         gamma0: f64,
         pre_iterations: usize,
         num_legs: usize,
@@ -368,6 +374,8 @@ unsafe extern "C" {
         var_offset_len: usize,
         schedule: u8,
         alpha: f64,
+        clip_on: u8,
+        clip: f64,
         gamma: *const f64,
         gamma_len: usize,
         syndrome: *const u8,
@@ -391,12 +399,12 @@ unsafe extern "C" {
     pub safe fn chowderkite_place_of(code: u64) -> u64;
 
     /// A session before the first byte of a stream.
-    pub unsafe fn chowderkite_session_new(words: *mut [usize; 21], floats: *mut [f64; 4]);
+    pub unsafe fn chowderkite_session_new(words: *mut [usize; 22], floats: *mut [f64; 5]);
 
     /// One byte of the stream, to a session.
     pub unsafe fn chowderkite_take(
-        words: *mut [usize; 21],
-        floats: *mut [f64; 4],
+        words: *mut [usize; 22],
+        floats: *mut [f64; 5],
         byte: u8,
         payload: *mut u8,
         payload_len: usize,
@@ -407,8 +415,8 @@ unsafe extern "C" {
 
     /// The end of the stream, to a session: how long the last line is.
     pub unsafe fn chowderkite_finish(
-        words: *const [usize; 21],
-        floats: *const [f64; 4],
+        words: *const [usize; 22],
+        floats: *const [f64; 5],
         line: *mut [u8; 512],
     ) -> usize;
 }

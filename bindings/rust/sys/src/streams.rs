@@ -1,10 +1,10 @@
 //! The calls over record streams, in safe Rust: a slice goes with its own length, and one that is written is borrowed alone.
 
 /// How many words a session has.
-pub const SESSION_WORDS: usize = 21;
+pub const SESSION_WORDS: usize = 22;
 
 /// And how many floats.
-pub const SESSION_FLOATS: usize = 4;
+pub const SESSION_FLOATS: usize = 5;
 
 /// What a line has room for.
 pub const LINE: usize = 512;
@@ -20,7 +20,7 @@ pub const MAX_PAYLOAD: usize = 5132;
 pub struct Session {
     /// The words.
     pub words: [usize; SESSION_WORDS],
-    /// Alpha, gamma0, gamma_low and gamma_high.
+    /// Alpha, gamma0, gamma_low, gamma_high and the clip, 0.0 for off.
     pub floats: [f64; SESSION_FLOATS],
 }
 

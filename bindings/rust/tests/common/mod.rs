@@ -13,6 +13,7 @@ pub fn plain(schedule: Schedule, pre_iterations: usize) -> RelayConfig {
     RelayConfig {
         schedule,
         alpha: 1.0,
+        clip: None,
         gamma0: 0.0,
         pre_iterations,
         num_legs: 0,
@@ -22,6 +23,19 @@ pub fn plain(schedule: Schedule, pre_iterations: usize) -> RelayConfig {
         gamma_source: GammaSource::Seeded,
     }
 }
+
+/// Clips that 9 refuses.
+pub const BAD_CLIPS: [f64; 9] = [
+    f64::NAN,
+    -f64::NAN,
+    f64::INFINITY,
+    f64::NEG_INFINITY,
+    0.0,
+    -0.0,
+    -1.0,
+    -5e-324,
+    f64::MIN,
+];
 
 /// Floats by their bits, so that a zero's sign counts.
 pub fn bits(floats: &[f64]) -> Vec<u64> {
