@@ -111,7 +111,8 @@ pub struct RelayConfig {
     ///
     /// A mechanism sums up what its checks say, and hands it back to each of them. So where mechanisms are very busy, messages can grow many
     /// times over with each iteration, until a posterior is not finite and 30 refuses. A clip bounds them; 30, as large as a prior can be,
-    /// is one to begin with.
+    /// is one to begin with. With a clip of at most 31, and `gamma0` and all other gammas, or the ends of their interval, from -1 to 1, no
+    /// decode is refused with 30: that is proved.
     ///
     /// ```
     /// use chowderkite::{BpGraph, RelayBp, RelayConfig};

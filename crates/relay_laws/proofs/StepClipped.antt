@@ -1,12 +1,12 @@
 -- The single iteration with a clip that is on: its check messages stay finite, whatever state passes 25, in every order. Assumes nothing.
-use Prim.Native.Nat.{ℕ, suc, _<_}
+use Prim.Native.Nat.{ℕ, suc}
 use mathlib.Core.Path.{_≡_}
 use mathlib.Core.Bool.{true, not}
-use mathlib.Core.List.{List, foldl}
+use mathlib.Core.List.{List}
 use native.Mathlib.Omega.{arith}
 use lib.Dec.{eqb}
-use lib.Ieee.{Float, nan, binary64, fits}
-use lib.ListN.{length, getD}
+use lib.Ieee.{Float, binary64, fits}
+use lib.ListN.{getD}
 use Rattle.numbers.specs.Floats.{isFinite}
 use Rattle.numbers.specs.Loops.{part}
 use Rattle.numbers.proofs.Cases.{and-both}

@@ -33,8 +33,8 @@ unfolding add sub mul neg lt le eq ofInt
     Model.graphFits Model.rising Model.offsetsGood Model.priorGood Model.priorFault Model.detectorFault Model.mechanismTest Model.mechanismFault Model.sameGraph Model.isGraph Model.built Model.sparseFault Model.buildSparse Model.countEdges Model.denseFault Model.buildDense Model.graphFault
     MinSum.signWithout MinSum.sentAt MinSum.sentTo MinSum.checkMessages MinSum.skipped MinSum.updateCheck MinSum.damped MinSum.dampedMessages MinSum.rawPosterior MinSum.updateVariable MinSum.parallelCheck MinSum.checksTo MinSum.variablesTo MinSum.parallelIteration MinSum.serialCheck MinSum.serialTo MinSum.serialIteration MinSum.runningAverage MinSum.averagedTo MinSum.averaged MinSum.weightOf MinSum.chosen MinSum.chosenTo MinSum.startRound MinSum.iterated MinSum.iteratedIn MinSum.outerRoundTo MinSum.outerRound MinSum.allRounds MinSum.minSumBp
     Beliefs.beliefsListsFit Beliefs.beliefsFault Beliefs.ran Beliefs.beliefs
-    Settings.alphaGood Settings.preGood Settings.legIterationsGood Settings.intervalGood Settings.setsGood Settings.gammaFault Settings.sourceFault Settings.settingsFault Settings.checkSettings
-    Step.scanned Step.scan Step.saturated Step.sent Step.sentTo Step.checkMessages Step.updateCheck Step.written Step.updateVariable Step.biasOf Step.biasesTo Step.computeBias Step.checkPass Step.variablePass Step.floodingIteration Step.serialCheck Step.serialPass Step.checkSerialIteration
+    Settings.clipGood Settings.alphaGood Settings.preGood Settings.legIterationsGood Settings.intervalGood Settings.setsGood Settings.gammaFault Settings.sourceFault Settings.settingsFault Settings.checkSettings
+    Step.scanned Step.scan Step.saturated Step.weighed Step.clamped Step.clipped Step.sent Step.sentTo Step.checkMessages Step.updateCheck Step.written Step.updateVariable Step.biasOf Step.biasesTo Step.computeBias Step.checkPass Step.variablePass Step.floodingIteration Step.serialCheck Step.serialPass Step.checkSerialIteration
     Order.count Order.once Order.namesOnce Order.shares Order.above Order.late Order.exchanged Order.namesFault Order.exchangeFault
     Leg.startLeg Leg.hardBit Leg.hardDecision Leg.parity Leg.matches Leg.satisfied Leg.cost Leg.correctionWeight
     Gammas.drawnOn Gammas.drawn Gammas.legSeed Gammas.relayGamma Gammas.gammaOf

@@ -1,5 +1,4 @@
 -- `exports_values::told::tell_settings` meets its contract: each float and count is its field, and the clip passes as its byte and its magnitude. Assumes nothing.
-use mathlib.Core.Path.{refl}
 use borrow.Author.Needs.{needs}
 use Rattle.exports_values.proofs.told.tell_settings.Statement.{statement}
 use Rattle.exports_values.proofs.told.tell_settings.Tie as tie
