@@ -16,6 +16,7 @@ use Rattle.numbers.proofs.Cases.{less-or-not, and-both}
 use Rattle.numbers.proofs.Order.{lt-one-way}
 use Rattle.graph_lists.specs.Graph.{Graph, checkEntries}
 use Rattle.graph_lists.specs.Messages.{byPlace, cleared}
+use Rattle.relay_settings.specs.declared.Clip.{Clip}
 use Rattle.relay_settings.specs.declared.Clip.the-variants.{On}
 use Rattle.relay_settings.specs.declared.Schedule.{Schedule}
 use Rattle.relay_settings.specs.declared.Schedule.the-variants.{Flooding, CheckSerial}
@@ -63,14 +64,6 @@ pub record Tame (limit : Float) (xs : List Float) : Type 0 where
   pub finite : (i : ℕ) → i < length xs → isFinite (getD xs i nan) ≡ true
   pub within : (i : ℕ) → i < length xs → lt limit (abs (getD xs i nan)) ≡ false
 
--- with some of them replaced by others that are tame
-tame-spliced : (limit : Float) (xs new : List Float) (a e : ℕ) → Tame limit xs → Tame limit new → Tame limit (spliced xs a e new)
-tame-spliced limit xs new a e h k =
-    record {
-      finite = each-spliced (λ x. isFinite x ≡ true) xs new a e (h .finite) (k .finite);
-      within = each-spliced (λ x. lt limit (abs x) ≡ false) xs new a e (h .within) (k .within);
-    }
-
 -- at the start of a leg all are 0
 pub start-tame : (limit : Float) → clipGood (On limit) ≡ true → (g : Graph) (prior posterior : List Float) → Tame limit (startLeg g prior posterior .cToV)
 unfolding startLeg cleared clipGood isFinite abs
@@ -106,53 +99,81 @@ module _ (Q : State → Type 0) where
 
 -- ---- Relay's steps
 
-module _ (alpha limit : Float) (able : alphaGood alpha ≡ true) (fit : fits binary64 alpha ≡ true) (good : clipGood (On limit) ≡ true)
-    (g : Graph) (syndrome : List ℕ) where
-  -- a state whose check messages are tame
-  abbrev Good : State → Type 0
-  Good s = Tame limit (s .cToV)
-
-  -- what a check sends, whatever it was sent
-  sent-tame : (odd : Bool) (variables : List ℕ) (messages : List Float) → Tame limit (checkMessages alpha (On limit) odd variables messages)
-  sent-tame odd variables messages =
-      let n = length-sent alpha (On limit) odd variables messages in
-      record {
-        finite = λ i l. sent-finite alpha limit odd variables messages able fit good i (omega arith);
-        within = λ i l. sent-within alpha limit odd variables messages good i (omega arith);
-      }
+-- what holds of each message that a check sends, whatever it was sent
+module _ (P : Float → Type 0) (alpha : Float) (clip : Clip) (g : Graph) (syndrome : List ℕ)
+    (each-sent : (odd : Bool) (variables : List ℕ) (messages : List Float) → Each P (checkMessages alpha clip odd variables messages)) where
+  -- a state of whose check messages it holds
+  abbrev Fine : State → Type 0
+  Fine s = Each P (s .cToV)
 
   -- a check among all, whatever its offsets are
-  pub check-tame : (s : State) (c : ℕ) → Tame limit (s .cToV) → Tame limit (updateCheck byPlace g alpha (On limit) syndrome s c .cToV)
+  pub check-each : (s : State) (c : ℕ) → Each P (s .cToV) → Each P (updateCheck byPlace g alpha clip syndrome s c .cToV)
   unfolding updateCheck
-  check-tame s c t =
+  check-each s c h =
       let from = getD (g .checkOffset) c 0 in
       let to = getD (g .checkOffset) (suc c) 0 in
       let odd = not (eqb (getD syndrome c 0) 0) in
-      tame-spliced limit (s .cToV) _ from to t (sent-tame odd (checkEntries g c) (part from to (s .vToC)))
+      let messages = part from to (s .vToC) in
+      each-spliced P (s .cToV) (checkMessages alpha clip odd (checkEntries g c) messages) from to h (each-sent odd (checkEntries g c) messages)
 
   -- a variable writes no check message
-  variable-tame : (bias : List Float) (s : State) (v : ℕ) → Good s → Good (updateVariable g bias s v)
+  variable-each : (bias : List Float) (s : State) (v : ℕ) → Fine s → Fine (updateVariable g bias s v)
   unfolding updateVariable
-  variable-tame bias s v t = t
+  variable-each bias s v h = h
 
   -- a check with its variables
-  serial-tame : (bias : List Float) (s : State) (c : ℕ) → Good s → Good (serialCheck byPlace g alpha (On limit) syndrome bias s c)
+  serial-each : (bias : List Float) (s : State) (c : ℕ) → Fine s → Fine (serialCheck byPlace g alpha clip syndrome bias s c)
   unfolding serialCheck
-  serial-tame bias s c t = fold-holds Good (updateVariable g bias) (variable-tame bias) (checkEntries g c) _ (check-tame s c t)
+  serial-each bias s c h = fold-holds Fine (updateVariable g bias) (variable-each bias) (checkEntries g c) _ (check-each s c h)
 
   -- an iteration of either schedule, in any order
+  pub iteration-each : (schedule : Schedule) (prior gamma : List Float) (order : List ℕ) (s : State) → Each P (s .cToV)
+      → Each P (iteration schedule byPlace g alpha clip syndrome prior gamma order s .cToV)
+  unfolding floodingIteration checkSerialIteration checkPass variablePass serialPass
+  iteration-each Flooding prior gamma order s h =
+      turns-hold Fine (updateVariable g _) (variable-each _) (g .mechanisms) _ (fold-holds Fine (updateCheck byPlace g alpha clip syndrome) check-each order s h)
+  iteration-each CheckSerial prior gamma order s h = fold-holds Fine (serialCheck byPlace g alpha clip syndrome _) (serial-each _) order s h
+
+-- with a clip that is on
+module _ (alpha limit : Float) (able : alphaGood alpha ≡ true) (fit : fits binary64 alpha ≡ true) (good : clipGood (On limit) ≡ true)
+    (g : Graph) (syndrome : List ℕ) where
+  -- what a check sends is finite
+  each-finite : (odd : Bool) (variables : List ℕ) (messages : List Float) → Each (λ x. isFinite x ≡ true) (checkMessages alpha (On limit) odd variables messages)
+  each-finite odd variables messages i l =
+      sent-finite alpha limit odd variables messages able fit good i (omega (arith, l, length-sent alpha (On limit) odd variables messages))
+
+  -- and not beyond the clip
+  each-within : (odd : Bool) (variables : List ℕ) (messages : List Float) → Each (λ x. lt limit (abs x) ≡ false) (checkMessages alpha (On limit) odd variables messages)
+  each-within odd variables messages i l =
+      sent-within alpha limit odd variables messages good i (omega (arith, l, length-sent alpha (On limit) odd variables messages))
+
+  -- so a check keeps messages tame
+  pub check-tame : (s : State) (c : ℕ) → Tame limit (s .cToV) → Tame limit (updateCheck byPlace g alpha (On limit) syndrome s c .cToV)
+  check-tame s c t =
+      record {
+        finite = check-each (λ x. isFinite x ≡ true) alpha (On limit) g syndrome each-finite s c (t .finite);
+        within = check-each (λ x. lt limit (abs x) ≡ false) alpha (On limit) g syndrome each-within s c (t .within);
+      }
+
+  -- an iteration keeps them finite
+  pub iteration-finite : (schedule : Schedule) (prior gamma : List Float) (order : List ℕ) (s : State) → Each (λ x. isFinite x ≡ true) (s .cToV)
+      → Each (λ x. isFinite x ≡ true) (iteration schedule byPlace g alpha (On limit) syndrome prior gamma order s .cToV)
+  iteration-finite = iteration-each (λ x. isFinite x ≡ true) alpha (On limit) g syndrome each-finite
+
+  -- and tame
   pub iteration-tame : (schedule : Schedule) (prior gamma : List Float) (order : List ℕ) (s : State) → Tame limit (s .cToV)
       → Tame limit (iteration schedule byPlace g alpha (On limit) syndrome prior gamma order s .cToV)
-  unfolding floodingIteration checkSerialIteration checkPass variablePass serialPass
-  iteration-tame Flooding prior gamma order s t =
-      turns-hold Good (updateVariable g _) (variable-tame _) (g .mechanisms) _ (fold-holds Good (updateCheck byPlace g alpha (On limit) syndrome) check-tame order s t)
-  iteration-tame CheckSerial prior gamma order s t = fold-holds Good (serialCheck byPlace g alpha (On limit) syndrome _) (serial-tame _) order s t
+  iteration-tame schedule prior gamma order s t =
+      record {
+        finite = iteration-finite schedule prior gamma order s (t .finite);
+        within = iteration-each (λ x. lt limit (abs x) ≡ false) alpha (On limit) g syndrome each-within schedule prior gamma order s (t .within);
+      }
 
   -- so a leg keeps them tame, after any number of iterations
   pub leg-tame : (schedule : Schedule) (prior gamma : List Float) (order : List ℕ) (test : List Float → Bool) (n : ℕ) (ok : Bool) (k : ℕ) (s : State)
       → Tame limit (s .cToV) → Tame limit (runLeg (iteration schedule byPlace g alpha (On limit) syndrome prior gamma order) test n ok k s .left .cToV)
   leg-tame schedule prior gamma order test =
-      leg-holds Good (iteration schedule byPlace g alpha (On limit) syndrome prior gamma order) test (iteration-tame schedule prior gamma order)
+      leg-holds (λ (s : State). Tame limit (s .cToV)) (iteration schedule byPlace g alpha (On limit) syndrome prior gamma order) test (iteration-tame schedule prior gamma order)
 
   -- and from its start, where all are 0, leaves them so, whatever posterior it is handed
   pub left-tame : (schedule : Schedule) (prior gamma : List Float) (order : List ℕ) (test : List Float → Bool) (n : ℕ) (ok : Bool) (k : ℕ) (posterior : List Float)

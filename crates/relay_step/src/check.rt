@@ -1,6 +1,6 @@
 // `update_check` over the variables and the messages of one check: a first pass finds the total sign and the two least magnitudes
-// (`graph_messages`; it knows the least by its place, and a check has a variable at one place alone), and a second sends. A check sends
-// three messages at most, each weighed and clipped once.
+// (`graph_messages`; it knows the least by its place, and a check has a variable at one place alone), and a second sends. What a check
+// sends has three values at most, the least minimum's for either sign and the next one's: each is clipped once.
 ghost use mathlib.Core.Path.{_≡_};
 ghost use mathlib.Core.Bool.{cond};
 ghost use Prim.Native.Nat.{_≤_};
