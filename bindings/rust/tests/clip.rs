@@ -134,6 +134,32 @@ fn a_heavy_model_under_check_serial() {
     assert_eq!(outcome.audit(&graph, &syndrome), Ok(()));
 }
 
+/// What 30 still comes from: a clip that bounds nothing, and a gamma beyond 1, by which the bias grows whatever is sent. The second check has
+/// no mechanism, so that no leg converges.
+#[test]
+fn what_refuses_still() {
+    let busy = [0..8, 1..9, 2..10].map(|checks| (4.0, checks.collect::<Vec<u32>>()));
+    let busy = BpGraph::from_sparse(10, &busy).unwrap();
+    let alone = BpGraph::from_sparse(2, &[(4.0, [0])]).unwrap();
+    let point = RelayConfig::default();
+    for (graph, syndrome, clip, gamma0, is_refused) in [
+        (&busy, &[1, 1, 1, 1, 1, 1, 1, 1, 0, 0][..], f64::MAX, 0.1, true),
+        (&alone, &[1, 1], 1.0, 1e300, true),
+        (&alone, &[1, 1], 1.0, 1.0, false),
+    ] {
+        let config = RelayConfig {
+            clip: Some(clip),
+            gamma0,
+            ..point.clone()
+        };
+        let answer = RelayBp::new(graph.clone(), config)
+            .unwrap()
+            .decode(syndrome, 7);
+        let refused = answer.err().map(|error| (error.number(), error.place()));
+        assert_eq!(refused, is_refused.then_some((30, Some(0))));
+    }
+}
+
 /// A clip that no message reaches leaves every bit as it is without one; a small one does not.
 #[test]
 fn never_reached_is_off() {
