@@ -314,7 +314,7 @@ uint64_t chowderkite_beliefs(
  * clip with its sign before it is written: after alpha times sign times minimum, and also where the check has one mechanism
  * alone. Nothing else is clipped, and min-sum beliefs have no clip. Where mechanisms are very busy, messages can grow many times
  * over with each iteration, until 30 refuses: a clip bounds them. 30, as large as a prior can be, is one to begin with: with a
- * clip of at most 31, and gamma0 and all other gammas, or the ends of their interval, from -1 to 1, 30 is never given. */
+ * clip of at most 31, and gamma0 and all other gammas, or the ends of their interval, from -1 to 1, no decode is refused with 30. */
 
 #define CHOWDERKITE_FLOODING 0
 #define CHOWDERKITE_CHECK_SERIAL 1

@@ -180,7 +180,8 @@ pub fn fault(
         (now («check_offset» .entry)) (now («var_check» .entry)) (now («var_message» .entry)) (now («var_offset» .entry)) in
         let before = stepLists (state (now («c_to_v» .entry)) (now («v_to_c» .entry)) (now (posterior .entry))) (now (bias .entry)) in
         ⌜ r
-        ≡ stepFault (size .edges) (now (priors .entry)) g alpha clip (now (gamma .entry)) (now (syndrome .entry)) (now (order .entry)) before ⌝ }
+        ≡ stepFault (size .edges) (now (priors .entry)) g alpha clip (now (gamma .entry)) (now (syndrome .entry))
+        (now (order .entry)) before ⌝ }
 {
     let a = graph::check_graph(
         size,

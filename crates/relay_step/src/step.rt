@@ -57,7 +57,8 @@ fn update_one(
     ensures { λ _.
         let g = ofChecks (length (now (syndrome .entry))) (now («check_var» .entry)) (now («check_offset» .entry)) in
         let before = state (now («c_to_v» .entry)) (now («v_to_c» .entry)) [] in
-        ⌜ state (now («c_to_v» .exit)) (now («v_to_c» .entry)) [] ≡ updateCheck byPlace g alpha (On limit) (now (syndrome .entry)) before c ⌝ }
+        ⌜ state (now («c_to_v» .exit)) (now («v_to_c» .entry)) []
+        ≡ updateCheck byPlace g alpha (On limit) (now (syndrome .entry)) before c ⌝ }
 {
     let start = at(check_offset, c);
     let end = at(check_offset, c + 1);
