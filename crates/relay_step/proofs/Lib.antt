@@ -6,7 +6,6 @@ pub mod Passes
 pub mod Signs
 pub mod Sends
 pub mod Legs
-pub mod Limits
 pub mod Weights
 pub mod Clips
 pub mod Tame

@@ -8,10 +8,10 @@ use Prim.Native.Nat.{ℕ, zero, suc, _<_, _≤_}
 use native.Mathlib.Nat.{lt-suc-self}
 use native.Mathlib.Omega.{arith}
 use lib.Dec.{eqb}
-use lib.Ieee.{Float, nan, binary64, lt, neg, mul}
+use lib.Ieee.{Float, nan, inf, fin, binary64, lt, neg, mul}
 use lib.ListN.{length, getD, set}
 use borrow.Author.Tests.{eq-eqb, ne-eqb}
-use Rattle.numbers.specs.Floats.{_*ᶠ_, zero⁺, one⁺, one⁻, abs, messageSign}
+use Rattle.numbers.specs.Floats.{_*ᶠ_, zero⁺, one⁺, one⁻, abs, isFinite, messageSign}
 use Rattle.numbers.proofs.Cases.{less-or-not}
 use Rattle.numbers.proofs.Loops.{tables-agree, but-one}
 use Rattle.graph_lists.specs.Messages.{Scan, scanOf, lowered, flippedBy}
@@ -19,7 +19,7 @@ use Rattle.graph_lists.specs.Messages as first
 use Rattle.graph_messages.specs.Needs.{Rises}
 use Rattle.relay_settings.specs.declared.Clip.{Clip}
 use Rattle.relay_step.specs.Step.{noVariable, scanned, scan, saturated, weighed, clipped, sent, sentTo, checkMessages}
-use Rattle.relay_step.specs.Places.{bySigns}
+use Rattle.relay_step.specs.Places.{saturatedMagnitude, bySigns}
 use Rattle.relay_step.proofs.Signs.{negative-left, negative-right}
 
 -- a sign: 1 or -1
@@ -56,12 +56,33 @@ module _ (alpha sign m : Float) (h : Sign sign) where
   weighed-by x true e = rw e weighed-minus
   weighed-by x false e = rw e weighed-plus
 
+-- a minimum, which one comparison saturates
+abbrev Minimum : Float → Type 0
+Minimum x = saturatedMagnitude x ≡ saturated x
+
+magnitude-minimum : (x : Float) → Minimum (abs x)
+unfolding saturatedMagnitude saturated abs isFinite lt
+magnitude-minimum nan = refl
+magnitude-minimum (inf s) = refl
+magnitude-minimum (fin s m e) = refl
+
+no-minimum : Minimum (inf false)
+unfolding abs
+no-minimum = magnitude-minimum (inf false)
+
+-- one of two
+either-minimum : (b : Bool) (x y : Float) → Minimum x → Minimum y → Minimum (cond b x y)
+either-minimum true x y h k = h
+either-minimum false x y h k = k
+
 -- the scan by variables, from the scan s by places: whose the least is; or it is nobody's, and both minima are the same
 pub record Found (odd : Bool) (variables : List ℕ) (messages : List Float) (n : ℕ) (s : Scan) : Type 0 where
   pub variable : ℕ
   pub is : scan odd variables messages n ≡ scanOf (s .totalSign) (s .min1) (s .min2) variable
   pub whose : ((s .holder < n) × (variable ≡ getD variables (s .holder) 0)) ⊎ (s .min1 ≡ s .min2)
   pub signed : Sign (s .totalSign)
+  pub least : Minimum (s .min1)
+  pub next : Minimum (s .min2)
 
 module _ (odd : Bool) (variables : List ℕ) (messages : List Float) where
   -- one message further, by whether it is the least so far
@@ -74,6 +95,8 @@ module _ (odd : Bool) (variables : List ℕ) (messages : List Float) where
         is = rw (f .is, sym e, h, flips (s .totalSign) x (f .signed) .0);
         whose = inl (rw h (lt-suc-self n, refl));
         signed = flips (s .totalSign) x (f .signed) .1;
+        least = rw h (magnitude-minimum x);
+        next = rw h (f .least);
       }
   further n s x false e h f =
       record {
@@ -82,6 +105,8 @@ module _ (odd : Bool) (variables : List ℕ) (messages : List Float) where
         whose = rw h (⊎-elim (λ (w : (s .holder < n) × (f .variable ≡ getD variables
             (s .holder) 0)). inl (omega (arith, w .0), w .1)) (λ (w : s .min1 ≡ s .min2). inr (same w (rw w at h))) (f .whose));
         signed = flips (s .totalSign) x (f .signed) .1;
+        least = rw h (f .least);
+        next = rw h (either-minimum (lt (abs x) (s .min2)) (abs x) (s .min2) (magnitude-minimum x) (f .next));
       }
     where
       same : s .min1 ≡ s .min2 → lt (abs x) (s .min2) ≡ false → s .min1 ≡ cond (lt (abs x) (s .min2)) (abs x) (s .min2)
@@ -94,7 +119,7 @@ module _ (odd : Bool) (variables : List ℕ) (messages : List Float) where
 
   pub found : (n : ℕ) → Found odd variables messages n (first.scan odd messages n)
   unfolding scan first.scan
-  found zero = record { variable = noVariable; is = refl; whose = inr refl; signed = start-sign odd }
+  found zero = record { variable = noVariable; is = refl; whose = inr refl; signed = start-sign odd; least = no-minimum; next = no-minimum }
   found (suc n) = further n (first.scan odd messages n) (getD messages n nan) (lt (abs (getD messages n nan)) (first.scan odd messages n .min1)) refl refl (found n)
 
 -- one of two, where they are the same
@@ -157,25 +182,28 @@ module _ (alpha : Float) (clip : Clip) (sign min1 min2 : Float) (variables : Lis
 module _ (alpha : Float) (clip : Clip) (odd : Bool) (variables : List ℕ) (messages out : List Float) (sign min1 min2 : Float) (least : ℕ) (least-sent minus plus : Float)
     (r : Rises variables) (many : length messages ≡ length variables)
     (s : scanOf sign min1 min2 least ≡ first.scan odd messages (length messages))
-    (w : least-sent ≡ alpha *ᶠ sign *ᶠ saturated min1) (p : minus ≡ clipped clip (neg least-sent)) (q : plus ≡ clipped clip least-sent)
+    (w : least-sent ≡ alpha *ᶠ sign *ᶠ saturatedMagnitude min1) (p : minus ≡ clipped clip (neg least-sent)) (q : plus ≡ clipped clip least-sent)
     (o : out ≡ bySigns minus plus messages (length messages)) where
   f : Found odd variables messages (length messages) (scanOf sign min1 min2 least)
   f = rw s (found odd variables messages (length messages))
 
+  least-is : least-sent ≡ alpha *ᶠ sign *ᶠ saturated min1
+  least-is = w ∙ ap (λ m. alpha *ᶠ sign *ᶠ m) (f .least)
+
   minus-is : minus ≡ clipped clip (alpha *ᶠ (sign *ᶠ one⁻) *ᶠ saturated min1)
-  minus-is = p ∙ ap (clipped clip) (ap neg w ∙ weighed-minus alpha sign (saturated min1) (f .signed))
+  minus-is = p ∙ ap (clipped clip) (ap neg least-is ∙ weighed-minus alpha sign (saturated min1) (f .signed))
 
   plus-is : plus ≡ clipped clip (alpha *ᶠ (sign *ᶠ one⁺) *ᶠ saturated min1)
-  plus-is = q ∙ ap (clipped clip) (w ∙ weighed-plus alpha sign (saturated min1) (f .signed))
+  plus-is = q ∙ ap (clipped clip) (least-is ∙ weighed-plus alpha sign (saturated min1) (f .signed))
 
-  pub sends-next : (next-sent signed x : Float) → least < length messages → next-sent ≡ alpha *ᶠ sign *ᶠ saturated min2
+  pub sends-next : (next-sent signed x : Float) → least < length messages → next-sent ≡ alpha *ᶠ sign *ᶠ saturatedMagnitude min2
       → signed ≡ cond (lt (getD messages least nan) zero⁺) (neg next-sent) next-sent → x ≡ clipped clip signed
       → set out least x ≡ checkMessages alpha clip odd variables messages
   unfolding checkMessages
   sends-next next-sent signed x h n e c =
       let y = getD messages least nan in
       let is : x ≡ clipped clip (alpha *ᶠ (sign *ᶠ messageSign y) *ᶠ saturated min2) =
-      c ∙ ap (clipped clip) (e ∙ ap (λ t. cond (lt y zero⁺) (neg t) t) n ∙ weighed-by alpha sign (saturated min2) (f .signed) y (lt y zero⁺) refl) in
+      c ∙ ap (clipped clip) (e ∙ ap (λ t. cond (lt y zero⁺) (neg t) t) (n ∙ ap (λ m. alpha *ᶠ sign *ᶠ m) (f .next)) ∙ weighed-by alpha sign (saturated min2) (f .signed) y (lt y zero⁺) refl) in
       rw (o, f .is) (least-put alpha clip sign min1 min2 variables messages (f .variable) least r many (f .whose) minus plus minus-is plus-is x h is)
 
   pub sends-least : length messages ≤ least → out ≡ checkMessages alpha clip odd variables messages

@@ -5,15 +5,12 @@ use mathlib.Core.Bool.{false, cond}
 use mathlib.Core.List.{List}
 use lib.Ieee.{Float, nan, inf, lt}
 use lib.ListN.{length, getD}
-use Rattle.numbers.specs.Floats.{zero⁺}
+use Rattle.numbers.specs.Floats.{zero⁺, saturation}
 use Rattle.numbers.specs.Loops.{table}
-use Rattle.relay_settings.specs.declared.Clip.{Clip}
-use Rattle.relay_settings.specs.declared.Clip.the-variants.{Off, On}
 
--- how far messages go: an infinity, which nothing is beyond, where the clip is off
-abbrev pub limitOf : Clip → Float
-limitOf Off = inf false
-limitOf (On limit) = limit
+-- `saturated`, of a magnitude
+unfoldable pub saturatedMagnitude : Float → Float
+saturatedMagnitude x = cond (lt x (inf false)) x saturation
 
 -- one of two for each of the first n messages, by its sign
 unfoldable pub bySigns : Float → Float → List Float → ℕ → List Float

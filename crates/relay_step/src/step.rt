@@ -8,8 +8,8 @@ ghost use Rattle.graph_lists.specs.Sound.{Offsets, Keys};
 ghost use Rattle.graph_messages.specs.Needs.{Walks, walked, ofChecks, ofVariables, RowsRise, PerEdge};
 ghost use Rattle.relay_step.specs.Step.{state, biasOf, computeBias, updateCheck, checkPass, variablePass, serialCheck, serialPass};
 ghost use Rattle.relay_step.specs.Step.{floodingIteration, checkSerialIteration, iteration};
-ghost use Rattle.relay_settings.specs.declared.Clip.the-variants.{On};
-ghost use Rattle.relay_step.specs.Places.{PerMechanism, limitOf};
+ghost use Rattle.relay_step.specs.Places.{PerMechanism};
+use crate::check::clipped_part;
 use crate::check::update_part;
 use crate::variable::update_variable;
 use crate::variable::update_variables;
@@ -43,7 +43,7 @@ fn compute_bias(priors: &[f64], gamma: &[f64], posterior: &[f64], bias: &mut [f6
 fn update_one(
     c: usize,
     alpha: f64,
-    limit: f64,
+    clip: Clip,
     syndrome: &[u8],
     check_var: &[u32],
     check_offset: &[u32],
@@ -58,26 +58,21 @@ fn update_one(
         let g = ofChecks (length (now (syndrome .entry))) (now («check_var» .entry)) (now («check_offset» .entry)) in
         let before = state (now («c_to_v» .entry)) (now («v_to_c» .entry)) [] in
         ⌜ state (now («c_to_v» .exit)) (now («v_to_c» .entry)) []
-        ≡ updateCheck byPlace g alpha (On limit) (now (syndrome .entry)) before c ⌝ }
+        ≡ updateCheck byPlace g alpha clip (now (syndrome .entry)) before c ⌝ }
 {
     let start = at(check_offset, c);
     let end = at(check_offset, c + 1);
-    update_part(
-        alpha,
-        limit,
-        syndrome[c] != 0,
-        start,
-        end,
-        check_var,
-        v_to_c,
-        c_to_v,
-    );
+    let odd = syndrome[c] != 0;
+    match clip {
+        Clip::Off => update_part(alpha, odd, start, end, check_var, v_to_c, c_to_v),
+        Clip::On(limit) => clipped_part(alpha, limit, odd, start, end, check_var, v_to_c, c_to_v),
+    }
 }
 
 // The checks in the order given.
 fn check_pass(
     alpha: f64,
-    limit: f64,
+    clip: Clip,
     syndrome: &[u8],
     check_var: &[u32],
     check_offset: &[u32],
@@ -93,7 +88,7 @@ fn check_pass(
         let g = ofChecks (length (now (syndrome .entry))) (now («check_var» .entry)) (now («check_offset» .entry)) in
         let before = state (now («c_to_v» .entry)) (now («v_to_c» .entry)) [] in
         ⌜ state (now («c_to_v» .exit)) (now («v_to_c» .entry)) []
-        ≡ checkPass byPlace g alpha (On limit) (now (syndrome .entry)) (now (order .entry)) before ⌝ }
+        ≡ checkPass byPlace g alpha clip (now (syndrome .entry)) (now (order .entry)) before ⌝ }
 {
     let mut i = 0;
     while i < order.len() {
@@ -101,7 +96,7 @@ fn check_pass(
         update_one(
             check,
             alpha,
-            limit,
+            clip,
             syndrome,
             check_var,
             check_offset,
@@ -140,7 +135,7 @@ fn variable_pass(
 // `flooding_iteration`.
 fn flooding_iteration(
     alpha: f64,
-    limit: f64,
+    clip: Clip,
     syndrome: &[u8],
     priors: &[f64],
     gamma: &[f64],
@@ -164,12 +159,12 @@ fn flooding_iteration(
         (now («check_offset» .entry)) (now («var_message» .entry)) (now («var_offset» .entry)) in
         let before = state (now («c_to_v» .entry)) (now («v_to_c» .entry)) (now (posterior .entry)) in
         ⌜ state (now («c_to_v» .exit)) (now («v_to_c» .exit)) (now (posterior .exit))
-        ≡ floodingIteration byPlace g alpha (On limit) (now (syndrome .entry)) (now (priors .entry)) (now (gamma .entry))
+        ≡ floodingIteration byPlace g alpha clip (now (syndrome .entry)) (now (priors .entry)) (now (gamma .entry))
         (now (order .entry)) before ⌝ }
 {
     check_pass(
         alpha,
-        limit,
+        clip,
         syndrome,
         check_var,
         check_offset,
@@ -185,7 +180,7 @@ fn flooding_iteration(
 fn serial_check(
     c: usize,
     alpha: f64,
-    limit: f64,
+    clip: Clip,
     syndrome: &[u8],
     bias: &[f64],
     check_var: &[u32],
@@ -206,12 +201,15 @@ fn serial_check(
         (now («check_offset» .entry)) (now («var_message» .entry)) (now («var_offset» .entry)) in
         let before = state (now («c_to_v» .entry)) (now («v_to_c» .entry)) (now (posterior .entry)) in
         ⌜ state (now («c_to_v» .exit)) (now («v_to_c» .exit)) (now (posterior .exit))
-        ≡ serialCheck byPlace g alpha (On limit) (now (syndrome .entry)) (now (bias .entry)) before c ⌝ }
+        ≡ serialCheck byPlace g alpha clip (now (syndrome .entry)) (now (bias .entry)) before c ⌝ }
 {
     let start = at(check_offset, c);
     let end = at(check_offset, c + 1);
     let odd = syndrome[c] != 0;
-    update_part(alpha, limit, odd, start, end, check_var, v_to_c, c_to_v);
+    match clip {
+        Clip::Off => update_part(alpha, odd, start, end, check_var, v_to_c, c_to_v),
+        Clip::On(limit) => clipped_part(alpha, limit, odd, start, end, check_var, v_to_c, c_to_v),
+    }
     update_variables(
         &check_var[start..end],
         bias,
@@ -226,7 +224,7 @@ fn serial_check(
 // The checks of a serial iteration, in the order given.
 fn serial_pass(
     alpha: f64,
-    limit: f64,
+    clip: Clip,
     syndrome: &[u8],
     bias: &[f64],
     check_var: &[u32],
@@ -248,7 +246,7 @@ fn serial_pass(
         (now («check_offset» .entry)) (now («var_message» .entry)) (now («var_offset» .entry)) in
         let before = state (now («c_to_v» .entry)) (now («v_to_c» .entry)) (now (posterior .entry)) in
         ⌜ state (now («c_to_v» .exit)) (now («v_to_c» .exit)) (now (posterior .exit))
-        ≡ serialPass byPlace g alpha (On limit) (now (syndrome .entry)) (now (bias .entry)) (now (order .entry)) before ⌝ }
+        ≡ serialPass byPlace g alpha clip (now (syndrome .entry)) (now (bias .entry)) (now (order .entry)) before ⌝ }
 {
     let mut i = 0;
     while i < order.len() {
@@ -256,7 +254,7 @@ fn serial_pass(
         serial_check(
             c,
             alpha,
-            limit,
+            clip,
             syndrome,
             bias,
             check_var,
@@ -274,7 +272,7 @@ fn serial_pass(
 // `check_serial_iteration`.
 fn check_serial_iteration(
     alpha: f64,
-    limit: f64,
+    clip: Clip,
     syndrome: &[u8],
     priors: &[f64],
     gamma: &[f64],
@@ -298,13 +296,13 @@ fn check_serial_iteration(
         (now («check_offset» .entry)) (now («var_message» .entry)) (now («var_offset» .entry)) in
         let before = state (now («c_to_v» .entry)) (now («v_to_c» .entry)) (now (posterior .entry)) in
         ⌜ state (now («c_to_v» .exit)) (now («v_to_c» .exit)) (now (posterior .exit))
-        ≡ checkSerialIteration byPlace g alpha (On limit) (now (syndrome .entry)) (now (priors .entry)) (now (gamma .entry))
+        ≡ checkSerialIteration byPlace g alpha clip (now (syndrome .entry)) (now (priors .entry)) (now (gamma .entry))
         (now (order .entry)) before ⌝ }
 {
     compute_bias(priors, gamma, posterior, bias);
     serial_pass(
         alpha,
-        limit,
+        clip,
         syndrome,
         bias,
         check_var,
@@ -316,16 +314,6 @@ fn check_serial_iteration(
         v_to_c,
         posterior,
     );
-}
-
-// How far messages go, in an iteration with this clip.
-fn limit_of(clip: Clip) -> f64
-    ensures { λ r. ⌜ r ≡ limitOf clip ⌝ }
-{
-    match clip {
-        Clip::Off => numbers::infinity(),
-        Clip::On(limit) => limit,
-    }
 }
 
 // One iteration of the schedule.
@@ -359,11 +347,10 @@ pub fn step(
         ≡ iteration schedule byPlace g alpha clip (now (syndrome .entry)) (now (priors .entry)) (now (gamma .entry))
         (now (order .entry)) before ⌝ }
 {
-    let limit = limit_of(clip);
     match schedule {
         Schedule::Flooding => flooding_iteration(
             alpha,
-            limit,
+            clip,
             syndrome,
             priors,
             gamma,
@@ -379,7 +366,7 @@ pub fn step(
         ),
         Schedule::CheckSerial => check_serial_iteration(
             alpha,
-            limit,
+            clip,
             syndrome,
             priors,
             gamma,

@@ -1,22 +1,21 @@
--- `relay_step::check::saturated` meets its contract. Each arm is one case of the test.
+-- `relay_step::check::saturated` meets its contract. Each arm is one case of the comparison.
 -- Assumes nothing.
-use mathlib.Core.Path.{sym, _∙_}
 use lib.Ieee.{ofBits}
-use Rattle.relay_step.specs.Step.{saturated}
+use Rattle.relay_step.specs.Places.{saturatedMagnitude}
 use borrow.Author.Needs.{needs}
 use Rattle.relay_step.proofs.check.saturated.Statement.{statement}
 use Rattle.relay_step.proofs.check.saturated.Tie as tie
 
-is-finite-requires : tie.Need-is-finite-requires
-is-finite-requires c κs = search needs
+infinity-requires : tie.Need-infinity-requires
+infinity-requires c κs = search needs
 
 returns : tie.Need-returns
-unfolding saturated
-returns c = rw (sym (c .before .is-finite .ensures) ∙ c .if1 .taken)
+unfolding saturatedMagnitude
+returns c = rw (rw (c .before .infinity .ensures) at (c .if1 .taken))
 
 returns-2 : tie.Need-returns-2
-unfolding saturated ofBits
-returns-2 c = rw (sym (c .before .is-finite .ensures) ∙ c .if1 .left)
+unfolding saturatedMagnitude ofBits
+returns-2 c = rw (rw (c .before .infinity .ensures) at (c .if1 .left))
 
 pub saturated-spec : {M : Type 1} → statement M
-saturated-spec = tie.close (tie.spec is-finite-requires returns returns-2)
+saturated-spec = tie.close (tie.spec infinity-requires returns returns-2)

@@ -7,19 +7,18 @@ use native.Mathlib.Omega.{arith}
 use lib.ListN.{length, take}
 use Rattle.graph_lists.specs.Messages.{byPlace}
 use Rattle.graph_messages.specs.Needs.{ofChecks}
-use Rattle.relay_settings.specs.declared.Clip.the-variants.{On}
 use Rattle.relay_step.specs.Step.{state, checkPass}
 use Rattle.relay_step.proofs.Passes.{checks-turn, checks-done}
 use Rattle.relay_step.proofs.step.check_pass.Statement.{statement}
 use Rattle.relay_step.proofs.step.check_pass.Tie as tie
 
 abbrev Inv-loop : tie.InvT-loop
-Inv-loop alpha limit syndrome check-var check-offset order v-to-c c-to-v₀ i₀ c-to-v i =
+Inv-loop alpha clip syndrome check-var check-offset order v-to-c c-to-v₀ i₀ c-to-v i =
     (i ≤ length order) × (length c-to-v ≡ length c-to-v₀)
-    × (state c-to-v v-to-c [] ≡ checkPass byPlace (ofChecks (length syndrome) check-var check-offset) alpha (On limit) syndrome (take i order) (state c-to-v₀ v-to-c []))
+    × (state c-to-v v-to-c [] ≡ checkPass byPlace (ofChecks (length syndrome) check-var check-offset) alpha clip syndrome (take i order) (state c-to-v₀ v-to-c []))
 
 abbrev μ-loop : tie.MeasureT-loop
-μ-loop alpha limit syndrome check-var check-offset order v-to-c c-to-v₀ i₀ c-to-v i = length order - i
+μ-loop alpha clip syndrome check-var check-offset order v-to-c c-to-v₀ i₀ c-to-v i = length order - i
 
 loop-holds : tie.Need-loop-holds Inv-loop μ-loop
 unfolding checkPass

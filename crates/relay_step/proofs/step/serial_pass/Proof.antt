@@ -6,20 +6,19 @@ use native.Mathlib.Omega.{arith}
 use lib.ListN.{length, take}
 use Rattle.graph_lists.specs.Messages.{byPlace}
 use Rattle.graph_messages.specs.Needs.{walked}
-use Rattle.relay_settings.specs.declared.Clip.the-variants.{On}
 use Rattle.relay_step.specs.Step.{state, serialPass}
 use Rattle.relay_step.proofs.Passes.{serial-turn, serial-done}
 use Rattle.relay_step.proofs.step.serial_pass.Statement.{statement}
 use Rattle.relay_step.proofs.step.serial_pass.Tie as tie
 
 abbrev Inv-loop : tie.InvT-loop
-Inv-loop alpha limit syndrome bias check-var check-offset var-message var-offset order c-to-v₀ v-to-c₀ posterior₀ i₀ c-to-v v-to-c posterior i =
+Inv-loop alpha clip syndrome bias check-var check-offset var-message var-offset order c-to-v₀ v-to-c₀ posterior₀ i₀ c-to-v v-to-c posterior i =
     (i ≤ length order) × (length c-to-v ≡ length c-to-v₀) × (length v-to-c ≡ length v-to-c₀) × (length posterior ≡ length posterior₀)
     × (state c-to-v v-to-c posterior
-    ≡ serialPass byPlace (walked (length syndrome) (length bias) check-var check-offset var-message var-offset) alpha (On limit) syndrome bias (take i order) (state c-to-v₀ v-to-c₀ posterior₀))
+    ≡ serialPass byPlace (walked (length syndrome) (length bias) check-var check-offset var-message var-offset) alpha clip syndrome bias (take i order) (state c-to-v₀ v-to-c₀ posterior₀))
 
 abbrev μ-loop : tie.MeasureT-loop
-μ-loop alpha limit syndrome bias check-var check-offset var-message var-offset order c-to-v₀ v-to-c₀ posterior₀ i₀ c-to-v v-to-c posterior i =
+μ-loop alpha clip syndrome bias check-var check-offset var-message var-offset order c-to-v₀ v-to-c₀ posterior₀ i₀ c-to-v v-to-c posterior i =
     length order - i
 
 loop-holds : tie.Need-loop-holds Inv-loop μ-loop

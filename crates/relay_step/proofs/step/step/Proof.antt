@@ -1,14 +1,8 @@
--- `relay_step::step::step` meets its contract. Each arm is the iteration of its schedule, and its limit stands for the clip.
+-- `relay_step::step::step` meets its contract. Each arm is the iteration of its schedule.
 -- Assumes nothing.
-use mathlib.Core.Path.{_∙_}
 use borrow.Author.Needs.{needs}
-use Rattle.relay_settings.specs.declared.Schedule.the-variants.{Flooding, CheckSerial}
-use Rattle.relay_step.proofs.Limits.{limited-is}
 use Rattle.relay_step.proofs.step.step.Statement.{statement}
 use Rattle.relay_step.proofs.step.step.Tie as tie
-
-limit-of-requires : tie.Need-limit-of-requires
-limit-of-requires c κs = search needs
 
 enum-told : tie.Need-enum-told
 enum-told c = search needs
@@ -35,10 +29,8 @@ same-length-4 : tie.Need-same-length-4
 same-length-4 c = search needs
 
 returns : tie.Need-returns
-returns c =
-    let l = c .before .before .before .before .before .before .before .before .before .before .before .before .before .before .before in
-    rw (c .before .before .before .before .before .before .before .before .before .before .before .before .before .enum-told .given .1)
-    (c .before .before .before .before .before .before .before .before .flooding-iteration .ensures ∙ limited-is Flooding _ _ _ _ _ _ _ _ _ _ (l .limit-of .ensures))
+returns c = rw (c .before .before .before .before .before .before .before .before .before .before .before .before .before .enum-told .given .1)
+    (c .before .before .before .before .before .before .before .before .flooding-iteration .ensures)
 
 same-length-5 : tie.Need-same-length-5
 same-length-5 c = search needs
@@ -53,16 +45,13 @@ same-length-8 : tie.Need-same-length-8
 same-length-8 c = search needs
 
 returns-2 : tie.Need-returns-2
-returns-2 c =
-    let l = c .before .before .before .before .before .before .before .before .before .before .before .before .before .before .before in
-    rw (c .before .before .before .before .before .before .before .before .before .before .before .before .before .enum-told2 .given .1)
-    (c .before .before .before .before .before .before .before .before .check-serial-iteration .ensures ∙ limited-is CheckSerial _ _ _ _ _ _ _ _ _ _ (l .limit-of .ensures))
+returns-2 c = rw (c .before .before .before .before .before .before .before .before .before .before .before .before .before .enum-told2 .given .1)
+    (c .before .before .before .before .before .before .before .before .check-serial-iteration .ensures)
 
 pub step-spec : {M : Type 1} → statement M
 step-spec =
     tie.close
     (tie.spec
-    limit-of-requires
     enum-told
     flooding-iteration-requires
     enum-told-2
