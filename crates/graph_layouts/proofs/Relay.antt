@@ -12,7 +12,8 @@ use Rattle.graph_lists.proofs.Sound.{Sound}
 use Rattle.relay_settings.specs.declared.Clip.{Clip}
 use Rattle.relay_settings.specs.declared.Schedule.{Schedule}
 use Rattle.relay_settings.specs.declared.Schedule.the-variants.{Flooding, CheckSerial}
-use Rattle.relay_step.specs.Step.{State, state, checkMessages, updateCheck, updateVariable, computeBias, checkPass, variablePass, floodingIteration, serialCheck, serialPass, checkSerialIteration, iteration}
+use Rattle.relay_check.specs.Check.{checkMessages}
+use Rattle.relay_step.specs.Step.{State, state, updateCheck, updateVariable, computeBias, checkPass, variablePass, floodingIteration, serialCheck, serialPass, checkSerialIteration, iteration}
 use Rattle.relay_step.specs.Leg.{startLeg, satisfied}
 use Rattle.relay_gammas.specs.Gammas.{gammaOf}
 use Rattle.relay_orders.specs.Order.{NamesOnce}

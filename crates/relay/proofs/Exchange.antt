@@ -18,7 +18,8 @@ use Rattle.graph_lists.specs.Messages.{byPlace, total}
 use Rattle.graph_lists.proofs.Sound.{Sound}
 use Rattle.graph_lists.proofs.Cuts.{offsets-rise, row-end}
 use Rattle.relay_settings.specs.declared.Clip.{Clip}
-use Rattle.relay_step.specs.Step.{State, state, checkMessages, updateCheck, written, updateVariable, serialCheck}
+use Rattle.relay_check.specs.Check.{checkMessages}
+use Rattle.relay_step.specs.Step.{State, state, updateCheck, written, updateVariable, serialCheck}
 use Rattle.relay_orders.specs.Order.{shares}
 use Rattle.relay_orders.proofs.All.{All, nil, cons, all-map, all-places, all-at, all-head, all-tail, any-none, or-left, or-right}
 use Rattle.relay_step.proofs.Lengths.{length-sent, written-length}

@@ -30,9 +30,10 @@ use Rattle.relay_settings.specs.declared.Settings.{Settings}
 use Rattle.relay_settings.specs.Settings.{published, clipGood, alphaGood, settingsFault}
 use Rattle.relay_settings.proofs.Told.{settings-told}
 use Rattle.relay_orders.specs.Order.{NamesOnce, FirstLate}
-use Rattle.relay_step.specs.Step.{State, scan, weighed, clipped, sent, checkMessages, iteration}
+use Rattle.relay_check.specs.Check.{scan, weighed, clipped, sent, checkMessages}
+use Rattle.relay_step.specs.Step.{State, iteration}
 use Rattle.relay_step.specs.Leg.{correctionWeight}
-use Rattle.relay_step.proofs.Clips.{clip-off-sent, clip-off-messages, never-beyond, keeps-sign, keeps-below, within-stays, beyond-is-clip, infinite-is-clip, nan-stays}
+use Rattle.relay_check.proofs.Clips.{clip-off-sent, clip-off-messages, never-beyond, keeps-sign, keeps-below, within-stays, beyond-is-clip, infinite-is-clip, nan-stays}
 use Rattle.relay_step.proofs.Tame.{Tame, iteration-tame}
 use Rattle.relay_stores.specs.Stores.{Counted, countedIteration, storesEach, storesAt, mostIterations, maxStores, storesFault}
 use Rattle.relay_stores.proofs.Counting.{counted-state}

@@ -31,7 +31,8 @@ use Rattle.relay_settings.specs.declared.Clip.the-variants.{On}
 use Rattle.relay_settings.specs.declared.Schedule.{Schedule}
 use Rattle.relay_settings.specs.declared.Schedule.the-variants.{Flooding, CheckSerial}
 use Rattle.relay_settings.specs.Settings.{clipGood, alphaGood}
-use Rattle.relay_step.specs.Step.{State, checkMessages, updateCheck, updateVariable, biasOf, biasesTo, computeBias, checkPass, variablePass, floodingIteration}
+use Rattle.relay_check.specs.Check.{checkMessages}
+use Rattle.relay_step.specs.Step.{State, updateCheck, updateVariable, biasOf, biasesTo, computeBias, checkPass, variablePass, floodingIteration}
 use Rattle.relay_step.specs.Step.{serialCheck, serialPass, checkSerialIteration, iteration}
 use Rattle.relay_step.specs.Leg.{startLeg, runLeg}
 use Rattle.relay_step.proofs.Lengths.{length-sent, written-length}

@@ -8,7 +8,8 @@ use lib.ListN.{length, getD, set, length-set}
 use Rattle.numbers.specs.Floats.{_-ᶠ_}
 use Rattle.numbers.proofs.Loops.{length-table}
 use Rattle.relay_settings.specs.declared.Clip.{Clip}
-use Rattle.relay_step.specs.Step.{sentTo, checkMessages, written}
+use Rattle.relay_check.specs.Check.{sentTo, checkMessages}
+use Rattle.relay_step.specs.Step.{written}
 
 -- a check sends as many messages as it has
 pub length-sent : (alpha : Float) (clip : Clip) (odd : Bool) (vs : List ℕ) (xs : List Float) → length (checkMessages alpha clip odd vs xs) ≡ length xs

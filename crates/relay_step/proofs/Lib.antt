@@ -3,10 +3,7 @@ pub mod Parts
 pub mod Lengths
 pub mod Variables
 pub mod Passes
-pub mod Signs
-pub mod Sends
 pub mod Legs
 pub mod Weights
-pub mod Clips
 pub mod Tame
 pub mod Bounds

@@ -13,7 +13,8 @@ use Rattle.graph_lists.specs.Graph.{Graph}
 use Rattle.graph_lists.specs.Messages.{byPlace}
 use Rattle.graph_messages.specs.Needs.{walked, ofChecks, ofVariables}
 use Rattle.relay_settings.specs.declared.Clip.{Clip}
-use Rattle.relay_step.specs.Step.{State, state, checkMessages, updateCheck, updateVariable, biasOf, biasesTo, computeBias, checkPass, variablePass, floodingIteration, serialCheck, serialPass, checkSerialIteration}
+use Rattle.relay_check.specs.Check.{checkMessages}
+use Rattle.relay_step.specs.Step.{State, state, updateCheck, updateVariable, biasOf, biasesTo, computeBias, checkPass, variablePass, floodingIteration, serialCheck, serialPass, checkSerialIteration}
 
 -- ---- turns
 

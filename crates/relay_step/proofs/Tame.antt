@@ -21,10 +21,11 @@ use Rattle.relay_settings.specs.declared.Clip.the-variants.{On}
 use Rattle.relay_settings.specs.declared.Schedule.{Schedule}
 use Rattle.relay_settings.specs.declared.Schedule.the-variants.{Flooding, CheckSerial}
 use Rattle.relay_settings.specs.Settings.{clipGood, alphaGood}
-use Rattle.relay_step.specs.Step.{State, checkMessages, updateCheck, updateVariable, checkPass, variablePass, floodingIteration, serialCheck, serialPass, checkSerialIteration, iteration}
+use Rattle.relay_check.specs.Check.{checkMessages}
+use Rattle.relay_step.specs.Step.{State, updateCheck, updateVariable, checkPass, variablePass, floodingIteration, serialCheck, serialPass, checkSerialIteration, iteration}
 use Rattle.relay_step.specs.Leg.{startLeg, runLeg}
 use Rattle.relay_step.proofs.Lengths.{length-sent}
-use Rattle.relay_step.proofs.Clips.{sent-within, sent-finite}
+use Rattle.relay_check.proofs.Clips.{sent-within, sent-finite}
 
 -- ---- each element of a list
 

@@ -9,11 +9,11 @@ ghost use Rattle.graph_messages.specs.Needs.{Walks, walked, ofChecks, ofVariabl
 ghost use Rattle.relay_step.specs.Step.{state, biasOf, computeBias, updateCheck, checkPass, variablePass, serialCheck, serialPass};
 ghost use Rattle.relay_step.specs.Step.{floodingIteration, checkSerialIteration, iteration};
 ghost use Rattle.relay_step.specs.Places.{PerMechanism};
-use crate::check::clipped_part;
-use crate::check::update_part;
 use crate::variable::update_variable;
 use crate::variable::update_variables;
 use graph_lists::indices::at;
+use relay_check::clipped_part;
+use relay_check::update_part;
 use relay_settings::Clip;
 use relay_settings::Schedule;
 

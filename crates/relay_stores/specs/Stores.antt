@@ -17,7 +17,8 @@ use Rattle.relay_settings.specs.declared.Clip.{Clip}
 use Rattle.relay_settings.specs.declared.Schedule.{Schedule}
 use Rattle.relay_settings.specs.declared.Schedule.the-variants.{Flooding, CheckSerial}
 use Rattle.relay_settings.specs.declared.Settings.{Settings}
-use Rattle.relay_step.specs.Step.{State, state, checkMessages, computeBias}
+use Rattle.relay_check.specs.Check.{checkMessages}
+use Rattle.relay_step.specs.Step.{State, state, computeBias}
 
 -- ---- an iteration that counts: each definition is the one of `Step` that it names, with a count
 

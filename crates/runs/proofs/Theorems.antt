@@ -11,6 +11,7 @@ use Rattle.graph_lists.specs.Model as Model
 use Rattle.min_sum_pass.specs.MinSum as MinSum
 use Rattle.min_sum.specs.Beliefs as Beliefs
 use Rattle.relay_settings.specs.Settings as Settings
+use Rattle.relay_check.specs.Check as Check
 use Rattle.relay_step.specs.Step as Step
 use Rattle.relay_orders.specs.Order as Order
 use Rattle.relay_step.specs.Leg as Leg
@@ -34,7 +35,7 @@ unfolding add sub mul neg lt le eq ofInt
     MinSum.signWithout MinSum.sentAt MinSum.sentTo MinSum.checkMessages MinSum.skipped MinSum.updateCheck MinSum.damped MinSum.dampedMessages MinSum.rawPosterior MinSum.updateVariable MinSum.parallelCheck MinSum.checksTo MinSum.variablesTo MinSum.parallelIteration MinSum.serialCheck MinSum.serialTo MinSum.serialIteration MinSum.runningAverage MinSum.averagedTo MinSum.averaged MinSum.weightOf MinSum.chosen MinSum.chosenTo MinSum.startRound MinSum.iterated MinSum.iteratedIn MinSum.outerRoundTo MinSum.outerRound MinSum.allRounds MinSum.minSumBp
     Beliefs.beliefsListsFit Beliefs.beliefsFault Beliefs.ran Beliefs.beliefs
     Settings.clipGood Settings.alphaGood Settings.preGood Settings.legIterationsGood Settings.intervalGood Settings.setsGood Settings.gammaFault Settings.sourceFault Settings.settingsFault Settings.checkSettings
-    Step.scanned Step.scan Step.saturated Step.weighed Step.clamped Step.clipped Step.sent Step.sentTo Step.checkMessages Step.updateCheck Step.written Step.updateVariable Step.biasOf Step.biasesTo Step.computeBias Step.checkPass Step.variablePass Step.floodingIteration Step.serialCheck Step.serialPass Step.checkSerialIteration
+    Check.scanned Check.scan Check.saturated Check.weighed Check.clamped Check.clipped Check.sent Check.sentTo Check.checkMessages Step.updateCheck Step.written Step.updateVariable Step.biasOf Step.biasesTo Step.computeBias Step.checkPass Step.variablePass Step.floodingIteration Step.serialCheck Step.serialPass Step.checkSerialIteration
     Order.count Order.once Order.namesOnce Order.shares Order.above Order.late Order.exchanged Order.namesFault Order.exchangeFault
     Leg.startLeg Leg.hardBit Leg.hardDecision Leg.parity Leg.matches Leg.satisfied Leg.cost Leg.correctionWeight
     Gammas.drawnOn Gammas.drawn Gammas.legSeed Gammas.relayGamma Gammas.gammaOf

@@ -11,7 +11,7 @@ use Rattle.numbers.specs.Loops.{part, spliced}
 use Rattle.graph_lists.proofs.Cuts.{cut-bounds}
 use Rattle.graph_messages.specs.Needs.{Rises}
 use Rattle.graph_messages.proofs.Parts.{part-names, walks-along, part-rises}
-use Rattle.relay_step.specs.Step.{checkMessages}
+use Rattle.relay_check.specs.Check.{checkMessages}
 use Rattle.relay_step.proofs.Passes.{serial-is}
 use borrow.Author.Needs.{needs}
 use Rattle.relay_step.proofs.step.serial_check.Statement.{statement}
