@@ -208,7 +208,16 @@ fn serial_check(
     let odd = syndrome[c] != 0;
     match clip {
         Clip::Off => update_part(alpha, odd, start, end, check_var, v_to_c, c_to_v),
-        Clip::On(limit) => clipped_part(alpha, limit, odd, start, end, check_var, v_to_c, c_to_v),
+        Clip::On(magnitude) => clipped_part(
+            alpha,
+            magnitude,
+            odd,
+            start,
+            end,
+            check_var,
+            v_to_c,
+            c_to_v,
+        ),
     }
     update_variables(
         &check_var[start..end],
