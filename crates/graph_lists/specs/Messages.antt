@@ -61,7 +61,7 @@ lowered s sign who message =
     let lower = lt magnitude (s .min1) in
     scanOf sign (cond lower magnitude (s .min1)) (cond lower (s .min1) (cond (lt magnitude (s .min2)) magnitude (s .min2))) (cond lower who (s .holder))
 
--- ---- the first pass of min-sum, which the code of both takes: Relay's own (`relay_step` `Step`) finds the same sign and minima
+-- ---- the first pass of min-sum, which the code of both takes: Relay's own (`relay_check` `Check`) finds the same sign and minima
 
 -- `usize::MAX`, the position before any minimum is found
 abbrev pub noPosition : ℕ

@@ -144,7 +144,8 @@ pub fn update_part(
     );
 }
 
-// `clipped_check` for it. Two functions, and no branch in one: each is small enough to be inlined, and both together are not.
+// `clipped_check` for it. The callers choose between the two, since each is small enough to be inlined into them, and a function that chose
+// would not be.
 pub fn clipped_part(
     alpha: f64,
     limit: f64,
