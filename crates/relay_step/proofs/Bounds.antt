@@ -266,12 +266,3 @@ module _ (alpha limit : Float) (able : alphaGood alpha ≡ true) (fit : fits bin
         let e : b + more + n * more ≡ b + suc n * more = omega arith in
         subst (λ (a : ℕ). Bounded limit g a (runLeg step test (suc n) false k s .left)) e
         (leg-bounded schedule order test n (b + more) (omega arith) (test (step s .posterior)) (suc k) (step s) (iteration-bounded schedule order b (omega arith) s h))
-
-    -- so what a leg leaves is not refused with 30
-    pub leg-passes : (schedule : Schedule) (order : List ℕ) (test : List Float → Bool) (n b : ℕ) → b + n * (2 * p + d * c) < 2 ^ 53 → (posterior : List Float)
-        → ((v : ℕ) → v < g .mechanisms → Within (getD posterior v nan) b) → (ok : Bool) (k : ℕ)
-        → posteriorFault g (runLeg (iteration schedule byPlace g alpha (On limit) syndrome prior gamma order) test n ok k (startLeg g prior posterior) .left .posterior)
-        ≡ Done
-    leg-passes schedule order test n b few posterior h ok k =
-        bounded-passes limit g (b + n * (2 * p + d * c)) _
-        (leg-bounded schedule order test n b few ok k (startLeg g prior posterior) (start-bounded limit good g prior posterior b h))
