@@ -310,7 +310,7 @@ pub extern "C" fn chowderkite_beliefs(
 
 // `relay_settings::Settings::published`.
 #[no_mangle]
-pub extern "C" fn chowderkite_published(floats: &mut [f64; 5], counts: &mut [u64; 5]) -> u8
+pub extern "C" fn chowderkite_published(floats: &mut [f64; 5], counts: &mut [u64; 6]) -> u8
     ensures schedule { λ r. ⌜ r ≡ byteOf (published .schedule) ⌝ }
     ensures floats { λ _. ⌜ now (floats .exit) ≡ floatsIn published ⌝ }
     ensures counts { λ _. ⌜ now (counts .exit) ≡ countsIn published ⌝ }
@@ -332,14 +332,14 @@ pub extern "C" fn chowderkite_check_settings(
     gamma_low: f64,
     gamma_high: f64,
     stop_after_converged: usize,
-    explicit: u8,
+    source: u8,
     sets: usize,
     mechanisms: usize,
     gammas: &[f64],
 ) -> u64
     ensures { λ r. ⌜ (
         let settings = settingsGiven schedule alpha «clip_on» clip gamma0 «pre_iterations» «num_legs» «leg_iterations»
-        «gamma_low» «gamma_high» «stop_after_converged» explicit sets in
+        «gamma_low» «gamma_high» «stop_after_converged» source sets in
         r ≡ codeOf (checkSettings settings mechanisms (now (gammas .entry)))) ⌝ }
 {
     decodes::check_settings(
@@ -354,7 +354,7 @@ pub extern "C" fn chowderkite_check_settings(
         gamma_low,
         gamma_high,
         stop_after_converged,
-        explicit,
+        source,
         sets,
         mechanisms,
         gammas,
@@ -384,7 +384,7 @@ pub extern "C" fn chowderkite_decode(
     gamma_low: f64,
     gamma_high: f64,
     stop_after_converged: usize,
-    explicit: u8,
+    source: u8,
     sets: usize,
     gammas: &[f64],
     syndrome: &[u8],
@@ -406,7 +406,7 @@ pub extern "C" fn chowderkite_decode(
         let g = graph checks mechanisms (now («check_var» .entry)) (now («check_offset» .entry))
         (now («var_check» .entry)) (now («var_message» .entry)) (now («var_offset» .entry)) in
         let settings = settingsGiven schedule alpha «clip_on» clip gamma0 «pre_iterations» «num_legs» «leg_iterations»
-        «gamma_low» «gamma_high» «stop_after_converged» explicit sets in
+        «gamma_low» «gamma_high» «stop_after_converged» source sets in
         let before = decodeLists (now («leg_state» .entry)) (now («leg_steps» .entry)) (now («leg_weight» .entry)) (now (rows .entry))
         (now (correction .entry)) (now (posterior .entry)) (now (gamma .entry)) (now (bias .entry))
         (now («c_to_v» .entry)) (now («v_to_c» .entry)) in
@@ -446,7 +446,7 @@ pub extern "C" fn chowderkite_decode(
         gamma_low,
         gamma_high,
         stop_after_converged,
-        explicit,
+        source,
         sets,
         gammas,
         syndrome,
@@ -489,7 +489,7 @@ pub extern "C" fn chowderkite_decode_in_order(
     gamma_low: f64,
     gamma_high: f64,
     stop_after_converged: usize,
-    explicit: u8,
+    source: u8,
     sets: usize,
     gammas: &[f64],
     syndrome: &[u8],
@@ -512,7 +512,7 @@ pub extern "C" fn chowderkite_decode_in_order(
         let g = graph checks mechanisms (now («check_var» .entry)) (now («check_offset» .entry))
         (now («var_check» .entry)) (now («var_message» .entry)) (now («var_offset» .entry)) in
         let settings = settingsGiven schedule alpha «clip_on» clip gamma0 «pre_iterations» «num_legs» «leg_iterations»
-        «gamma_low» «gamma_high» «stop_after_converged» explicit sets in
+        «gamma_low» «gamma_high» «stop_after_converged» source sets in
         let before = decodeLists (now («leg_state» .entry)) (now («leg_steps» .entry)) (now («leg_weight» .entry)) (now (rows .entry))
         (now (correction .entry)) (now (posterior .entry)) (now (gamma .entry)) (now (bias .entry))
         (now («c_to_v» .entry)) (now («v_to_c» .entry)) in
@@ -552,7 +552,7 @@ pub extern "C" fn chowderkite_decode_in_order(
         gamma_low,
         gamma_high,
         stop_after_converged,
-        explicit,
+        source,
         sets,
         gammas,
         syndrome,

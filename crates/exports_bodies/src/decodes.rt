@@ -1,5 +1,6 @@
-// The decodes of `relay`. Settings pass one by one, where `clip_on` is 0 for a clip that is off, and `explicit` for gammas that are
-// drawn. What a decode answers beyond its number goes into two lists of fixed length, which pass as a pointer alone.
+// The decodes of `relay`. Settings pass one by one, where `clip_on` is 0 for a clip that is off, and `source` is 0 for gammas drawn by
+// shot, 1 for explicit sets and 2 for gammas drawn from the seed xor the leg. What a decode answers beyond its number goes into two lists
+// of fixed length, which pass as a pointer alone.
 ghost use mathlib.Core.Path.{_≡_};
 ghost use mathlib.Core.List.{[]};
 ghost use Rattle.graph_lists.specs.Graph.{graph};
@@ -25,14 +26,14 @@ pub fn check_settings(
     gamma_low: f64,
     gamma_high: f64,
     stop_after_converged: usize,
-    explicit: u8,
+    source: u8,
     sets: usize,
     mechanisms: usize,
     gammas: &[f64],
 ) -> u64
     ensures { λ r. ⌜ (
         let settings = settingsGiven schedule alpha «clip_on» clip gamma0 «pre_iterations» «num_legs» «leg_iterations»
-        «gamma_low» «gamma_high» «stop_after_converged» explicit sets in
+        «gamma_low» «gamma_high» «stop_after_converged» source sets in
         r ≡ codeOf (checkSettings settings mechanisms (now (gammas .entry)))) ⌝ }
 {
     let t = settings_of(
@@ -47,7 +48,7 @@ pub fn check_settings(
         gamma_low,
         gamma_high,
         stop_after_converged,
-        explicit as usize,
+        source as usize,
         sets,
     );
     code(relay_settings::check_settings(t, mechanisms, gammas))
@@ -75,7 +76,7 @@ pub fn decode_in_order(
     gamma_low: f64,
     gamma_high: f64,
     stop_after_converged: usize,
-    explicit: u8,
+    source: u8,
     sets: usize,
     gammas: &[f64],
     syndrome: &[u8],
@@ -98,7 +99,7 @@ pub fn decode_in_order(
         let g = graph checks mechanisms (now («check_var» .entry)) (now («check_offset» .entry))
         (now («var_check» .entry)) (now («var_message» .entry)) (now («var_offset» .entry)) in
         let settings = settingsGiven schedule alpha «clip_on» clip gamma0 «pre_iterations» «num_legs» «leg_iterations»
-        «gamma_low» «gamma_high» «stop_after_converged» explicit sets in
+        «gamma_low» «gamma_high» «stop_after_converged» source sets in
         let before = decodeLists (now («leg_state» .entry)) (now («leg_steps» .entry)) (now («leg_weight» .entry)) (now (rows .entry))
         (now (correction .entry)) (now (posterior .entry)) (now (gamma .entry)) (now (bias .entry))
         (now («c_to_v» .entry)) (now («v_to_c» .entry)) in
@@ -134,7 +135,7 @@ pub fn decode_in_order(
         gamma_low,
         gamma_high,
         stop_after_converged,
-        explicit as usize,
+        source as usize,
         sets,
     );
     let decoded = relay::decode_in_order(
@@ -186,7 +187,7 @@ pub fn decode(
     gamma_low: f64,
     gamma_high: f64,
     stop_after_converged: usize,
-    explicit: u8,
+    source: u8,
     sets: usize,
     gammas: &[f64],
     syndrome: &[u8],
@@ -208,7 +209,7 @@ pub fn decode(
         let g = graph checks mechanisms (now («check_var» .entry)) (now («check_offset» .entry))
         (now («var_check» .entry)) (now («var_message» .entry)) (now («var_offset» .entry)) in
         let settings = settingsGiven schedule alpha «clip_on» clip gamma0 «pre_iterations» «num_legs» «leg_iterations»
-        «gamma_low» «gamma_high» «stop_after_converged» explicit sets in
+        «gamma_low» «gamma_high» «stop_after_converged» source sets in
         let before = decodeLists (now («leg_state» .entry)) (now («leg_steps» .entry)) (now («leg_weight» .entry)) (now (rows .entry))
         (now (correction .entry)) (now (posterior .entry)) (now (gamma .entry)) (now (bias .entry))
         (now («c_to_v» .entry)) (now («v_to_c» .entry)) in
@@ -244,7 +245,7 @@ pub fn decode(
         gamma_low,
         gamma_high,
         stop_after_converged,
-        explicit as usize,
+        source as usize,
         sets,
     );
     let decoded = relay::decode(

@@ -103,15 +103,16 @@ pub extern "C" fn chowderkite_read_model(
 // `stream_reader::read_settings`.
 #[no_mangle]
 pub extern "C" fn chowderkite_read_settings(
+    kind: usize,
     payload: &[u8],
     floats: &mut [f64; 5],
-    counts: &mut [u64; 5],
+    counts: &mut [u64; 6],
 ) -> u8
-    ensures schedule { λ r. ⌜ r ≡ byteOf (settingsRead (now (payload .entry)) .schedule) ⌝ }
-    ensures floats { λ _. ⌜ now (floats .exit) ≡ floatsIn (settingsRead (now (payload .entry))) ⌝ }
-    ensures counts { λ _. ⌜ now (counts .exit) ≡ countsIn (settingsRead (now (payload .entry))) ⌝ }
+    ensures schedule { λ r. ⌜ r ≡ byteOf (settingsRead kind (now (payload .entry)) .schedule) ⌝ }
+    ensures floats { λ _. ⌜ now (floats .exit) ≡ floatsIn (settingsRead kind (now (payload .entry))) ⌝ }
+    ensures counts { λ _. ⌜ now (counts .exit) ≡ countsIn (settingsRead kind (now (payload .entry))) ⌝ }
 {
-    tell_settings(stream_reader::read_settings(payload), floats, counts)
+    tell_settings(stream_reader::read_settings(kind, payload), floats, counts)
 }
 
 // `stream_reader::read_seed`.

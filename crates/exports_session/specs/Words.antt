@@ -10,23 +10,18 @@ use Rattle.relay_settings.specs.declared.GammaSource.the-variants.{Explicit, Se
 use Rattle.stream_reader.specs.declared.Reader.{Reader}
 use Rattle.stream_session.specs.declared.Session.{Session}
 use Rattle.stream_session.specs.Shots.{known, session}
-use Rattle.exports_values.specs.Codes.{bitOf, byteOf, clipByte, settingsGiven, floatsIn}
+use Rattle.exports_values.specs.Codes.{bitOf, byteOf, clipByte, sourceByte, settingsGiven, floatsIn}
 
 -- ---- a session: the reader's eight words; the model's length, whether there is a model, whether there are settings, the next shot, whether the run has ended, how
--- long the line is; then the settings' schedule, counts, source and whether their clip is on. Their floats stand beside them. A word that is not 0 is true
+-- long the line is; then the settings' schedule, counts, source with its sets and whether their clip is on. Their floats stand beside them. A word that is not 0 is true
 
 -- a word as a bool
 abbrev pub isSet : ℕ → Bool
 isSet word = not (eqb word 0)
 
--- whether a source is explicit, as a word
-abbrev pub explicitWord : GammaSource → ℕ
-explicitWord Seeded = 0
-explicitWord (Explicit sets) = 1
-
--- and how many sets it has
+-- how many sets a source has, as a word
 abbrev pub setsWord : GammaSource → ℕ
-setsWord Seeded = 0
+setsWord (Seeded rule) = 0
 setsWord (Explicit sets) = sets
 
 -- a reader out of the first eight words, in the order of its fields
@@ -57,7 +52,7 @@ sessionWords s =
     let t = k .settings in
     r .offset ∷ (r .taken ∷ (r .length ∷ (r .kind ∷ (r .checks ∷ (r .mechanisms ∷ (r .edges ∷ (r .degrees ∷ (
     k .«model_length» ∷ (bitOf (k .«has_model») ∷ (bitOf (k .«has_settings») ∷ (s .shots ∷ (bitOf (s .stopped) ∷ (s .said ∷ (
-    byteOf (t .schedule) ∷ (t .«pre_iterations» ∷ (t .«num_legs» ∷ (t .«leg_iterations» ∷ (t .«stop_after_converged» ∷ (explicitWord (t .«gamma_source») ∷ (setsWord (t .«gamma_source») ∷ (clipByte (t .clip) ∷ [])))))))))))))))))))))
+    byteOf (t .schedule) ∷ (t .«pre_iterations» ∷ (t .«num_legs» ∷ (t .«leg_iterations» ∷ (t .«stop_after_converged» ∷ (sourceByte (t .«gamma_source») ∷ (setsWord (t .«gamma_source») ∷ (clipByte (t .clip) ∷ [])))))))))))))))))))))
 
 -- the floats of its settings
 abbrev pub sessionFloats : Session → List Float

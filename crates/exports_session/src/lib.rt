@@ -1,33 +1,24 @@
 // Inner: how a session of `shots` passes through the C calling convention, for `exports_bodies` alone: as words and floats in lists of
 // fixed length.
 ghost use mathlib.Core.Path.{_≡_};
-ghost use Rattle.exports_session.specs.Words.{explicitWord, setsWord, sessionOf, sessionWords, sessionFloats};
+ghost use Rattle.exports_session.specs.Words.{setsWord, sessionOf, sessionWords, sessionFloats};
 use exports_values::answers::bit;
 use exports_values::given::settings_of;
 use exports_values::told::byte_of;
 use exports_values::told::clip_byte;
 use exports_values::told::clip_float;
+use exports_values::told::source_byte;
 use relay_settings::GammaSource;
 use stream_reader::Reader;
 use stream_session::Known;
 use stream_session::Session;
-
-// Whether a source is explicit.
-fn explicit_word(source: GammaSource) -> usize
-    ensures { λ r. ⌜ r ≡ explicitWord source ⌝ }
-{
-    match source {
-        GammaSource::Seeded => 0,
-        GammaSource::Explicit(_) => 1,
-    }
-}
 
 // How many sets a source has.
 fn sets_word(source: GammaSource) -> usize
     ensures { λ r. ⌜ r ≡ setsWord source ⌝ }
 {
     match source {
-        GammaSource::Seeded => 0,
+        GammaSource::Seeded(_) => 0,
         GammaSource::Explicit(sets) => sets,
     }
 }
@@ -105,7 +96,7 @@ pub fn put_session(s: Session, words: &mut [usize; 22], floats: &mut [f64; 5])
         t.num_legs,
         t.leg_iterations,
         t.stop_after_converged,
-        explicit_word(source),
+        source_byte(source) as usize,
         sets_word(source),
         clip_byte(clip) as usize,
     ];

@@ -14,6 +14,8 @@ use Rattle.relay_settings.specs.declared.Schedule.{Schedule}
 use Rattle.relay_settings.specs.declared.Schedule.the-variants.{Flooding, CheckSerial}
 use Rattle.relay_settings.specs.declared.Clip.{Clip}
 use Rattle.relay_settings.specs.declared.Clip.the-variants.{Off, On}
+use Rattle.relay_settings.specs.declared.DrawRule.{DrawRule}
+use Rattle.relay_settings.specs.declared.DrawRule.the-variants.{ByShot, SeedXorLeg}
 use Rattle.relay_settings.specs.declared.GammaSource.{GammaSource}
 use Rattle.relay_settings.specs.declared.GammaSource.the-variants.{Explicit, Seeded}
 use Rattle.relay_settings.specs.declared.Settings.{Settings}
@@ -24,7 +26,7 @@ use Rattle.relay_calls.specs.declared.Decoded.the-variants as Decoded
 
 -- the version of the exported calls: raised whenever a call, a list or a code changes its meaning
 abbrev pub version : ℕ
-version = 4
+version = 5
 
 -- ---- answers
 
@@ -64,14 +66,15 @@ abbrev pub clipGiven : ℕ → Float → Clip
 clipGiven zero limit = Off
 clipGiven (suc n) limit = On limit
 
--- where a byte is 0 the gammas are drawn, and else they are explicit sets
+-- where a byte is 0 the gammas are drawn by shot, where it is 1 they are explicit sets, and else they are drawn from the seed xor the leg
 abbrev pub sourceGiven : ℕ → ℕ → GammaSource
-sourceGiven zero sets = Seeded
-sourceGiven (suc n) sets = Explicit sets
+sourceGiven zero sets = Seeded ByShot
+sourceGiven (suc zero) sets = Explicit sets
+sourceGiven (suc (suc n)) sets = Seeded SeedXorLeg
 
 -- the settings of a call, in its order
 abbrev pub settingsGiven : ℕ → Float → ℕ → Float → Float → ℕ → ℕ → ℕ → Float → Float → ℕ → ℕ → ℕ → Settings
-settingsGiven schedule alpha clipOn clip gamma0 pre legs iterations low high stop explicit sets =
+settingsGiven schedule alpha clipOn clip gamma0 pre legs iterations low high stop source sets =
     record {
       schedule = scheduleGiven schedule;
       alpha = alpha;
@@ -83,7 +86,7 @@ settingsGiven schedule alpha clipOn clip gamma0 pre legs iterations low high sto
       «gamma_low» = low;
       «gamma_high» = high;
       «stop_after_converged» = stop;
-      «gamma_source» = sourceGiven explicit sets;
+      «gamma_source» = sourceGiven source sets;
     }
 
 -- a schedule as a byte
@@ -101,13 +104,24 @@ abbrev pub clipFloat : Clip → Float
 clipFloat Off = zero⁺
 clipFloat (On limit) = limit
 
+-- a draw as a byte
+abbrev pub ruleByte : DrawRule → ℕ
+ruleByte ByShot = 0
+ruleByte SeedXorLeg = 2
+
+-- and a source
+abbrev pub sourceByte : GammaSource → ℕ
+sourceByte (Seeded rule) = ruleByte rule
+sourceByte (Explicit sets) = 1
+
 -- the floats of settings: alpha, gamma0, the interval's ends and the clip's magnitude
 abbrev pub floatsIn : Settings → List Float
 floatsIn t = t .alpha ∷ (t .gamma0 ∷ (t .«gamma_low» ∷ (t .«gamma_high» ∷ (clipFloat (t .clip) ∷ []))))
 
--- and their counts: pre_iterations, num_legs, leg_iterations, stop_after_converged, and whether the clip is on
+-- and their counts: pre_iterations, num_legs, leg_iterations, stop_after_converged, whether the clip is on, and the source's byte
 abbrev pub countsIn : Settings → List ℕ
-countsIn t = t .«pre_iterations» ∷ (t .«num_legs» ∷ (t .«leg_iterations» ∷ (t .«stop_after_converged» ∷ (clipByte (t .clip) ∷ []))))
+countsIn t =
+    t .«pre_iterations» ∷ (t .«num_legs» ∷ (t .«leg_iterations» ∷ (t .«stop_after_converged» ∷ (clipByte (t .clip) ∷ (sourceByte (t .«gamma_source») ∷ [])))))
 
 -- ---- a decode
 

@@ -1,5 +1,6 @@
 // Settings out of the numbers that they pass as.
 use relay_settings::Clip;
+use relay_settings::DrawRule;
 use relay_settings::GammaSource;
 use relay_settings::Schedule;
 use relay_settings::Settings;
@@ -27,13 +28,16 @@ pub fn clip_of(on: usize, limit: f64) -> Clip
 }
 
 // Where the gammas come from.
-fn source_of(explicit: usize, sets: usize) -> GammaSource
-    ensures { λ r. ⌜ r ≡ sourceGiven explicit sets ⌝ }
+fn source_of(source: usize, sets: usize) -> GammaSource
+    ensures { λ r. ⌜ r ≡ sourceGiven source sets ⌝ }
 {
-    if explicit == 0 {
-        return GammaSource::Seeded;
+    if source == 0 {
+        return GammaSource::Seeded(DrawRule::ByShot);
     }
-    GammaSource::Explicit(sets)
+    if source == 1 {
+        return GammaSource::Explicit(sets);
+    }
+    GammaSource::Seeded(DrawRule::SeedXorLeg)
 }
 
 // The settings of a call.
@@ -49,16 +53,16 @@ pub fn settings_of(
     gamma_low: f64,
     gamma_high: f64,
     stop_after_converged: usize,
-    explicit: usize,
+    source: usize,
     sets: usize,
 ) -> Settings
     ensures { λ r. ⌜
         r ≡ settingsGiven schedule alpha «clip_on» clip gamma0 «pre_iterations» «num_legs» «leg_iterations»
-        «gamma_low» «gamma_high» «stop_after_converged» explicit sets ⌝ }
+        «gamma_low» «gamma_high» «stop_after_converged» source sets ⌝ }
 {
     let order = schedule_of(schedule);
     let limit = clip_of(clip_on, clip);
-    let source = source_of(explicit, sets);
+    let gammas = source_of(source, sets);
     Settings {
         schedule: order,
         alpha: alpha,
@@ -70,6 +74,6 @@ pub fn settings_of(
         gamma_low: gamma_low,
         gamma_high: gamma_high,
         stop_after_converged: stop_after_converged,
-        gamma_source: source,
+        gamma_source: gammas,
     }
 }

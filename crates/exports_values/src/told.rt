@@ -8,7 +8,7 @@ ghost use Rattle.refusals.specs.Refusal.{numberOf};
 ghost use Rattle.refusals.specs.declared.Answer.the-variants.{Refused};
 ghost use Rattle.relay_calls.specs.Records.{valuesOf};
 ghost use Rattle.exports_values.specs.Codes.{codeOf, decodedCode, decodedCounts, decodedWeight, byteOf};
-ghost use Rattle.exports_values.specs.Codes.{clipByte, clipFloat, floatsIn, countsIn};
+ghost use Rattle.exports_values.specs.Codes.{clipByte, clipFloat, ruleByte, sourceByte, floatsIn, countsIn};
 use crate::answers::code;
 use refusals::Answer;
 use refusals::Refusal;
@@ -16,6 +16,8 @@ use refusals::number_of;
 use relay_calls::Decoded;
 use relay_calls::LegRecord;
 use relay_settings::Clip;
+use relay_settings::DrawRule;
+use relay_settings::GammaSource;
 use relay_settings::Schedule;
 use relay_settings::Settings;
 
@@ -121,13 +123,34 @@ pub fn clip_float(clip: Clip) -> f64
     }
 }
 
+// A draw's byte.
+fn rule_byte(rule: DrawRule) -> u8
+    ensures { λ r. ⌜ r ≡ ruleByte rule ⌝ }
+{
+    match rule {
+        DrawRule::ByShot => 0,
+        DrawRule::SeedXorLeg => 2,
+    }
+}
+
+// A source's byte.
+pub fn source_byte(source: GammaSource) -> u8
+    ensures { λ r. ⌜ r ≡ sourceByte source ⌝ }
+{
+    match source {
+        GammaSource::Explicit(_) => 1,
+        GammaSource::Seeded(rule) => rule_byte(rule),
+    }
+}
+
 // The floats and the counts of settings, and the byte of their schedule.
-pub fn tell_settings(t: Settings, floats: &mut [f64; 5], counts: &mut [u64; 5]) -> u8
+pub fn tell_settings(t: Settings, floats: &mut [f64; 5], counts: &mut [u64; 6]) -> u8
     ensures schedule { λ r. ⌜ r ≡ byteOf (t .schedule) ⌝ }
     ensures floats { λ _. ⌜ now (floats .exit) ≡ floatsIn t ⌝ }
     ensures counts { λ _. ⌜ now (counts .exit) ≡ countsIn t ⌝ }
 {
     let clip = t.clip;
+    let source = t.gamma_source;
     *floats = [
         t.alpha,
         t.gamma0,
@@ -141,6 +164,7 @@ pub fn tell_settings(t: Settings, floats: &mut [f64; 5], counts: &mut [u64; 5]) 
         t.leg_iterations as u64,
         t.stop_after_converged as u64,
         clip_byte(clip) as u64,
+        source_byte(source) as u64,
     ];
     let schedule = t.schedule;
     byte_of(schedule)

@@ -159,7 +159,7 @@ module _ (edges : ℕ) (x : Shot) (l : DecodeLists) where
   decode-past (Refused r) h = refl
   decode-past Done h =
       let a = or-done _ _ h in
-      let d = or-done _ _ (or-done _ _ (or-done _ _ (a .1) .1) .1) in
+      let d = or-done _ _ (or-done _ _ (or-done _ _ (or-done _ _ (a .1) .1) .1) .1) in
       let sound = sound-of edges (x .prior) (x .graph) (a .0) in
       let names = names-told (x .graph .checks) (x .order) (or-done _ _ (d .1) .0) in
       formula-stands byPlace x sound (by-place-full (x .graph) sound) names edges l

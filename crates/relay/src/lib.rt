@@ -17,6 +17,8 @@ pub type Schedule = relay_settings::Schedule;
 
 pub type Clip = relay_settings::Clip;
 
+pub type DrawRule = relay_settings::DrawRule;
+
 pub type GammaSource = relay_settings::GammaSource;
 
 pub type Settings = relay_settings::Settings;
@@ -167,6 +169,7 @@ pub fn decode_in_order(
         settings,
         gammas,
         syndrome,
+        seed,
         order,
         leg_state,
         leg_iterations,
@@ -253,6 +256,7 @@ pub fn decode(
         settings,
         gammas,
         syndrome,
+        seed,
         leg_state,
         leg_iterations,
         leg_weight,

@@ -25,4 +25,4 @@ or-none (Refused r) = refl
 pub stores-last : (edges : ℕ) (x : Shot) (l : DecodeLists) → decodeFault edges x l ≡ orElse (takenFault edges x l) (storesFault (x .settings) (x .graph))
 unfolding decodeFault takenFault
 stores-last edges x l =
-    sym (or-joined _ _ _ ∙ ap (orElse _) (or-joined _ _ _ ∙ ap (orElse _) (or-joined _ _ _ ∙ ap (orElse _) (or-joined _ _ _ ∙ ap (orElse _) (or-joined _ _ _)))))
+    sym (or-joined _ _ _ ∙ ap (orElse _) (or-joined _ _ _ ∙ ap (orElse _) (or-joined _ _ _ ∙ ap (orElse _) (or-joined _ _ _ ∙ ap (orElse _) (or-joined _ _ _ ∙ ap (orElse _) (or-joined _ _ _))))))

@@ -149,7 +149,7 @@ pub taken-leaves : (edges : ℕ) (x : Shot) (l : DecodeLists) → takenFault edg
 unfolding decodeInOrder takenFault
 taken-leaves edges x l h =
     let a = or-done _ _ h in
-    let d = or-done _ _ (or-done _ _ (or-done _ _ (a .1) .1) .1) in
+    let d = or-done _ _ (or-done _ _ (or-done _ _ (or-done _ _ (a .1) .1) .1) .1) in
     let sound : Sound (x .graph) = passes-sound (x .graph) (graph-told edges (x .prior) (x .graph) (a .0) .is-graph) in
     let names = names-told (x .graph .checks) (x .order) (or-done _ _ (d .1) .0) in
     ap (λ o. afterDecodeTests (storesFault (x .settings) (x .graph)) o l) (sym (formula-stands byPlace x sound (by-place-full (x .graph) sound) names edges l))

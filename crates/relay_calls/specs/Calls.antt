@@ -21,6 +21,7 @@ use Rattle.relay_settings.specs.declared.Schedule.{Schedule}
 use Rattle.relay_calls.specs.declared.Decoded.{Decoded}
 use Rattle.relay_calls.specs.declared.Decoded.the-variants as Decoded
 use Rattle.relay_settings.specs.Settings.{clipGood, alphaGood, settingsFault}
+use Rattle.relay_gammas.specs.Gammas.{seedFault}
 use Rattle.relay_step.specs.Step.{State, state, iteration}
 use Rattle.relay_orders.specs.Order.{namesFault, exchangeFault}
 use Rattle.relay_stores.specs.Stores.{storesFault}
@@ -176,16 +177,17 @@ decodeListsFit edges x l =
     && (eqb (length (l .gamma)) mechanisms
     && (eqb (length (l .bias)) mechanisms && (eqb (length (l .cToV)) edges && eqb (length (l .vToC)) edges))))))))
 
--- the tests of a decode behind those of the graph: 9 to 24, and 29
+-- the tests of a decode behind those of the graph: 9 to 21, 27, 22 to 24, 29
 abbrev pub decodeRest : ℕ → Shot → DecodeLists → Answer
 decodeRest edges x l =
     orElse (settingsFault (x .settings) (x .graph .mechanisms) (x .gammas))
     (orElse (syndromeFault (x .graph .checks) (x .syndrome))
+    (orElse (seedFault (x .settings .«gamma_source») (x .seed))
     (orElse (unless (decodeListsFit edges x l) LentListLength)
     (orElse (namesFault (x .graph .checks) (x .order))
-    (orElse (exchangeFault (x .settings .schedule) (x .graph) (x .order)) (storesFault (x .settings) (x .graph))))))
+    (orElse (exchangeFault (x .settings .schedule) (x .graph) (x .order)) (storesFault (x .settings) (x .graph)))))))
 
--- the tests of a decode: 1, 2, 4, 7, 9 to 24, 29
+-- the tests of a decode: 1, 2, 4, 7, 9 to 21, 27, 22 to 24, 29
 unfoldable pub decodeFault : ℕ → Shot → DecodeLists → Answer
 decodeFault edges x l = orElse (graphFault edges (x .prior) (x .graph)) (decodeRest edges x l)
 

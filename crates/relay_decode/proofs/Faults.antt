@@ -31,6 +31,7 @@ use Rattle.relay_settings.specs.Settings.{settingsFault}
 use Rattle.relay_settings.proofs.Told.{settings-told}
 use Rattle.numbers.specs.Limits.{maxEdges}
 use Rattle.numbers.specs.Loops.{upto}
+use Rattle.relay_gammas.specs.Gammas.{seedFault}
 use Rattle.relay_orders.specs.Order.{namesOnce, namesFault, exchangeFault}
 use Rattle.relay_calls.proofs.Named.{names-entries, index-passes}
 use Rattle.relay_calls.proofs.LastTests.{or-joined, or-none, stores-last}
@@ -64,7 +65,7 @@ module _ (edges : ℕ) (x : Shot) (l : DecodeLists) where
   fault-joined : takenFault edges x l
       ≡ orElse (shotFault edges x l) (orElse (namesFault (x .graph .checks) (x .order)) (exchangeFault (x .settings .schedule) (x .graph) (x .order)))
   unfolding takenFault shotFault
-  fault-joined = sym (or-joined _ _ _ ∙ ap (orElse _) (or-joined _ _ _ ∙ ap (orElse _) (or-joined _ _ _)))
+  fault-joined = sym (or-joined _ _ _ ∙ ap (orElse _) (or-joined _ _ _ ∙ ap (orElse _) (or-joined _ _ _ ∙ ap (orElse _) (or-joined _ _ _))))
 
   module _ (records work : Bool) (er : records ≡ (leb (suc (x .settings .«num_legs»))
       (length (l .legState)) && (leb (suc (x .settings .«num_legs»)) (length
@@ -80,10 +81,12 @@ module _ (edges : ℕ) (x : Shot) (l : DecodeLists) where
         (length (l .legState))) (leb (suc (x .settings .«num_legs»)) (length (l .legIterations))) (leb (suc (x .settings .«num_legs»)) (length (l .legWeight)))
         (leb (suc (x .settings .«num_legs») * x .graph .mechanisms) (length (l .rows))) _)
 
-    -- 20, 21 and 22
-    pub lists-fault : (f : Bool) (s u r : Answer) → f ≡ (records && work) → s ≡ syndromeFault (x .graph .checks) (x .syndrome) → u ≡ unless f LentListLength → r ≡ orElse s u
-        → r ≡ orElse (syndromeFault (x .graph .checks) (x .syndrome)) (unless (decodeListsFit edges x l) LentListLength)
-    lists-fault f s u r a b c d = d ∙ rw (b, c, a ∙ fits-is)
+    -- 20, 21, 27 and 22
+    pub lists-fault : (f : Bool) (s k u v r : Answer) → f ≡ (records && work) → u ≡ unless f LentListLength → s ≡ syndromeFault (x .graph .checks) (x .syndrome)
+        → k ≡ seedFault (x .settings .«gamma_source») (x .seed) → v ≡ orElse k u → r ≡ orElse s v
+        → r ≡ orElse (syndromeFault (x .graph .checks) (x .syndrome))
+        (orElse (seedFault (x .settings .«gamma_source») (x .seed)) (unless (decodeListsFit edges x l) LentListLength))
+    lists-fault f s k u v r a b c d e h = h ∙ rw (c, e, d, b, a ∙ fits-is)
 
 -- ---- 23 and 24, by themselves
 
@@ -129,12 +132,13 @@ module _ (edges checks mechanisms : ℕ) (t : Settings) (flat : List Float) (see
         let t1 = or-done _ _ h in
         let t2 = or-done _ _ (t1 .1) in
         let t3 = or-done _ _ (t2 .1) in
+        let t4 = or-done _ _ (t3 .1) in
         let g = graph-told edges prior (graph checks mechanisms cv co vc vm vo) (t1 .0) in
         let s = settings-told t mechanisms flat (t2 .0) in
         let many = eqb-true (length syndrome) checks (unless-done _ _ (or-done _ _ (t3 .0) .0)) in
         let w = graph-walks (graph checks mechanisms cv co vc vm vo) (g .is-graph) in
         let p = g .priors-many in
-        let f1 = and-both _ _ (unless-done _ _ (t3 .1)) in
+        let f1 = and-both _ _ (unless-done _ _ (t4 .1)) in
         let f2 = and-both _ _ (f1 .1) in
         let f3 = and-both _ _ (f2 .1) in
         let f4 = and-both _ _ (f3 .1) in
@@ -211,11 +215,6 @@ module _ (edges checks mechanisms : ℕ) (t : Settings) (flat : List Float) (see
         exchange-whole Flooding = refl
         exchange-whole CheckSerial = refl
 
-    -- the tests do not look at the seed
-    pub fault-seed : takenFault edges (whole t flat 0 syndrome prior cv co vc vm vo order checks mechanisms) l ≡ takenFault edges (X order) l
-    unfolding takenFault decodeListsFit
-    fault-seed = refl
-
     -- ---- the calls
 
     -- refused by a test before 29
@@ -241,11 +240,6 @@ module _ (edges checks mechanisms : ℕ) (t : Settings) (flat : List Float) (see
   -- ---- in index order
 
   module _ (l : DecodeLists) where
-    -- the tests do not look at the seed
-    pub shot-seed : shotFault edges (whole t flat 0 syndrome prior cv co vc vm vo [] checks mechanisms) l ≡ shotFault edges (X []) l
-    unfolding shotFault decodeListsFit
-    shot-seed = refl
-
     -- the index order passes 23 and 24
     index-fault : shotFault edges (X []) l ≡ takenFault edges (X (upto checks)) l
     unfolding shotFault decodeListsFit

@@ -24,6 +24,7 @@ use refusals_tests::or_else;
 use refusals_tests::same_number;
 use refusals_tests::unless;
 use relay_calls::tests::syndrome_fault;
+use relay_gammas::seed_fault;
 use relay_orders::exchange_fault;
 use relay_orders::is_index_order;
 use relay_orders::names_fault;
@@ -92,7 +93,7 @@ fn work_fits(
     )
 }
 
-// The tests of both calls: 1, 2, 4, 7, 9 to 22.
+// The tests of both calls: 1, 2, 4, 7, 9 to 21, 27, 22.
 pub fn shot_fault(
     size: graph::Size,
     priors: &[f64],
@@ -104,6 +105,7 @@ pub fn shot_fault(
     t: Settings,
     gammas: &[f64],
     syndrome: &[u8],
+    seed: u64,
     leg_state: &[u8],
     leg_iterations: &[u32],
     leg_weight: &[f64],
@@ -118,13 +120,14 @@ pub fn shot_fault(
     ensures { λ r.
         let g = graph (size .checks) (size .mechanisms) (now («check_var» .entry))
         (now («check_offset» .entry)) (now («var_check» .entry)) (now («var_message» .entry)) (now («var_offset» .entry)) in
-        let x = shot g (now (priors .entry)) t (now (gammas .entry)) [] (now (syndrome .entry)) 0 in
+        let x = shot g (now (priors .entry)) t (now (gammas .entry)) [] (now (syndrome .entry)) seed in
         let before = decodeLists (now («leg_state» .entry)) (now («leg_iterations» .entry)) (now («leg_weight» .entry)) (now (rows .entry))
         (now (correction .entry)) (now (posterior .entry)) (now (gamma .entry)) (now (bias .entry)) (now («c_to_v» .entry))
         (now («v_to_c» .entry)) in
         ⌜ r ≡ shotFault (size .edges) x before ⌝ }
 {
     let num_legs = t.num_legs;
+    let source = t.gamma_source;
     let a = graph::check_graph(
         size,
         priors,
@@ -159,9 +162,10 @@ pub fn shot_fault(
         c_to_v,
         v_to_c,
     );
+    let lists = unless(both(records, work), Refusal::LentListLength);
     or_else(
         syndrome_fault(size.checks, syndrome),
-        unless(both(records, work), Refusal::LentListLength),
+        or_else(seed_fault(source, seed), lists),
     )
 }
 
@@ -190,7 +194,7 @@ fn order_fault(
     exchange_fault(schedule, checks, check_var, check_offset, order)
 }
 
-// The tests of `decode_in_order` before 29: 1, 2, 4, 7, 9 to 24.
+// The tests of `decode_in_order` before 29: 1, 2, 4, 7, 9 to 21, 27, 22 to 24.
 pub fn taken_fault(
     size: graph::Size,
     priors: &[f64],
@@ -202,6 +206,7 @@ pub fn taken_fault(
     t: Settings,
     gammas: &[f64],
     syndrome: &[u8],
+    seed: u64,
     order: &[u32],
     leg_state: &[u8],
     leg_iterations: &[u32],
@@ -217,7 +222,7 @@ pub fn taken_fault(
     ensures { λ r.
         let g = graph (size .checks) (size .mechanisms) (now («check_var» .entry))
         (now («check_offset» .entry)) (now («var_check» .entry)) (now («var_message» .entry)) (now («var_offset» .entry)) in
-        let x = shot g (now (priors .entry)) t (now (gammas .entry)) (now (order .entry)) (now (syndrome .entry)) 0 in
+        let x = shot g (now (priors .entry)) t (now (gammas .entry)) (now (order .entry)) (now (syndrome .entry)) seed in
         let before = decodeLists (now («leg_state» .entry)) (now («leg_iterations» .entry)) (now («leg_weight» .entry)) (now (rows .entry))
         (now (correction .entry)) (now (posterior .entry)) (now (gamma .entry)) (now (bias .entry)) (now («c_to_v» .entry))
         (now («v_to_c» .entry)) in
@@ -235,6 +240,7 @@ pub fn taken_fault(
         t,
         gammas,
         syndrome,
+        seed,
         leg_state,
         leg_iterations,
         leg_weight,

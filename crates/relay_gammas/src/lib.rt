@@ -1,22 +1,73 @@
-// Inner: the gammas of a leg: gamma0 throughout, a set of the flat list, or a seeded draw.
+// Inner: the gammas of a leg: gamma0 throughout, a set of the flat list, or a seeded draw; and 27, the seeds that a draw takes. `relay_leg`
+// and `relay_decode` alone call it.
 ghost use mathlib.Core.Path.{_≡_};
-ghost use Prim.Native.Nat.{ℕ, _+_, _-_, _*_, _%_, _<_, _≤_};
+ghost use Prim.Native.Nat.{ℕ, _+_, _-_, _*_, _%_, _^_, _<_, _≤_};
 ghost use lib.ListN.{length};
 ghost use Rattle.numbers.specs.Limits.{maxCount};
 ghost use Rattle.numbers.specs.Loops.{part};
-ghost use Rattle.relay_settings.specs.declared.GammaSource.the-variants.{Explicit};
-ghost use Rattle.relay_gammas.specs.Gammas.{drawn, relayGamma, gammaOf};
+ghost use Rattle.relay_settings.specs.declared.GammaSource.the-variants.{Explicit, Seeded};
+ghost use Rattle.relay_gammas.specs.Gammas.{streamNumber, startOf, seedGood, seedFault, drawn, relayGamma, gammaOf};
 use graph_messages::copy;
 use graph_messages::fill;
 use numbers::SplitMix64;
+use refusals::Answer;
+use refusals::Refusal;
+use refusals_tests::unless;
+use relay_settings::DrawRule;
 use relay_settings::GammaSource;
 use relay_settings::Settings;
 
-// A draw each in mechanism order, from a seed.
-fn draw_gammas(low: f64, high: f64, seed: u64, gamma: &mut [f64])
-    ensures { λ _. ⌜ now (gamma .exit) ≡ drawn low high seed (length (now (gamma .entry))) .gammas ⌝ }
+// Whether a draw takes a seed.
+fn draw_takes(rule: DrawRule, seed: u64) -> bool
+    ensures { λ r. ⌜ r ≡ seedGood (Seeded rule) seed ⌝ }
 {
-    let mut generator = SplitMix64::new(seed);
+    match rule {
+        DrawRule::ByShot => seed < 281474976710656,
+        DrawRule::SeedXorLeg => true,
+    }
+}
+
+// Whether a source takes it.
+fn seed_good(source: GammaSource, seed: u64) -> bool
+    ensures { λ r. ⌜ r ≡ seedGood source seed ⌝ }
+{
+    match source {
+        GammaSource::Explicit(_) => true,
+        GammaSource::Seeded(rule) => draw_takes(rule, seed),
+    }
+}
+
+// 27.
+pub fn seed_fault(source: GammaSource, seed: u64) -> Answer
+    ensures { λ r. ⌜ r ≡ seedFault source seed ⌝ }
+{
+    unless(seed_good(source, seed), Refusal::ShotTooLarge)
+}
+
+// The stream number of a shot and a leg. It has 64 bits for a shot that 27 lets through; of any other seed the lower 48 bits count.
+fn stream_number(shot: u64, leg: usize) -> u64
+    requires { ⌜ leg ≤ maxCount ⌝ }
+    ensures { λ r. ⌜ r ≡ streamNumber shot leg % 2 ^ 64 ⌝ }
+{
+    shot % 281474976710656 * 65536 + leg as u64
+}
+
+// Where a leg's generator starts.
+fn start_of(rule: DrawRule, seed: u64, leg: usize) -> u64
+    requires { ⌜ leg ≤ maxCount ⌝ }
+    ensures { λ r. ⌜ r ≡ startOf rule seed leg % 2 ^ 64 ⌝ }
+{
+    match rule {
+        DrawRule::ByShot => stream_number(seed, leg),
+        DrawRule::SeedXorLeg => seed ^ (leg as u64 + 1),
+    }
+}
+
+// A draw each in mechanism order, from a start.
+fn draw_gammas(low: f64, high: f64, start: u64, gamma: &mut [f64])
+    ensures { λ _. ⌜ now (gamma .exit) ≡ drawn low high start (length (now (gamma .entry))) .gammas ⌝ }
+{
+    let mut generator = SplitMix64::new(start);
     let mut v = 0;
     while v < gamma.len() {
         let d = generator.draw();
@@ -63,7 +114,7 @@ fn relay_gamma(
 {
     match source {
         GammaSource::Explicit(sets) => copy_set(sets, leg, flat, gamma),
-        GammaSource::Seeded => draw_gammas(low, high, seed ^ (leg as u64 + 1), gamma),
+        GammaSource::Seeded(rule) => draw_gammas(low, high, start_of(rule, seed, leg), gamma),
     }
 }
 

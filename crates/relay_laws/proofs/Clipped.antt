@@ -35,7 +35,7 @@ use Rattle.relay_settings.specs.declared.GammaSource.the-variants.{Explicit, Se
 use Rattle.relay_settings.specs.declared.Settings.{Settings}
 use Rattle.relay_settings.specs.Settings.{clipGood, alphaGood, intervalGood, settingsFault}
 use Rattle.relay_settings.proofs.Told.{settings-told}
-use Rattle.relay_gammas.specs.Gammas.{legSeed, relayGamma, gammaOf}
+use Rattle.relay_gammas.specs.Gammas.{startOf, relayGamma, gammaOf}
 use Rattle.relay_gammas.proofs.Draws.{set-within}
 use Rattle.relay_step.specs.Step.{iteration}
 use Rattle.relay_step.specs.Leg.{Leg, startLeg, runLeg, satisfied}
@@ -175,7 +175,7 @@ GammasWithin x k =
 
 -- what a source draws from is within 1: the ends of its interval, or each gamma of the flat list
 abbrev pub SourceWithin : GammaSource → Float → Float → List Float → Type 0
-SourceWithin Seeded least most flat = Within least 1 × Within most 1
+SourceWithin (Seeded rule) least most flat = Within least 1 × Within most 1
 SourceWithin (Explicit sets) least most flat = (i : ℕ) → i < length flat → Within (getD flat i nan) 1
 
 -- an interval that passes 15 rises
@@ -207,7 +207,7 @@ gammas-within x told first source (suc r) v h k = go (x .settings .«gamma_sourc
 
     go : (s : GammaSource) → t .«gamma_source» ≡ s → SourceWithin s (t .«gamma_low») (t .«gamma_high») (x .gammas)
         → Within (getD (relayGamma s (t .«gamma_low») (t .«gamma_high») (x .gammas) m (x .seed) (suc r)) v nan) 1
-    go Seeded e w = drawn-within (t .«gamma_low») (t .«gamma_high») (w .0) (w .1) (interval-told t m (x .gammas) told) (legSeed (x .seed) (suc r)) m v k
+    go (Seeded rule) e w = drawn-within (t .«gamma_low») (t .«gamma_high») (w .0) (w .1) (interval-told t m (x .gammas) told) (startOf rule (x .seed) (suc r)) m v k
     go (Explicit sets) e w =
         let n = (suc r - 1) % sets in
         let many = settings-told t m (x .gammas) told .sets-many (omega arith) sets e in

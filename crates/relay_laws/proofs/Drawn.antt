@@ -1,9 +1,8 @@
 -- Gammas that are drawn from an interval within 1 are within 1: low + (high - low) * unit, each operation rounded. The span is at most 2, so it rounds up by at most
 -- 2 ^ -53; a share of it, from 0 to 1, rounds to no more than it; and what is at most 1 + 2 ^ -53 rounds to at most 1, a tie to the even one. Assumes nothing.
-use Prim.Native.Nat.{ℕ, zero, suc, _+_, _-_, _*_, _/_, _%_, _^_, _<_, _≤_, compare, Ordering, Ordering·lt, Ordering·eq, Ordering·gt}
+use Prim.Native.Nat.{ℕ, suc, _+_, _-_, _*_, _/_, _%_, _^_, _<_, _≤_, compare, Ordering, Ordering·lt, Ordering·eq, Ordering·gt}
 use mathlib.Core.Path.{_≡_, refl, sym, ap, _∙_, subst}
 use mathlib.Core.Bool.{true, false, not, true≢false}
-use mathlib.Core.List.{[], _∷_}
 use mathlib.Core.Logic.{⊎-elim}
 use native.Mathlib.Nat.{le-trans, le-of-eq, le-antisymm, mul-comm, mul-le-mul-left, mul-le-mul-right, le-of-mul-le-mul-right, mul-lt-mul-of-pos-right, mul-pos}
 use native.Mathlib.Nat.{div-add-mod', mod-lt, div-lt-iff-lt-mul, div-div-eq-div-mul}
@@ -11,7 +10,7 @@ use native.Mathlib.Omega.{arith}
 use lib.Bits.{xor-lt}
 use lib.Dec.{T, ltb, isLe, isEq, nleb→lt, eqb→eq}
 use lib.IntN.{negsuc}
-use lib.ListN.{length, getD, length-append, List·getD-append}
+use lib.ListN.{getD}
 use lib.Pow.{pow-add, pow-pos, pow-mono, pow-lt}
 use lib.Ieee.{Float, nan, inf, fin, Format, binary64, prec, low, up, down, nearest, round, neg, sum, add, sub, mul, ofInt, le}
 use lib.Ieee.Bits.{is-true}
@@ -22,14 +21,14 @@ use lib.Ieee.Fits.{two, reach, kept-lt, nearest-le, down-pos}
 use lib.Ieee.Nearest.{closest}
 use lib.Ieee.Order.{drop, kept, transfer, round-mono}
 use lib.Ieee.Scale.{grid, overflow, finite, round-val, round-under}
-use lib.Seq.{getD-append-seam}
 use borrow.Author.Tests.{lt-ltb, le-ltb}
-use Rattle.numbers.specs.Draw.{advanced, mixedBy, mixed, unit, gamma}
+use Rattle.numbers.specs.Draw.{mixedBy, mixed, unit, gamma}
 use Rattle.numbers.specs.Floats.{_+ᶠ_, _-ᶠ_, _*ᶠ_, zero⁺, one⁺}
-use Rattle.numbers.proofs.Cases.{less-or-not, last-or-before}
+use Rattle.numbers.proofs.Cases.{less-or-not}
 use Rattle.numbers.proofs.Order.{le-fact}
 use Rattle.numbers.proofs.Sizes.{Within, round-within, add-within, mul-within}
 use Rattle.relay_gammas.specs.Gammas.{drawnOn, drawn}
+use Rattle.relay_gammas.proofs.Draws.{drawn-at}
 
 -- ---- how far rounding goes up
 
@@ -363,22 +362,7 @@ module _ (lo hi : Float) (v : Within lo 1) (w : Within hi 1) (rises : le lo hi �
       go s (no-span _ z) =
           add-within lo (s *ᶠ unit u) 1 0 v (mul-within s (unit u) 0 1 z (under-within (unit u) (unit-under u h)) (omega arith)) (omega arith)
 
-  -- as many gammas as are drawn
-  drawn-many : (seed n : ℕ) → length (drawn lo hi seed n .gammas) ≡ n
+  -- and so each that is drawn
+  pub drawn-within : (start n v : ℕ) → v < n → Within (getD (drawn lo hi start n .gammas) v nan) 1
   unfolding drawn drawnOn
-  drawn-many seed zero = refl
-  drawn-many seed (suc n) = rw length-append (omega (arith, drawn-many seed n))
-
-  -- and each of them
-  pub drawn-within : (seed n k : ℕ) → k < n → Within (getD (drawn lo hi seed n .gammas) k nan) 1
-  unfolding drawn drawnOn
-  drawn-within seed zero k h = absurd (omega arith)
-  drawn-within seed (suc n) k h =
-      let before = drawn lo hi seed n in
-      let u = mixed (advanced (before .state)) in
-      let new = gamma lo hi u in
-      let many = drawn-many seed n in
-      ⊎-elim
-      (λ (e : k ≡ n). rw (e ∙ sym many, getD-append-seam (before .gammas) new [] nan) (gamma-within u (mixed-small (advanced (before .state)))))
-      (λ (l : k < n). rw (List·getD-append (before .gammas) (new ∷ []) nan k (omega arith)) (drawn-within seed n k l))
-      (last-or-before k n h)
+  drawn-within start n v h = let z = drawn lo hi start (suc v) .state in rw (drawn-at lo hi start n v h) (gamma-within (mixed z) (mixed-small _))

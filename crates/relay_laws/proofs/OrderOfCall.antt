@@ -91,11 +91,13 @@ module _ (edges : ℕ) (x : Shot) (l : DecodeLists) (others : OthersPass edges x
       let q = or-done _ _ (p .1) in
       let r = or-done _ _ (q .1) in
       let s = or-done _ _ (r .1) in
-      let stores = or-done _ _ (or-done _ _ (s .1) .1) .1 in
+      let u = or-done _ _ (s .1) in
+      let stores = or-done _ _ (or-done _ _ (u .1) .1) .1 in
       or-second _ _ (p .0)
       ∙ or-second _ _ (q .0)
       ∙ or-second _ _ (r .0)
       ∙ or-second _ _ (s .0)
+      ∙ or-second _ _ (u .0)
       ∙ ap (λ (a : Answer). orElse names (orElse exchange a)) stores
       ∙ ap (orElse names) (or-none exchange)
 

@@ -215,7 +215,7 @@ module _ (edges : ℕ) (x : Shot) (l : DecodeLists) (a : Decoded) (left : Decode
   unfolding decodeFault
   stores-by-formula =
       let t = or-done _ _ (behind .passed) in
-      let d = or-done _ _ (or-done _ _ (or-done _ _ (or-done _ _ (t .1) .1) .1) .1) in
+      let d = or-done _ _ (or-done _ _ (or-done _ _ (or-done _ _ (or-done _ _ (t .1) .1) .1) .1) .1) in
       let sound = passes-sound (x .graph) (graph-told edges (x .prior) (x .graph) (t .0) .is-graph) in
       let total = ap (λ (s : Summary). s .totalIterations) said ∙ answered-total (behind .run) (decodeStores byPlace x) (behind .run .bestWeight) .0 in
       stores-are

@@ -1,7 +1,7 @@
 -- What is counted of a leg are the iterations that it took; and when 29 refuses. Assumes nothing.
 use Prim.Native.Nat.{ℕ, zero, suc, _-_, _<_, _≤_}
 use mathlib.Core.Path.{_≡_, refl, sym, ap, _∙_}
-use mathlib.Core.Bool.{Bool, true, false, true≢false}
+use mathlib.Core.Bool.{Bool, true, false}
 use mathlib.Core.List.{List}
 use mathlib.Core.Logic.{_↔_}
 use native.Mathlib.Omega.{arith}
@@ -9,9 +9,9 @@ use lib.Ieee.{Float}
 use borrow.Author.Tests.{leb-false, lt-leb}
 use Rattle.numbers.specs.Loops.{turns}
 use Rattle.refusals.specs.declared.Refusal.the-variants.{TooManyStores}
-use Rattle.refusals.specs.declared.Refusal.{Refusal}
 use Rattle.refusals.specs.declared.Answer.the-variants.{Refused}
-use Rattle.refusals.specs.Tests.{isDone, unless}
+use Rattle.refusals.specs.Tests.{unless}
+use Rattle.refusals.proofs.Tests.{unless-refused}
 use Rattle.graph_lists.specs.Graph.{Graph}
 use Rattle.graph_lists.specs.Messages.{byPlace}
 use Rattle.relay_settings.specs.declared.Settings.{Settings}
@@ -67,16 +67,10 @@ leg-state x r posterior =
 
 -- ---- 29
 
--- a test that refuses is not passed
-refuses-not : (b : Bool) (r : Refusal) → unless b r ≡ Refused r → b ≡ false
-unfolding unless
-refuses-not true r e = absurd (true≢false (ap isDone e))
-refuses-not false r e = refl
-
 -- it refuses just where the formula is above 2^64 - 1
 pub fault-when : (t : Settings) (g : Graph) → (storesFault t g ≡ Refused TooManyStores) ↔ (maxStores < storesAt (t .schedule) g (mostIterations t))
 unfolding storesFault unless
 fault-when t g = (
-  λ e. leb-false (storesAt (t .schedule) g (mostIterations t)) maxStores (refuses-not _ TooManyStores e),
+  λ e. leb-false (storesAt (t .schedule) g (mostIterations t)) maxStores (unless-refused _ TooManyStores e),
   λ h. rw (lt-leb (storesAt (t .schedule) g (mostIterations t)) maxStores h),
 )

@@ -22,6 +22,7 @@ use Rattle.relay_settings.specs.declared.GammaSource.the-variants.{Explicit}
 use Rattle.relay_calls.specs.declared.Decoded.{Decoded}
 use Rattle.relay_calls.specs.declared.Decoded.the-variants as Decoded
 use Rattle.relay_settings.specs.Settings.{settingsFault}
+use Rattle.relay_gammas.specs.Gammas.{seedFault}
 use Rattle.relay_step.specs.Leg.{Leg, hardDecision, correctionWeight}
 use Rattle.relay_calls.specs.Records.{valuesOf, recordOfLeg}
 use Rattle.relay_calls.specs.Decode.{Shot, Run, Ended, decoded, refused, isNoneOr, correctionOf}
@@ -206,9 +207,10 @@ started x =
 
 -- ---- the tests
 
--- those of both calls: 1, 2, 4, 7, 9 to 22
+-- those of both calls: 1, 2, 4, 7, 9 to 21, 27, 22
 unfoldable pub shotFault : ℕ → Shot → DecodeLists → Answer
 shotFault edges x l =
     orElse (graphFault edges (x .prior) (x .graph))
     (orElse (settingsFault (x .settings) (x .graph .mechanisms) (x .gammas))
-    (orElse (syndromeFault (x .graph .checks) (x .syndrome)) (unless (decodeListsFit edges x l) LentListLength)))
+    (orElse (syndromeFault (x .graph .checks) (x .syndrome))
+    (orElse (seedFault (x .settings .«gamma_source») (x .seed)) (unless (decodeListsFit edges x l) LentListLength))))

@@ -15,10 +15,12 @@ use Rattle.relay_settings.specs.declared.Settings.{Settings}
 use Rattle.relay_settings.specs.declared.Schedule.the-variants.{Flooding}
 use Rattle.relay_settings.specs.declared.Clip.{Clip}
 use Rattle.relay_settings.specs.declared.Clip.the-variants.{Off, On}
+use Rattle.relay_settings.specs.declared.DrawRule.the-variants.{ByShot}
 use Rattle.relay_settings.specs.declared.GammaSource.{GammaSource}
 use Rattle.relay_settings.specs.declared.GammaSource.the-variants.{Explicit, Seeded}
 
--- `RelayConfig::default`: the published operating point. gamma0 is 0.1, and the interval goes from -0.24 to 0.66, each the binary64 nearest
+-- `RelayConfig::default`: the published operating point. gamma0 is 0.1, and the interval goes from -0.24 to 0.66, each the binary64 nearest. Its gammas are
+-- drawn by shot
 abbrev pub published : Settings
 published =
     record {
@@ -32,7 +34,7 @@ published =
       «gamma_low» = ofBits binary64 0xBFCEB851EB851EB8;
       «gamma_high» = ofBits binary64 0x3FE51EB851EB851F;
       «stop_after_converged» = 1;
-      «gamma_source» = Seeded;
+      «gamma_source» = Seeded ByShot;
     }
 
 -- ---- the tests
@@ -69,7 +71,7 @@ gammaFault gammas i = unless (isFinite (getD gammas i nan)) (GammaNotFinite i)
 -- 17, 18 and 19, of an explicit source alone: some set where there are legs; as many gammas as the sets have mechanisms; each finite.
 -- `gammas` is the flat list
 unfoldable pub sourceFault : GammaSource → ℕ → ℕ → List Float → Answer
-sourceFault Seeded legs mechanisms gammas = Done
+sourceFault (Seeded rule) legs mechanisms gammas = Done
 sourceFault (Explicit sets) legs mechanisms gammas =
     orElse (unless (leb 1 sets || eqb legs 0) NoGammaSets)
     (orElse (unless (setsGood sets mechanisms (length gammas)) GammaSetsLength)

@@ -37,12 +37,20 @@ pub enum Clip {
     On(f64),
 }
 
+// Where SplitMix64 starts for a leg that draws its gammas.
+pub enum DrawRule {
+    // At the stream number of the shot and the leg: the seed is a shot number, below 2^48. No two legs of any shots have the same.
+    ByShot,
+    // At the seed xor one more than the leg, for records that were filed so: seed 40 in leg 1 and seed 41 in leg 2 start alike.
+    SeedXorLeg,
+}
+
 // Where the gammas of relayed legs come from.
 pub enum GammaSource {
     // The given number of sets, one after the other in the flat list that is lent beside the settings.
     Explicit(usize),
-    // SplitMix64, from the shot's seed and the leg.
-    Seeded,
+    // SplitMix64, from the shot's seed and the leg, by a rule.
+    Seeded(DrawRule),
 }
 
 // `RelayConfig`, with the clip, the interval's two ends and the gammas' source.
@@ -61,7 +69,7 @@ pub struct Settings {
 }
 
 impl Settings {
-    // `RelayConfig::default`: the published operating point.
+    // `RelayConfig::default`: the published operating point, with a draw by shot.
     pub fn published() -> Self
         ensures { λ r. ⌜ r ≡ published ⌝ }
     {
@@ -76,7 +84,7 @@ impl Settings {
             gamma_low: -0.24,
             gamma_high: 0.66,
             stop_after_converged: 1,
-            gamma_source: GammaSource::Seeded,
+            gamma_source: GammaSource::Seeded(DrawRule::ByShot),
         }
     }
 }
@@ -187,7 +195,7 @@ fn source_fault(source: GammaSource, legs: usize, mechanisms: usize, gammas: &[f
                 gammas_fault(gammas),
             ),
         ),
-        GammaSource::Seeded => Answer::Done,
+        GammaSource::Seeded(_) => Answer::Done,
     }
 }
 

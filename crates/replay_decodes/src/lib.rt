@@ -7,6 +7,7 @@ use graph::Size;
 use numbers::wrapping_mul;
 use refusals_tests::is_done;
 use relay_settings::Clip;
+use relay_settings::DrawRule;
 use relay_settings::GammaSource;
 use relay_settings::Schedule;
 use relay_settings::Settings;
@@ -35,7 +36,10 @@ fn source_of(number: u64, sets: usize) -> GammaSource {
     if number == 1 {
         return GammaSource::Explicit(sets);
     }
-    GammaSource::Seeded
+    if number == 2 {
+        return GammaSource::Seeded(DrawRule::SeedXorLeg);
+    }
+    GammaSource::Seeded(DrawRule::ByShot)
 }
 
 // Settings that were read, with the number of sets of gammas, and where the first of these begins.

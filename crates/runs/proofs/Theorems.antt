@@ -35,10 +35,11 @@ unfolding add sub mul neg lt le eq ofInt
     MinSum.signWithout MinSum.sentAt MinSum.sentTo MinSum.checkMessages MinSum.skipped MinSum.updateCheck MinSum.damped MinSum.dampedMessages MinSum.rawPosterior MinSum.updateVariable MinSum.parallelCheck MinSum.checksTo MinSum.variablesTo MinSum.parallelIteration MinSum.serialCheck MinSum.serialTo MinSum.serialIteration MinSum.runningAverage MinSum.averagedTo MinSum.averaged MinSum.weightOf MinSum.chosen MinSum.chosenTo MinSum.startRound MinSum.iterated MinSum.iteratedIn MinSum.outerRoundTo MinSum.outerRound MinSum.allRounds MinSum.minSumBp
     Beliefs.beliefsListsFit Beliefs.beliefsFault Beliefs.ran Beliefs.beliefs
     Settings.clipGood Settings.alphaGood Settings.preGood Settings.legIterationsGood Settings.intervalGood Settings.setsGood Settings.gammaFault Settings.sourceFault Settings.settingsFault Settings.checkSettings
-    Check.scanned Check.scan Check.saturated Check.weighed Check.clamped Check.clipped Check.sent Check.sentTo Check.checkMessages Step.updateCheck Step.written Step.updateVariable Step.biasOf Step.biasesTo Step.computeBias Step.checkPass Step.variablePass Step.floodingIteration Step.serialCheck Step.serialPass Step.checkSerialIteration
+    Check.scanned Check.scan Check.saturated Check.weighed Check.clamped Check.clipped Check.sent Check.sentTo Check.checkMessages
+    Step.updateCheck Step.written Step.updateVariable Step.biasOf Step.biasesTo Step.computeBias Step.checkPass Step.variablePass Step.floodingIteration Step.serialCheck Step.serialPass Step.checkSerialIteration
     Order.count Order.once Order.namesOnce Order.shares Order.above Order.late Order.exchanged Order.namesFault Order.exchangeFault
     Leg.startLeg Leg.hardBit Leg.hardDecision Leg.parity Leg.matches Leg.satisfied Leg.cost Leg.correctionWeight
-    Gammas.drawnOn Gammas.drawn Gammas.legSeed Gammas.relayGamma Gammas.gammaOf
+    Gammas.streamNumber Gammas.legSeed Gammas.startOf Gammas.seedGood Gammas.seedFault Gammas.drawnOn Gammas.drawn Gammas.relayGamma Gammas.gammaOf
     Stores.countedCheck Stores.store Stores.countedWritten Stores.countedVariable Stores.countedCheckPass Stores.countedVariablePass Stores.countedFlooding Stores.countedSerialCheck Stores.countedSerialPass Stores.countedSerial Stores.degree Stores.squaredDegrees Stores.storesFault
     Records.legRecord
     Decode.iterationLimit Decode.stepOf Decode.executedLeg Decode.startRun Decode.recorded Decode.afterLeg Decode.legsFrom Decode.decodeLegs Decode.countedStepOf Decode.countedLeg Decode.legStores Decode.storesFrom Decode.decodeStores

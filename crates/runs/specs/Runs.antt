@@ -22,6 +22,7 @@ use Rattle.relay_settings.specs.declared.Settings.{Settings}
 use Rattle.relay_settings.specs.declared.Schedule.{Schedule}
 use Rattle.relay_settings.specs.declared.Schedule.the-variants.{Flooding, CheckSerial}
 use Rattle.relay_settings.specs.declared.Clip.the-variants.{Off}
+use Rattle.relay_settings.specs.declared.DrawRule.the-variants.{ByShot}
 use Rattle.relay_settings.specs.declared.GammaSource.the-variants.{Seeded}
 use Rattle.relay_step.specs.Leg.{startLeg}
 use Rattle.relay_calls.specs.declared.Decoded.the-variants as Decoded
@@ -103,7 +104,7 @@ settings schedule pre =
       «gamma_low» = zero⁺;
       «gamma_high» = zero⁺;
       «stop_after_converged» = 1;
-      «gamma_source» = Seeded;
+      «gamma_source» = Seeded ByShot;
     }
 
 -- a decode's lent lists, filled with 9, with a row more than it needs

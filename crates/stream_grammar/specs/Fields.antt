@@ -11,6 +11,8 @@ use Rattle.relay_settings.specs.declared.Settings.{Settings}
 use Rattle.relay_settings.specs.declared.Schedule.{Schedule}
 use Rattle.relay_settings.specs.declared.Schedule.the-variants.{Flooding, CheckSerial}
 use Rattle.relay_settings.specs.declared.Clip.the-variants.{Off}
+use Rattle.relay_settings.specs.declared.DrawRule.{DrawRule}
+use Rattle.relay_settings.specs.declared.DrawRule.the-variants.{ByShot, SeedXorLeg}
 use Rattle.relay_settings.specs.declared.GammaSource.the-variants.{Seeded}
 use Rattle.stream_grammar.specs.declared.Counts.{Counts}
 use Rattle.stream_grammar.specs.Stream.{checks, mechanisms, edges, priorBits, degrees, detector, scheduleByte, alphaBits, gamma0Bits, preIterations, legs, legIterations, lowBits, highBits, stop}
@@ -55,9 +57,13 @@ modelRead p l =
 unfoldable pub scheduleRead : ℕ → Schedule
 scheduleRead b = cond (eqb b 0) Flooding CheckSerial
 
--- Relay's settings, with the clip off and a seeded source, of which the record says nothing
-unfoldable pub settingsRead : List ℕ → Settings
-settingsRead p =
+-- the draw that settings of a kind mean: of kind 2, which was filed before there was another, the seed xor the leg, and of kind 4 by shot
+unfoldable pub ruleRead : ℕ → DrawRule
+ruleRead kind = cond (eqb kind 2) SeedXorLeg ByShot
+
+-- Relay's settings, of either kind, with the clip off and a seeded source, of which the payload says nothing
+unfoldable pub settingsRead : ℕ → List ℕ → Settings
+settingsRead kind p =
     record {
       schedule = scheduleRead (scheduleByte p);
       alpha = ofBits binary64 (alphaBits p);
@@ -69,5 +75,5 @@ settingsRead p =
       «gamma_low» = ofBits binary64 (lowBits p);
       «gamma_high» = ofBits binary64 (highBits p);
       «stop_after_converged» = stop p;
-      «gamma_source» = Seeded;
+      «gamma_source» = Seeded (ruleRead kind);
     }

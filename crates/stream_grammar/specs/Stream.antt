@@ -137,11 +137,15 @@ seed p = numberAt 8 0 p
 unfoldable pub syndrome : List ℕ → List ℕ
 syndrome p = drop 8 p
 
--- ---- 40 to 45, in this order. Kind 1 is a model, 2 settings, 3 a shot
+-- ---- 40 to 45, in this order. Kind 1 is a model, 2 and 4 are settings, 3 a shot
+
+-- settings: 2 and 4 have the same bytes, and differ in the draw that they mean (`Fields`: `ruleRead`)
+unfoldable pub isSettings : ℕ → Bool
+isSettings kind = eqb kind 2 || eqb kind 4
 
 -- 41: the kind is known
 unfoldable pub kindGood : ℕ → Bool
-kindGood kind = leb 1 kind && leb kind 3
+kindGood kind = leb 1 kind && leb kind 4
 
 -- a model's payload is as long as its counts say, exactly
 unfoldable pub countsFit : ℕ → ℕ → ℕ → Bool
@@ -150,7 +154,7 @@ countsFit size mechanisms edges = eqb size (12 + (12 * mechanisms + 4 * edges))
 -- 42: the payload length is right for the kind. Size is the payload's, and sum that of the degrees
 unfoldable pub lengthGood : ℕ → ℕ → ℕ → ℕ → ℕ → Bool
 lengthGood kind size mechanisms edges sum =
-    cond (eqb kind 1) (leb 12 size && (countsFit size mechanisms edges && eqb sum edges)) (cond (eqb kind 2) (eqb size 49) (leb 8 size))
+    cond (eqb kind 1) (leb 12 size && (countsFit size mechanisms edges && eqb sum edges)) (cond (isSettings kind) (eqb size 49) (leb 8 size))
 
 -- 43: no shot before model or settings
 unfoldable pub timeGood : ℕ → Bool → Bool → Bool
@@ -163,11 +167,11 @@ countsWithin checks mechanisms edges = leb checks roomChecks && (leb mechanisms 
 -- 44: within the room for a model, of 16 relayed legs, of 136 bytes for a shot
 unfoldable pub roomGood : ℕ → ℕ → ℕ → ℕ → ℕ → ℕ → Bool
 roomGood kind size checks mechanisms edges legs =
-    cond (eqb kind 1) (countsWithin checks mechanisms edges) (cond (eqb kind 2) (leb legs roomLegs) (leb size roomShot))
+    cond (eqb kind 1) (countsWithin checks mechanisms edges) (cond (isSettings kind) (leb legs roomLegs) (leb size roomShot))
 
 -- 45: the schedule byte of settings
 unfoldable pub scheduleGood : ℕ → ℕ → Bool
-scheduleGood kind schedule = not (eqb kind 2) || leb schedule 1
+scheduleGood kind schedule = not (isSettings kind) || leb schedule 1
 
 -- what a record says of itself, as far as 41 to 45 look: size is its payload's, and degrees their sum
 pub record Claims : Type 0 where
@@ -214,6 +218,6 @@ judge hasModel hasSettings kind p = tested hasModel hasSettings (claimsOf kind p
 unfoldable pub leftOver : List ℕ → Answer
 leftOver xs = unless (eqb (length xs) 0) CutRecord
 
--- the refusals that a shot's line has, 20, 21 and 30; any other ends the run
+-- the refusals that a shot's line has, 20, 21, 27 and 30; any other ends the run
 unfoldable pub isOfShot : ℕ → Bool
-isOfShot code = eqb code 20 || (eqb code 21 || eqb code 30)
+isOfShot code = eqb code 20 || (eqb code 21 || (eqb code 27 || eqb code 30))

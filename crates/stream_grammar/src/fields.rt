@@ -6,7 +6,8 @@ ghost use lib.ListN.{getD, length};
 ghost use Rattle.numbers.specs.Limits.{roomMechanisms, roomEdges};
 ghost use Rattle.numbers.specs.Loops.{table};
 ghost use Rattle.stream_grammar.specs.Stream.{numberAt, legs as legsOf, scheduleByte, degree as degreeOf, detector as detectorOf};
-ghost use Rattle.stream_grammar.specs.Fields.{prior, offset, scheduleRead};
+ghost use Rattle.stream_grammar.specs.Fields.{prior, offset, scheduleRead, ruleRead};
+use relay_settings::DrawRule;
 use relay_settings::Schedule;
 
 // ---- numbers
@@ -96,6 +97,16 @@ pub fn schedule_of(byte: usize) -> Schedule
         return Schedule::Flooding;
     }
     Schedule::CheckSerial
+}
+
+// The draw that settings of a kind mean.
+pub fn rule_of(kind: usize) -> DrawRule
+    ensures { λ x. ⌜ x ≡ ruleRead kind ⌝ }
+{
+    if kind == 2 {
+        return DrawRule::SeedXorLeg;
+    }
+    DrawRule::ByShot
 }
 
 // ---- a model's lists

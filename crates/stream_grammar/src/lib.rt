@@ -1,5 +1,5 @@
-// Inner: the grammar of the record stream: 41 to 45, test by test, and the fields of payloads. `stream_reader` and `stream_table` alone
-// call it. What they mean stands in specs/.
+// Inner: the grammar of the record stream: 41 to 45, test by test, and the fields of payloads. `stream_reader`, `stream_table`
+// and `stream_session` alone call it. What they mean stands in specs/.
 pub mod fields;
 pub mod rules;
 

@@ -1,7 +1,7 @@
 // The tests 41 to 45, each by itself.
 ghost use mathlib.Core.Path.{_≡_};
 ghost use mathlib.Core.Bool.{_||_, not};
-ghost use Rattle.stream_grammar.specs.Stream.{kindGood, countsFit, lengthGood, timeGood, countsWithin, roomGood, scheduleGood};
+ghost use Rattle.stream_grammar.specs.Stream.{isSettings, kindGood, countsFit, lengthGood, timeGood, countsWithin, roomGood, scheduleGood};
 use numbers::limits::ROOM_CHECKS;
 use numbers::limits::ROOM_EDGES;
 use numbers::limits::ROOM_LEGS;
@@ -11,11 +11,21 @@ use refusals_tests::at_most;
 use refusals_tests::both;
 use refusals_tests::same_number;
 
+// Settings, of either kind.
+pub fn is_settings(kind: usize) -> bool
+    ensures { λ x. ⌜ x ≡ isSettings kind ⌝ }
+{
+    if kind == 2 {
+        return true;
+    }
+    kind == 4
+}
+
 // 41: the kind is known.
 pub fn kind_good(kind: usize) -> bool
     ensures { λ x. ⌜ x ≡ kindGood kind ⌝ }
 {
-    both(at_most(1, kind), at_most(kind, 3))
+    both(at_most(1, kind), at_most(kind, 4))
 }
 
 // A model's payload is as long as its counts say. No sum is made that could wrap.
@@ -46,7 +56,7 @@ pub fn length_good(kind: usize, size: usize, mechanisms: usize, edges: usize, su
             both(counts_fit(size, mechanisms, edges), same_number(sum, edges)),
         );
     }
-    if kind == 2 {
+    if is_settings(kind) {
         return size == 49;
     }
     8 <= size
@@ -96,7 +106,7 @@ pub fn room_good(
     if kind == 1 {
         return counts_within(checks, mechanisms, edges);
     }
-    if kind == 2 {
+    if is_settings(kind) {
         return legs <= ROOM_LEGS;
     }
     size <= ROOM_SHOT
@@ -106,5 +116,5 @@ pub fn room_good(
 pub fn schedule_good(kind: usize, schedule: usize) -> bool
     ensures { λ x. ⌜ x ≡ scheduleGood kind schedule ⌝ }
 {
-    implies(kind == 2, at_most(schedule, 1))
+    implies(is_settings(kind), at_most(schedule, 1))
 }

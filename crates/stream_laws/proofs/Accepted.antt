@@ -1,13 +1,38 @@
 -- What a record that 41 to 45 let through is: its length, its time and its room, by its kind. Assumes nothing.
 use mathlib.Core.Path.{_≡_}
-use mathlib.Core.Bool.{Bool, true}
+use mathlib.Core.Bool.{Bool, true, false, true≢false}
+use mathlib.Core.Logic.{_⊎_, inl, inr, ⊎-elim}
 use Prim.Native.Nat.{ℕ, _+_, _*_, _≤_}
+use native.Mathlib.Omega.{arith}
 use lib.Dec.{eqb, leb}
-use borrow.Author.Tests.{leb-true, eqb-true}
-use Rattle.numbers.proofs.Cases.{and-both}
+use borrow.Author.Tests.{leb-true, eqb-true, eqb-false, ne-eqb}
+use Rattle.numbers.proofs.Cases.{and-both, either}
 use Rattle.refusals.specs.declared.Answer.the-variants.{Done}
 use Rattle.refusals.proofs.Tests.{or-done, unless-done}
-use Rattle.stream_grammar.specs.Stream.{kindGood, countsFit, lengthGood, timeGood, roomGood, Claims, tested}
+use Rattle.stream_grammar.specs.Stream.{isSettings, kindGood, countsFit, lengthGood, timeGood, roomGood, Claims, tested}
+
+-- ---- settings, by their kind
+
+-- 2 or 4
+pub settings-kind : (kind : ℕ) → isSettings kind ≡ true → (kind ≡ 2) ⊎ (kind ≡ 4)
+unfolding isSettings
+settings-kind kind h =
+    ⊎-elim (λ (e : eqb kind 2 ≡ true). inl (eqb-true kind 2 e)) (λ (e : eqb kind 2 ≡ false). inr (eqb-true kind 4 (rw e at h))) (either (eqb kind 2))
+
+-- so they are no model
+pub settings-no-model : (kind : ℕ) → isSettings kind ≡ true → eqb kind 1 ≡ false
+settings-no-model kind h = ne-eqb kind 1 (λ (q : kind ≡ 1). ⊎-elim (λ (e : kind ≡ 2). omega arith) (λ (e : kind ≡ 4). omega arith) (settings-kind kind h))
+
+-- and what is of another kind is neither
+pub no-settings-kind : (kind : ℕ) → isSettings kind ≡ false → (kind ≡ 2 → ⊥) × (kind ≡ 4 → ⊥)
+unfolding isSettings
+no-settings-kind kind h =
+    ⊎-elim
+    (λ (e : eqb kind 2 ≡ true). let z : true ≡ false = rw e at h in absurd (true≢false z))
+    (λ (e : eqb kind 2 ≡ false). (eqb-false kind 2 e, eqb-false kind 4 (rw e at h)))
+    (either (eqb kind 2))
+
+-- ---- past 41 to 45
 
 module _ (hasModel hasSettings : Bool) (x : Claims) where
   -- 41 to 44 hold

@@ -17,16 +17,15 @@ use Rattle.refusals.specs.Refusal.{numberOf}
 use Rattle.relay_settings.specs.declared.Settings.{Settings}
 use Rattle.relay_calls.specs.declared.Decoded.{Decoded}
 use Rattle.relay_calls.specs.declared.Decoded.the-variants as Decoded
-use Rattle.stream_grammar.specs.Stream.{Rec, Sayable, AllSayable, more, mechanisms, isOfShot, kindSaid, kindGood, timeGood, claimsOf, judge, leftOver}
-use Rattle.stream_grammar.specs.Fields.{settingsRead}
+use Rattle.stream_grammar.specs.Stream.{Rec, rec, Sayable, AllSayable, more, mechanisms, isSettings, isOfShot, kindSaid, kindGood, timeGood, claimsOf, judge, leftOver}
 use Rattle.stream_lines.specs.Lines.{shotLine, refusedLine, stoppedLine, unlessTooLong}
 use Rattle.stream_reader.specs.Reading.{holding, payloadKept}
 use Rattle.stream_table.specs.Table.{modelFault, settingsAnswer, Decoding, shotDecoded}
 use Rattle.stream_session.specs.declared.Session.{Session}
 use Rattle.stream_session.specs.Shots.{Told, Taken, taken, known, goesOn, stops, says, refuses, finds, answers, tells, shotTaken, settingsTaken, modelTaken, kindTaken, recordJudged, reads, lastText, textOf}
-use Rattle.stream_session.specs.Text.{Heard, isThere, thePayload, Said, endsRun, modelSaid, settingsSaid, lineSaid, shotSaid, decodeOf, payloadSaid, judgedSaid, recordSaid, recordsText}
+use Rattle.stream_session.specs.Text.{Heard, isThere, thePayload, theRecord, settingsOf, Said, endsRun, modelSaid, settingsSaid, lineSaid, shotSaid, decodeOf, payloadSaid, judgedSaid, recordSaid, recordsText}
 use Rattle.stream_session.proofs.Cases.{chosen, other}
-use Rattle.stream_laws.proofs.Accepted.{passed}
+use Rattle.stream_laws.proofs.Accepted.{no-settings-kind, passed}
 use Rattle.stream_laws.proofs.Encoding.{encoded, kind-said}
 use Rattle.stream_laws.proofs.Kept.{kept-front}
 use Rattle.stream_laws.proofs.Whole.{length-kept}
@@ -42,7 +41,7 @@ pub record Agrees (s : Session) (model : List ℕ) (h : Heard) : Type 0 where
   pub modelThere : s .known .«has_model» ≡ isThere (h .model)
   pub settingsThere : s .known .«has_settings» ≡ isThere (h .settings)
   pub modelKept : isThere (h .model) ≡ true → take (s .known .«model_length») model ≡ thePayload (h .model)
-  pub settingsKept : isThere (h .settings) ≡ true → s .known .settings ≡ settingsRead (thePayload (h .settings))
+  pub settingsKept : isThere (h .settings) ≡ true → s .known .settings ≡ settingsOf (theRecord (h .settings))
   pub room : 5132 ≤ length model
 
 -- after a record: the run has ended for both, or they agree
@@ -128,7 +127,7 @@ module _ (s : Session) (model : List ℕ) (h : Heard) (a : Agrees s model h) whe
   model-tells (Refused r) p line l = stops-tells s r model line
 
   -- settings
-  settings-tells : (answer : Answer) (p line : List ℕ) → Tells (taken (settingsTaken s answer p line) model) (settingsSaid h (s .reader .offset) p answer)
+  settings-tells : (answer : Answer) (p line : List ℕ) → Tells (taken (settingsTaken s answer p line) model) (settingsSaid h (s .reader .offset) (rec (s .reader .kind) p) answer)
   unfolding goesOn
   settings-tells Done p line =
       record {
@@ -148,7 +147,7 @@ module _ (s : Session) (model : List ℕ) (h : Heard) (a : Agrees s model h) whe
   -- a shot's decode is that over the payloads accepted
   same-decode : (p : List ℕ) → isThere (h .model) ≡ true → isThere (h .settings) ≡ true
       → (let m = take (s .known .«model_length») model in shotDecoded m (s .known .settings) p (take (mechanisms m) (replicate 256 0)))
-      ≡ decodeOf (thePayload (h .model)) (thePayload (h .settings)) p
+      ≡ decodeOf (thePayload (h .model)) (theRecord (h .settings)) p
   unfolding decodeOf
   same-decode p f g =
       ap (λ (m : List ℕ). shotDecoded m (s .known .settings) p (take (mechanisms m) (replicate 256 0))) (a .modelKept f)
@@ -156,7 +155,7 @@ module _ (s : Session) (model : List ℕ) (h : Heard) (a : Agrees s model h) whe
 
   -- so a shot is told as it is said
   shot-tells : (p line : List ℕ) → isThere (h .model) ≡ true → isThere (h .settings) ≡ true
-      → (let d = decodeOf (thePayload (h .model)) (thePayload (h .settings)) p in
+      → (let d = decodeOf (thePayload (h .model)) (theRecord (h .settings)) p in
       Tells (taken (shotTaken s (take (s .known .«model_length») model) p line) model) (shotSaid h (s .reader .offset) (d .answer) (d .correction)))
   unfolding shotTaken tells
   shot-tells p line f g =
@@ -169,16 +168,16 @@ module _ (s : Session) (model : List ℕ) (h : Heard) (a : Agrees s model h) whe
 
   -- a record past 41 to 45, by its kind: no shot comes without a model and settings
   kind-tells : (p line : List ℕ) → length p ≤ 5132
-      → (eqb (s .reader .kind) 1 ≡ false → eqb (s .reader .kind) 2 ≡ false → (isThere (h .model) ≡ true) × (isThere (h .settings) ≡ true))
+      → (eqb (s .reader .kind) 1 ≡ false → isSettings (s .reader .kind) ≡ false → (isThere (h .model) ≡ true) × (isThere (h .settings) ≡ true))
       → Tells (kindTaken s p model line) (payloadSaid h (s .reader .offset) (s .reader .kind) p)
   unfolding kindTaken payloadSaid
   kind-tells p line l f =
       by-test (eqb (s .reader .kind) 1) _ _ _ _ (λ _. model-tells (modelFault p) p line l)
-      (λ n. by-test (eqb (s .reader .kind) 2) _ _ _ _ (λ _. settings-tells (settingsAnswer p) p line) (λ m. shot-tells p line (f n m .0) (f n m .1)))
+      (λ n. by-test (isSettings (s .reader .kind)) _ _ _ _ (λ _. settings-tells (settingsAnswer (s .reader .kind) p) p line) (λ m. shot-tells p line (f n m .0) (f n m .1)))
 
   -- a record, which 41 to 45 answer so
   judged-tells : (answer : Answer) (p line : List ℕ) → (answer ≡ Done → length p ≤ 5132)
-      → (answer ≡ Done → eqb (s .reader .kind) 1 ≡ false → eqb (s .reader .kind) 2 ≡ false → (isThere (h .model) ≡ true) × (isThere (h .settings) ≡ true))
+      → (answer ≡ Done → eqb (s .reader .kind) 1 ≡ false → isSettings (s .reader .kind) ≡ false → (isThere (h .model) ≡ true) × (isThere (h .settings) ≡ true))
       → Tells (recordJudged s answer p model line) (judgedSaid h (s .reader .offset) (s .reader .kind) p answer)
   judged-tells Done p line l f = kind-tells p line (l refl) (f refl)
   judged-tells (Refused r) p line l f = stops-tells s r model line
@@ -191,16 +190,14 @@ unfolding judge
 room-for a b kind p d = let t = passed a b (claimsOf kind p) d in fits-room _ _ _ _ _ _ _ (t .size-good) (t .room-good)
 
 -- and what is neither a model nor settings has both before it
-both-before : (a b : Bool) (kind : ℕ) (p : List ℕ) → judge a b kind p ≡ Done → eqb kind 1 ≡ false → eqb kind 2 ≡ false → (a ≡ true) × (b ≡ true)
+both-before : (a b : Bool) (kind : ℕ) (p : List ℕ) → judge a b kind p ≡ Done → eqb kind 1 ≡ false → isSettings kind ≡ false → (a ≡ true) × (b ≡ true)
 unfolding judge kindGood timeGood
 both-before a b kind p d n m =
     let t = passed a b (claimsOf kind p) d in
-    let k = and-both (leb 1 kind) (leb kind 3) (t .kind-good) in
-    let third : kind ≡ 3 = omega (arith, leb-true 1 kind (k .0), leb-true kind 3 (k .1), ne-of 1 n, ne-of 2 m) in
+    let k = and-both (leb 1 kind) (leb kind 4) (t .kind-good) in
+    let others = no-settings-kind kind m in
+    let third : kind ≡ 3 = omega (arith, leb-true 1 kind (k .0), leb-true kind 4 (k .1), eqb-false kind 1 n, others .0, others .1) in
     and-both a b (subst (λ (x : ℕ). timeGood x a b ≡ true) third (t .time-good))
-  where
-    ne-of : (j : ℕ) → eqb kind j ≡ false → kind ≡ j → ⊥
-    ne-of j e = eqb-false kind j e
 
 -- a record is told as it is said
 record-tells : (r : Rec) (offset : ℕ) (s : Session) (model line : List ℕ) (h : Heard) → Sayable r → Agrees s model h
@@ -217,7 +214,7 @@ record-tells r offset s model line h y a =
     subst (λ (q : Answer). Tells (recordJudged x q p model line) (judgedSaid h offset (r .kind) p j)) (sym same)
     (subst (λ (n : ℕ). Tells (recordJudged x j p model line) (judgedSaid h offset n p j)) k
     (judged-tells x model h b j p line (λ d. room-for _ _ (r .kind) p d)
-    (λ d n m. both-before _ _ (r .kind) p d (ap (λ i. eqb i 1) (sym k) ∙ n) (ap (λ i. eqb i 2) (sym k) ∙ m))))
+    (λ d n m. both-before _ _ (r .kind) p d (ap (λ i. eqb i 1) (sym k) ∙ n) (ap isSettings (sym k) ∙ m))))
 
 -- ---- a stream
 

@@ -7,23 +7,22 @@ use mathlib.Core.Logic.{⊎-elim}
 use mathlib.Core.Option.{Option, none, some}
 use native.Mathlib.Omega.{arith}
 use lib.Dec.{eqb}
-use borrow.Author.Tests.{eqb-true}
 use Rattle.numbers.proofs.Cases.{either}
 use Rattle.refusals.specs.declared.Answer.{Answer}
 use Rattle.refusals.specs.declared.Answer.the-variants.{Done, Refused}
 use Rattle.refusals.specs.Refusal.{numberOf}
 use Rattle.relay_calls.specs.declared.Decoded.{Decoded}
 use Rattle.relay_calls.specs.declared.Decoded.the-variants as Decoded
-use Rattle.stream_grammar.specs.Stream.{isOfShot, legs, judge}
+use Rattle.stream_grammar.specs.Stream.{Rec, rec, isSettings, isOfShot, legs, judge}
 use Rattle.stream_table.specs.Table.{modelFault, settingsAnswer}
-use Rattle.stream_session.specs.Text.{Heard, heard, nothingHeard, isThere, thePayload, endsRun, modelSaid, settingsSaid, lineSaid, shotSaid, decodeOf, payloadSaid, judgedSaid, recordSaid}
+use Rattle.stream_session.specs.Text.{Heard, heard, nothingHeard, isThere, theOne, thePayload, theRecord, endsRun, modelSaid, settingsSaid, lineSaid, shotSaid, decodeOf, payloadSaid, judgedSaid, recordSaid}
 use Rattle.stream_laws.proofs.Theorems.{settings-let-through, shot-let-through}
 use Rattle.stream_laws.proofs.Refusing.{shot-refused}
 
 -- the model was accepted by the table, and the settings by it and by 44
 pub record Accepted (h : Heard) : Type 0 where
   pub model : (p : List ℕ) → h .model ≡ some p → modelFault p ≡ Done
-  pub settings : (q : List ℕ) → h .settings ≡ some q → (settingsAnswer q ≡ Done) × (legs q ≤ 16)
+  pub settings : (q : Rec) → h .settings ≡ some q → (settingsAnswer (q .kind) (q .payload) ≡ Done) × (legs (q .payload) ≤ 16)
 
 -- before the first record
 pub nothing-accepted : Accepted nothingHeard
@@ -49,16 +48,16 @@ module _ (h : Heard) (a : Accepted h) (offset : ℕ) (p : List ℕ) (k : Heard) 
   after-model (Refused r) m e = let z : _≡_ {A = ℕ} 0 1 = cc in absurd (omega arith)
 
   -- settings
-  after-settings : (answer : Answer) → settingsAnswer p ≡ answer → legs p ≤ 16 → settingsSaid h offset p answer .next ≡ some k → Accepted k
+  after-settings : (kind : ℕ) (answer : Answer) → settingsAnswer kind p ≡ answer → legs p ≤ 16 → settingsSaid h offset (rec kind p) answer .next ≡ some k → Accepted k
   unfolding endsRun
-  after-settings Done m l e =
-      let q : heard (h .model) (some p) (h .shots) ≡ k = cc in
+  after-settings kind Done m l e =
+      let q : heard (h .model) (some (rec kind p)) (h .shots) ≡ k = cc in
       subst Accepted q
       (record {
         model = a .model;
-        settings = λ x s. let same : p ≡ x = cc in subst (λ (y : List ℕ). (settingsAnswer y ≡ Done) × (legs y ≤ 16)) same (m, l);
+        settings = λ x s. let same : rec kind p ≡ x = cc in subst (λ (y : Rec). (settingsAnswer (y .kind) (y .payload) ≡ Done) × (legs (y .payload) ≤ 16)) same (m, l);
       })
-  after-settings (Refused r) m l e = let z : _≡_ {A = ℕ} 0 1 = cc in absurd (omega arith)
+  after-settings kind (Refused r) m l e = let z : _≡_ {A = ℕ} 0 1 = cc in absurd (omega arith)
 
   -- a shot's line
   after-line : (line : List ℕ) → lineSaid h line .next ≡ some k → Accepted k
@@ -77,17 +76,17 @@ module _ (h : Heard) (a : Accepted h) (offset : ℕ) (p : List ℕ) (k : Heard) 
       (either (isOfShot (numberOf r)))
 
   -- a record past 41 to 45
-  after-kind : (kind : ℕ) → (kind ≡ 2 → legs p ≤ 16) → payloadSaid h offset kind p .next ≡ some k → Accepted k
+  after-kind : (kind : ℕ) → (isSettings kind ≡ true → legs p ≤ 16) → payloadSaid h offset kind p .next ≡ some k → Accepted k
   unfolding payloadSaid
   after-kind kind l e =
-      let d = decodeOf (thePayload (h .model)) (thePayload (h .settings)) p in
+      let d = decodeOf (thePayload (h .model)) (theRecord (h .settings)) p in
       ⊎-elim
       (λ (m : eqb kind 1 ≡ true). after-model (modelFault p) refl (rw m at e))
       (λ (m : eqb kind 1 ≡ false).
       ⊎-elim
-      (λ (s : eqb kind 2 ≡ true). after-settings (settingsAnswer p) refl (l (eqb-true kind 2 s)) (rw (m, s) at e))
-      (λ (s : eqb kind 2 ≡ false). after-shot (d .answer) (d .correction) (rw (m, s) at e))
-      (either (eqb kind 2)))
+      (λ (s : isSettings kind ≡ true). after-settings kind (settingsAnswer kind p) refl (l s) (rw (m, s) at e))
+      (λ (s : isSettings kind ≡ false). after-shot (d .answer) (d .correction) (rw (m, s) at e))
+      (either (isSettings kind)))
       (either (eqb kind 1))
 
   -- a record
@@ -95,7 +94,7 @@ module _ (h : Heard) (a : Accepted h) (offset : ℕ) (p : List ℕ) (k : Heard) 
   unfolding endsRun
   after-judged kind Done j e =
       after-kind kind
-      (λ (two : kind ≡ 2). settings-let-through (isThere (h .model)) (isThere (h .settings)) p (subst (λ (x : ℕ). judge (isThere (h .model)) (isThere (h .settings)) x p ≡ Done) two j) .1)
+      (λ (s : isSettings kind ≡ true). settings-let-through (isThere (h .model)) (isThere (h .settings)) p kind s j .1)
       e
   after-judged kind (Refused r) j e = let z : _≡_ {A = ℕ} 0 1 = cc in absurd (omega arith)
 
@@ -105,10 +104,10 @@ module _ (h : Heard) (a : Accepted h) (offset : ℕ) (p : List ℕ) (k : Heard) 
 
 -- ---- a shot goes on
 
--- a payload that is there
-pub there : (o : Option (List ℕ)) → isThere o ≡ true → o ≡ some (thePayload o)
-there none e = absurd (false≢true e)
-there (some p) e = refl
+-- what is there
+pub there : {A : Type 0} (other : A) (o : Option A) → isThere o ≡ true → o ≡ some (theOne other o)
+there other none e = absurd (false≢true e)
+there other (some a) e = refl
 
 module _ (h : Heard) (a : Accepted h) (offset : ℕ) (p : List ℕ) where
   -- what is known behind a shot
@@ -116,17 +115,17 @@ module _ (h : Heard) (a : Accepted h) (offset : ℕ) (p : List ℕ) where
   afterShot = heard (h .model) (h .settings) ((h .shots + 1) % 2 ^ 64)
 
   shot-on : isThere (h .model) ≡ true → isThere (h .settings) ≡ true → (d : Decoded) (bits : List ℕ)
-      → decodeOf (thePayload (h .model)) (thePayload (h .settings)) p .answer ≡ d → shotSaid h offset d bits .next ≡ some afterShot
+      → decodeOf (thePayload (h .model)) (theRecord (h .settings)) p .answer ≡ d → shotSaid h offset d bits .next ≡ some afterShot
   unfolding lineSaid decodeOf
   shot-on m s (Decoded.Converged n t stores w) bits e = refl
   shot-on m s (Decoded.NotConverged n t stores) bits e = refl
   shot-on m s (Decoded.Refused r) bits e =
-      let t = a .settings (thePayload (h .settings)) (there (h .settings) s) in
-      rw (shot-refused (thePayload (h .model)) (thePayload (h .settings)) p r (a .model (thePayload (h .model)) (there (h .model) m)) (t .0) (t .1) e)
+      let t = a .settings (theRecord (h .settings)) (there _ (h .settings) s) in
+      rw (shot-refused (thePayload (h .model)) (theRecord (h .settings)) p r (a .model (thePayload (h .model)) (there _ (h .model) m)) (t .0) (t .1) e)
 
   -- one that 41 to 45 let through
   pub shot-goes-on : judge (isThere (h .model)) (isThere (h .settings)) 3 p ≡ Done → recordSaid h offset 3 p .next ≡ some afterShot
-  unfolding recordSaid payloadSaid
+  unfolding recordSaid payloadSaid isSettings
   shot-goes-on j =
       let t = shot-let-through (isThere (h .model)) (isThere (h .settings)) p j in
       rw j (shot-on (t .2) (t .3) _ _ refl)

@@ -7,12 +7,13 @@ use Prim.Native.Nat.{ℕ, _+_, _≤_}
 use native.Mathlib.Omega.{arith}
 use lib.ListN.{length, drop, length-drop}
 use borrow.Author.Tests.{ne-eqb}
-use Rattle.numbers.proofs.Cases.{equal-or-not}
+use Rattle.numbers.proofs.Cases.{equal-or-not, either}
 use Rattle.refusals.specs.declared.Answer.{Answer}
 use Rattle.refusals.specs.declared.Refusal.the-variants.{UnknownKind, PayloadLength}
 use Rattle.refusals.specs.Tests.{unless, orElse}
-use Rattle.stream_grammar.specs.Stream.{lengthSaid, kindSaid, checks, mechanisms, edges, degrees, legs, scheduleByte, kindGood, lengthGood, roomGood, scheduleGood, claims, tested, judge}
+use Rattle.stream_grammar.specs.Stream.{lengthSaid, kindSaid, checks, mechanisms, edges, degrees, legs, scheduleByte, isSettings, kindGood, lengthGood, roomGood, scheduleGood, claims, tested, judge}
 use Rattle.stream_reader.specs.Reading.{holding, payloadKept, verdict}
+use Rattle.stream_laws.proofs.Accepted.{settings-no-model}
 use Rattle.stream_laws.proofs.Kept.{kept-number, kept-byte}
 
 -- 41, then a 42 that refuses: what comes after does not matter
@@ -29,14 +30,14 @@ module _ (hasModel hasSettings : Bool) (kind : ℕ) (p room : List ℕ) (r : 49 
       tested hasModel hasSettings (claims kind (length p) (checks p) (mechanisms p) (edges p) (degrees (mechanisms p) p) (legs q) (scheduleByte q))
 
   -- a model or a shot: neither legs nor schedule are looked at
-  others : (kind ≡ 2 → ⊥) → byKept ≡ judge hasModel hasSettings kind p
+  others : isSettings kind ≡ false → byKept ≡ judge hasModel hasSettings kind p
   unfolding judge tested roomGood scheduleGood
-  others n = rw (ne-eqb kind 2 n)
+  others n = rw n
 
   -- settings of another length are refused before
-  other-length : kind ≡ 2 → (length p ≡ 49 → ⊥) → byKept ≡ judge hasModel hasSettings kind p
+  other-length : isSettings kind ≡ true → (length p ≡ 49 → ⊥) → byKept ≡ judge hasModel hasSettings kind p
   unfolding judge tested lengthGood
-  other-length e n = rw (e, ne-eqb (length p) 49 n) (refused-42 (kindGood 2) _ _)
+  other-length e n = rw (settings-no-model kind e, e, ne-eqb (length p) 49 n) (refused-42 (kindGood kind) _ _)
 
   -- settings of 49 bytes are kept
   as-kept : length p ≡ 49 → byKept ≡ judge hasModel hasSettings kind p
@@ -47,9 +48,9 @@ module _ (hasModel hasSettings : Bool) (kind : ℕ) (p room : List ℕ) (r : 49 
   judged-kept : byKept ≡ judge hasModel hasSettings kind p
   judged-kept =
       ⊎-elim
-      (λ (e : kind ≡ 2). ⊎-elim (λ (l : length p ≡ 49). as-kept l) (λ (n : length p ≡ 49 → ⊥). other-length e n) (equal-or-not (length p) 49))
-      (λ (n : kind ≡ 2 → ⊥). others n)
-      (equal-or-not kind 2)
+      (λ (e : isSettings kind ≡ true). ⊎-elim (λ (l : length p ≡ 49). as-kept l) (λ (n : length p ≡ 49 → ⊥). other-length e n) (equal-or-not (length p) 49))
+      (λ (n : isSettings kind ≡ false). others n)
+      (either (isSettings kind))
 
 -- a whole record
 pub judged : (hasModel hasSettings : Bool) (offset : ℕ) (xs room : List ℕ) → length xs ≡ 6 + lengthSaid xs → 49 ≤ length room

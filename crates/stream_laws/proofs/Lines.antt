@@ -22,12 +22,12 @@ use Rattle.relay_calls.specs.Decode.{Shot, shot}
 use Rattle.relay_calls.specs.Calls.{DecodeLists, DecodeOutcome, decodeOutcome, decode, Summary, summaryOf, summary}
 use Rattle.relay_laws.specs.BestOfLegs.{filed, BestOfLegs}
 use Rattle.relay_laws.proofs.Theorems.{decode-best-of-legs, decode-stores-by-formula, legs-at-most-total}
-use Rattle.stream_grammar.specs.Stream.{mechanisms, judge, seed, syndrome}
-use Rattle.stream_grammar.specs.Fields.{countsRead, modelRead, settingsRead}
+use Rattle.stream_grammar.specs.Stream.{Rec, mechanisms, isSettings, judge, seed, syndrome}
+use Rattle.stream_grammar.specs.Fields.{countsRead, modelRead}
 use Rattle.stream_lines.specs.Lines.{shotLine, refusedLine, unlessTooLong}
 use Rattle.stream_table.specs.Table.{lentNumbers, modelRoom, graphRoom, shotRoom, within, builtFrom, modelFault, decodedFrom, Decoding, found, shotDecoded}
 use Rattle.stream_table.proofs.Laws.{counts-fit}
-use Rattle.stream_session.specs.Text.{Heard, isThere, thePayload, lineSaid, shotSaid, decodeOf, payloadSaid, recordSaid}
+use Rattle.stream_session.specs.Text.{Heard, isThere, thePayload, theRecord, settingsOf, lineSaid, shotSaid, decodeOf, payloadSaid, recordSaid}
 use Rattle.stream_laws.specs.Lines.{modelGraph, modelPriors, mostLegs, LineHolds}
 use Rattle.stream_laws.proofs.Theorems.{shot-let-through}
 use Rattle.stream_laws.proofs.Refusing.{shot-refused}
@@ -97,24 +97,24 @@ unfolding unlessTooLong
 line-short bits line h = rw (le-leb (length bits) 256 h)
 
 module _ (h : Heard) (a : Accepted h) (offset : ℕ) (p : List ℕ) (m : isThere (h .model) ≡ true) (s : isThere (h .settings) ≡ true) where
-  -- the payloads of the model and of the settings
+  -- the payload of the model and the record of the settings
   abbrev model : List ℕ
   model = thePayload (h .model)
 
-  abbrev settings : List ℕ
-  settings = thePayload (h .settings)
+  abbrev settings : Rec
+  settings = theRecord (h .settings)
 
   accepted : modelFault model ≡ Done
-  accepted = a .model model (there (h .model) m)
+  accepted = a .model model (there _ (h .model) m)
 
   -- what the decode leaves
   abbrev after : DecodeOutcome
-  after = leaves model (settingsRead settings) p accepted (lentNumbers 256 (mechanisms model))
+  after = leaves model (settingsOf settings) p accepted (lentNumbers 256 (mechanisms model))
 
   -- of an answer, the line that is said of it
   line-of : (d : Decoded) (converged : Bool) (total legs stores : ℕ) (weight : Option Float) (text : List ℕ) → summaryOf d ≡ summary Done converged legs total stores weight
       → text ≡ unlessTooLong (after .left .correction) (shotLine (h .shots) converged total legs (after .left .correction))
-      → BestOfLegs (filed (shotOver model (settingsRead settings) p accepted (modelGraph model)) d (after .left)) → after .answer ≡ d → LineHolds (h .shots) model settings p text
+      → BestOfLegs (filed (shotOver model (settingsOf settings) p accepted (modelGraph model)) d (after .left)) → after .answer ≡ d → LineHolds (h .shots) model settings p text
   line-of d converged total legs stores weight text e q b g =
       let c : BestOfLegs
       (record {
@@ -134,7 +134,7 @@ module _ (h : Heard) (a : Accepted h) (offset : ℕ) (p : List ℕ) (m : isThere
         total = total;
         legs = legs;
         bits = after .left .correction;
-        says = q ∙ line-short (after .left .correction) _ (omega (arith, c .bits .many, few model (settingsRead settings) p accepted));
+        says = q ∙ line-short (after .left .correction) _ (omega (arith, c .bits .many, few model (settingsOf settings) p accepted));
         are-bits = c .bits;
         satisfies = c .satisfies;
         fails = c .fails;
@@ -144,8 +144,8 @@ module _ (h : Heard) (a : Accepted h) (offset : ℕ) (p : List ℕ) (m : isThere
         stores = stores;
         by-formula =
             ap (λ (z : Summary). z .stores) (sym e)
-            ∙ leaves-stores model (settingsRead settings) p accepted (lentNumbers 256 (mechanisms model)) d g (ap (λ (z : Summary). z .refusal) e)
-            ∙ ap (λ (z : Summary). storesAt (settingsRead settings .schedule) (modelGraph model) (z .totalIterations)) e;
+            ∙ leaves-stores model (settingsOf settings) p accepted (lentNumbers 256 (mechanisms model)) d g (ap (λ (z : Summary). z .refusal) e)
+            ∙ ap (λ (z : Summary). storesAt (settingsOf settings .schedule) (modelGraph model) (z .totalIterations)) e;
         weight = weight;
         legState = after .left .legState;
         legIterations = after .left .legIterations;
@@ -161,16 +161,16 @@ module _ (h : Heard) (a : Accepted h) (offset : ℕ) (p : List ℕ) (m : isThere
   by-answer : (d : Decoded) → after .answer ≡ d → decodeOf model settings p .answer ≡ d → Line (shotSaid h offset d (after .left .correction) .text)
   unfolding lineSaid decodeOf
   by-answer (Decoded.Converged n t k w) e q =
-      inl (line-of (Decoded.Converged n t k w) true t n k (some w) _ refl refl (leaves-best model (settingsRead settings) p accepted (lentNumbers 256 (mechanisms model)) _ e refl) e)
+      inl (line-of (Decoded.Converged n t k w) true t n k (some w) _ refl refl (leaves-best model (settingsOf settings) p accepted (lentNumbers 256 (mechanisms model)) _ e refl) e)
   by-answer (Decoded.NotConverged n t k) e q =
-      inl (line-of (Decoded.NotConverged n t k) false t n k none _ refl refl (leaves-best model (settingsRead settings) p accepted (lentNumbers 256 (mechanisms model)) _ e refl) e)
+      inl (line-of (Decoded.NotConverged n t k) false t n k none _ refl refl (leaves-best model (settingsOf settings) p accepted (lentNumbers 256 (mechanisms model)) _ e refl) e)
   by-answer (Decoded.Refused r) e q =
-      let t = a .settings settings (there (h .settings) s) in
+      let t = a .settings settings (there _ (h .settings) s) in
       inr (numberOf r, rw (shot-refused model settings p r accepted (t .0) (t .1) q))
 
   decoding-left : decodeOf model settings p ≡ found after
   unfolding decodeOf
-  decoding-left = decoding-is model (settingsRead settings) p accepted (lentNumbers 256 (mechanisms model))
+  decoding-left = decoding-is model (settingsOf settings) p accepted (lentNumbers 256 (mechanisms model))
 
   answer-left : decodeOf model settings p .answer ≡ after .answer
   unfolding found
@@ -186,9 +186,9 @@ module _ (h : Heard) (a : Accepted h) (offset : ℕ) (p : List ℕ) (m : isThere
 
 -- of a shot that 41 to 45 let through, over what was accepted
 pub shot-line : (h : Heard) (offset : ℕ) (p : List ℕ) → Accepted h → judge (isThere (h .model)) (isThere (h .settings)) 3 p ≡ Done
-    → LineHolds (h .shots) (thePayload (h .model)) (thePayload (h .settings)) p (recordSaid h offset 3 p .text)
+    → LineHolds (h .shots) (thePayload (h .model)) (theRecord (h .settings)) p (recordSaid h offset 3 p .text)
     ⊎ ((code : ℕ) × (recordSaid h offset 3 p .text ≡ refusedLine (h .shots) code))
-unfolding recordSaid payloadSaid
+unfolding recordSaid payloadSaid isSettings
 shot-line h offset p a j =
     let t = shot-let-through (isThere (h .model)) (isThere (h .settings)) p j in
     rw j (said-line h a offset p (t .2) (t .3))

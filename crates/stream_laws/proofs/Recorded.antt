@@ -8,8 +8,8 @@ use native.Mathlib.Omega.{arith}
 use lib.Dec.{eqb, leb}
 use lib.ListN.{length, take, drop, replicate}
 use lib.Seq.{take-append-seam}
-use borrow.Author.Tests.{leb-true, eqb-true, eq-eqb, ne-eqb}
-use Rattle.numbers.proofs.Cases.{equal-or-not}
+use borrow.Author.Tests.{leb-true, eqb-true, ne-eqb}
+use Rattle.numbers.proofs.Cases.{either, equal-or-not}
 use Rattle.refusals.specs.declared.Refusal.{Refusal}
 use Rattle.refusals.specs.declared.Answer.{Answer}
 use Rattle.refusals.specs.declared.Answer.the-variants.{Done, Refused}
@@ -17,7 +17,7 @@ use Rattle.refusals.specs.Refusal.{numberOf}
 use Rattle.relay_calls.specs.declared.Decoded.{Decoded}
 use Rattle.relay_calls.specs.declared.Decoded.the-variants as Decoded
 use Rattle.stream_reader.specs.declared.Reader.{Reader}
-use Rattle.stream_grammar.specs.Stream.{Rec, Sayable, lengthSaid, mechanisms, isOfShot, lengthGood, roomGood, judge}
+use Rattle.stream_grammar.specs.Stream.{Rec, Sayable, lengthSaid, mechanisms, isSettings, isOfShot, lengthGood, roomGood, judge}
 use Rattle.stream_reader.specs.Reading.{holding, payloadKept, verdict}
 use Rattle.stream_laws.proofs.Accepted.{passed, model-within}
 use Rattle.stream_laws.proofs.Kept.{kept-front}
@@ -71,12 +71,12 @@ judged-stays : (s : Session) (a : Answer) (p model line : List ℕ) → recordJu
 unfolding kindTaken
 judged-stays s Done p model line =
     let x = modelTaken s (modelFault p) p model line in
-    let y = taken (settingsTaken s (settingsAnswer p) p line) model in
+    let y = taken (settingsTaken s (settingsAnswer (s .reader .kind) p) p line) model in
     let m = take (s .known .«model_length») model in
     let z = taken (shotTaken s m p line) model in
     let reader : Taken → Reader = λ t. t .now .session .reader in
-    either-stays reader (eqb (s .reader .kind) 1) x (cond (eqb (s .reader .kind) 2) y z) (s .reader) (model-stays s (modelFault p) p model line)
-    (either-stays reader (eqb (s .reader .kind) 2) y z (s .reader) (settings-stays s (settingsAnswer p) p line) (shot-stays s m p line))
+    either-stays reader (eqb (s .reader .kind) 1) x (cond (isSettings (s .reader .kind)) y z) (s .reader) (model-stays s (modelFault p) p model line)
+    (either-stays reader (isSettings (s .reader .kind)) y z (s .reader) (settings-stays s (settingsAnswer (s .reader .kind) p) p line) (shot-stays s m p line))
 judged-stays s (Refused r) p model line = stops-stays s r line
 
 -- a record that is met
@@ -90,16 +90,16 @@ record-stays s kept model line =
 -- by its kind
 pub fits-room : (kind size c m e sum l : ℕ) → lengthGood kind size m e sum ≡ true → roomGood kind size c m e l ≡ true → size ≤ 5132
 unfolding lengthGood roomGood
-fits-room kind size c m e sum l h k = ⊎-elim one (λ n. ⊎-elim (two n) (three n) (equal-or-not kind 2)) (equal-or-not kind 1)
+fits-room kind size c m e sum l h k = ⊎-elim one (λ n. ⊎-elim (two n) (three n) (either (isSettings kind))) (equal-or-not kind 1)
   where
     one : kind ≡ 1 → size ≤ 5132
     one q = let w = model-within size c m e sum l (rw q at h) (rw q at k) in omega (arith, w .sizeFits, w .mechanismsFit, w .edgesFit)
 
-    two : (kind ≡ 1 → ⊥) → kind ≡ 2 → size ≤ 5132
-    two n q = let e : (eqb size 49 ≡ true) = rw (ne-eqb kind 1 n, eq-eqb kind 2 q) at h in omega (arith, eqb-true size 49 e)
+    two : (kind ≡ 1 → ⊥) → isSettings kind ≡ true → size ≤ 5132
+    two n q = let e : (eqb size 49 ≡ true) = rw (ne-eqb kind 1 n, q) at h in omega (arith, eqb-true size 49 e)
 
-    three : (kind ≡ 1 → ⊥) → (kind ≡ 2 → ⊥) → size ≤ 5132
-    three n q = let e : (leb size 136 ≡ true) = rw (ne-eqb kind 1 n, ne-eqb kind 2 q) at k in omega (arith, leb-true size 136 e)
+    three : (kind ≡ 1 → ⊥) → isSettings kind ≡ false → size ≤ 5132
+    three n q = let e : (leb size 136 ≡ true) = rw (ne-eqb kind 1 n, q) at k in omega (arith, leb-true size 136 e)
 
 -- ---- a record that is met
 

@@ -1,4 +1,4 @@
--- What can refuse a shot over a model and settings that were accepted: its syndrome, or a posterior that is not finite. Assumes nothing.
+-- What can refuse a shot over a model and settings that were accepted: its syndrome, its seed, or a posterior that is not finite. Assumes nothing.
 use Prim.Native.Nat.{ℕ, zero, suc, _*_, _≤_}
 use mathlib.Core.Path.{_≡_, refl, sym, ap, subst, _∙_}
 use mathlib.Core.Bool.{Bool, true, false, true≢false}
@@ -13,7 +13,7 @@ use borrow.Author.Tests.{le-leb, eq-eqb}
 use Rattle.numbers.specs.Floats.{zero⁺}
 use Rattle.numbers.specs.Loops.{upto}
 use Rattle.refusals.specs.declared.Refusal.{Refusal}
-use Rattle.refusals.specs.declared.Refusal.the-variants.{SyndromeLength, SyndromeNotBinary, LentListLength, NonFinite}
+use Rattle.refusals.specs.declared.Refusal.the-variants.{SyndromeLength, SyndromeNotBinary, LentListLength, ShotTooLarge, NonFinite}
 use Rattle.refusals.specs.declared.Answer.{Answer}
 use Rattle.refusals.specs.declared.Answer.the-variants.{Done, Refused}
 use Rattle.refusals.specs.Refusal.{numberOf}
@@ -27,11 +27,13 @@ use Rattle.graph_lists.proofs.Sound.{Sound, passes-sound}
 use Rattle.graph.proofs.Theorems.{sparse-checked}
 use Rattle.relay_settings.specs.declared.Schedule.{Schedule}
 use Rattle.relay_settings.specs.declared.Schedule.the-variants.{Flooding, CheckSerial}
+use Rattle.relay_settings.specs.declared.GammaSource.{GammaSource}
 use Rattle.relay_settings.specs.declared.Settings.{Settings}
 use Rattle.relay_settings.proofs.Told.{settings-told}
 use Rattle.relay_stores.specs.Stores.{degree, squaredDegrees, storesEach, mostIterations, maxStores, storesFault}
 use Rattle.relay_stores.proofs.Squares.{squares-few}
 use Rattle.relay_settings.specs.Settings.{sourceFault, settingsFault, checkSettings}
+use Rattle.relay_gammas.specs.Gammas.{seedFault}
 use Rattle.relay_calls.specs.declared.Decoded.{Decoded}
 use Rattle.relay_calls.specs.declared.Decoded.the-variants as Decoded
 use Rattle.relay_calls.specs.Decode.{Shot, Run, Ended, decoded, refused, Progress, running, finished, legJudged, afterLeg, legsFrom, decodeLegs, decodeStores}
@@ -39,14 +41,15 @@ use Rattle.relay_calls.specs.Calls.{byteFault, syndromeFault, DecodeLists, deco
 use Rattle.relay_calls.proofs.Named.{index-passes}
 use Rattle.relay_calls.proofs.LastTests.{or-joined}
 use Rattle.stream_grammar.specs.declared.Counts.{Counts}
-use Rattle.stream_grammar.specs.Stream.{isOfShot, legs, mechanisms, syndrome}
+use Rattle.stream_grammar.specs.Stream.{Rec, isOfShot, legs, mechanisms, syndrome}
 use Rattle.stream_grammar.specs.Fields.{countsRead, modelRead, settingsRead}
 use Rattle.stream_table.specs.Table.{lentNumbers, modelRoom, graphRoom, shotRoom, within, builtFrom, modelFault, settingsAnswer, decodedFrom, found, shotDecoded}
 use Rattle.stream_table.proofs.Laws.{counts-fit}
+use Rattle.stream_session.specs.Text.{settingsOf}
 
 -- ---- answers that a shot's line can say
 
--- whatever an answer refuses with is 20, 21 or 30
+-- whatever an answer refuses with is 20, 21, 27 or 30
 abbrev OfShot : Answer → Type 0
 OfShot a = (r : Refusal) → a ≡ Refused r → isOfShot (numberOf r) ≡ true
 
@@ -72,6 +75,11 @@ first-of (suc n) f h r e = or-of (firstOf n f) (f n) (first-of n f h) (h n) r e
 syndrome-of : (checks : ℕ) (xs : List ℕ) → OfShot (syndromeFault checks xs)
 unfolding syndromeFault byteFault isOfShot
 syndrome-of checks xs = or-of _ _ (unless-of _ SyndromeLength refl) (first-of checks _ (λ i. unless-of _ (SyndromeNotBinary i) refl))
+
+-- a seed with 27
+seed-of : (source : GammaSource) (seed : ℕ) → OfShot (seedFault source seed)
+unfolding seedFault isOfShot
+seed-of source seed = unless-of _ ShotTooLarge refl
 
 -- a posterior with 30
 posterior-of : (g : Graph) (xs : List Float) → OfShot (posteriorFault g xs)
@@ -122,7 +130,7 @@ tested-of edges x l f r e = by (decodeFault edges x l) f e
 -- ---- the tests of a shot over what was accepted
 
 -- settings with a seeded source are judged alike, whatever the mechanisms
-settings-good : (q : List ℕ) (m : ℕ) → settingsAnswer q ≡ Done → settingsFault (settingsRead q) m [] ≡ Done
+settings-good : (q : Rec) (m : ℕ) → settingsAnswer (q .kind) (q .payload) ≡ Done → settingsFault (settingsOf q) m [] ≡ Done
 unfolding settingsAnswer checkSettings settingsFault sourceFault settingsRead
 settings-good q m e = or-done _ _ e .1
 
@@ -198,23 +206,24 @@ module _ (edges : ℕ) (x : Shot) (l : DecodeLists) (few : edges ≤ 512) (legs-
       past _ _ g
       (past _ _ s
       (or-of _ _ (syndrome-of (x .graph .checks) (x .syndrome))
+      (or-of _ _ (seed-of (x .settings .«gamma_source») (x .seed))
       (past _ _ (fit-done _ fits)
       (none-of _
       (sym (or-joined _ _ _)
       ∙ or-second _ _ (index-passes (x .settings .schedule) (x .graph))
-      ∙ stores-done (x .settings) (x .graph .mechanisms) (x .gammas) (x .graph) s (passes-sound (x .graph) (told .is-graph)) (omega (arith, told .long .check-var)) legs-few)))))
+      ∙ stores-done (x .settings) (x .graph .mechanisms) (x .gammas) (x .graph) s (passes-sound (x .graph) (told .is-graph)) (omega (arith, told .long .check-var)) legs-few))))))
     where
       told : GraphTold edges (x .prior) (x .graph)
       told = graph-told edges (x .prior) (x .graph) g
 
-  -- so a decode in index order is refused with 20, 21 or 30
+  -- so a decode in index order is refused with 20, 21, 27 or 30
   decoded-of : decodeListsFit edges x l ≡ true → (r : Refusal) → decode edges x l .answer ≡ Decoded.Refused r → isOfShot (numberOf r) ≡ true
   unfolding decode
   decoded-of fits = tested-of edges (withOrder x (upto (x .graph .checks))) l (tests-of fits)
 
 -- a shot over a model and settings that the table accepts, whose legs find room
-pub shot-refused : (model q p : List ℕ) (r : Refusal) → modelFault model ≡ Done → settingsAnswer q ≡ Done → legs q ≤ 16
-    → shotDecoded model (settingsRead q) p (lentNumbers 256 (mechanisms model)) .answer ≡ Decoded.Refused r → isOfShot (numberOf r) ≡ true
+pub shot-refused : (model : List ℕ) (q : Rec) (p : List ℕ) (r : Refusal) → modelFault model ≡ Done → settingsAnswer (q .kind) (q .payload) ≡ Done → legs (q .payload) ≤ 16
+    → shotDecoded model (settingsOf q) p (lentNumbers 256 (mechanisms model)) .answer ≡ Decoded.Refused r → isOfShot (numberOf r) ≡ true
 unfolding shotDecoded modelFault found decodedFrom builtFrom countsRead settingsRead
 shot-refused model q p r m s l e =
     let c = countsRead model in

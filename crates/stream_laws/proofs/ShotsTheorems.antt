@@ -10,14 +10,16 @@ use Rattle.refusals.specs.declared.Refusal.{Refusal}
 use Rattle.refusals.specs.declared.Answer.the-variants.{Done}
 use Rattle.refusals.specs.Refusal.{numberOf}
 use Rattle.relay_calls.specs.declared.Decoded.the-variants as Decoded
-use Rattle.stream_grammar.specs.Stream.{AreBytes, Rec, AllSayable, stream, isComplete, judge, isOfShot}
+use Rattle.stream_grammar.specs.Stream.{AreBytes, Rec, AllSayable, stream, isComplete, isSettings, judge, isOfShot}
+use Rattle.stream_grammar.specs.Fields.{settingsRead}
+use Rattle.relay_settings.specs.Settings.{sourceFault, settingsFault, checkSettings}
 use Rattle.stream_reader.specs.Reading.{fresh, held, fed, payloadKept}
 use Rattle.stream_lines.specs.Lines.{refusedLine}
 use Rattle.stream_table.specs.Table.{modelFault, settingsAnswer}
 use Rattle.stream_session.specs.declared.Session.{Session}
 use Rattle.stream_session.specs.Shots.{Left, startSession, byteTaken, lastText, endText, textOf, sessionText}
 use Rattle.stream_session.specs.Pieces.{nextByte, pieceTaken, pieceText, restText}
-use Rattle.stream_session.specs.Text.{Heard, heard, nothingHeard, isThere, thePayload, decodeOf, recordSaid, recordsText}
+use Rattle.stream_session.specs.Text.{Heard, heard, nothingHeard, isThere, thePayload, theRecord, decodeOf, recordSaid, recordsText}
 use Rattle.stream_laws.proofs.Theorems.{Apart, told-apart, meets, ends-at, settings-let-through}
 use Rattle.stream_laws.proofs.Written.{metText, written-met}
 use Rattle.stream_laws.proofs.Ended.{met-told}
@@ -28,7 +30,7 @@ use Rattle.stream_laws.specs.Lines.{LineHolds}
 use Rattle.stream_laws.proofs.Lines.{shot-line}
 
 -- "`shots` reads standard input": of records and what is left over it writes what the grammar and the table say, with each refusal's number and offset, each shot over the
--- very payloads of the last model and the last settings accepted, where the lists that keep a payload and a model have 5,132 bytes, the longest within the room
+-- very payload of the last model and record of the last settings accepted, where the lists that keep a payload and a model have 5,132 bytes, the longest within the room
 pub writes : (rs : List Rec) (rest room model line : List ℕ) → AllSayable rs → AreBytes rest → isComplete rest ≡ false → 5132 ≤ length room → 5132 ≤ length model
     → sessionText (stream rs ++ rest) startSession room model line ≡ recordsText rs 0 rest (some nothingHeard)
 writes rs rest room model line s f c l m =
@@ -78,11 +80,19 @@ pieces-left xs ys l = foldl-append nextByte l xs ys
 pub keeps-the-model : (p model : List ℕ) → length p ≤ length model → take (length p) (payloadKept p model) ≡ p
 keeps-the-model = kept-model
 
--- "Then a model by 1 to 6, settings by 10 to 16, a shot by 20, 21 and 30": over a model and settings that were accepted a shot is refused with 20, 21 or 30 alone
-pub shot-refusals : (hasModel hasSettings : Bool) (model settings p : List ℕ) (r : Refusal) → modelFault model ≡ Done
-    → judge hasModel hasSettings 2 settings ≡ Done → settingsAnswer settings ≡ Done → decodeOf model settings p .answer ≡ Decoded.Refused r → isOfShot (numberOf r) ≡ true
+-- "Then a model by 1 to 6, settings by 10 to 16, a shot by 20, 21 and 30", with 27 after 21: over a model and settings, of either kind, that were accepted a shot is
+-- refused with 20, 21, 27 or 30 alone
+pub shot-refusals : (hasModel hasSettings : Bool) (model : List ℕ) (settings : Rec) (p : List ℕ) (r : Refusal) → modelFault model ≡ Done
+    → isSettings (settings .kind) ≡ true → judge hasModel hasSettings (settings .kind) (settings .payload) ≡ Done → settingsAnswer (settings .kind) (settings .payload) ≡ Done
+    → decodeOf model settings p .answer ≡ Decoded.Refused r → isOfShot (numberOf r) ≡ true
 unfolding decodeOf
-shot-refusals hasModel hasSettings model settings p r m j s e = shot-refused model settings p r m s (settings-let-through hasModel hasSettings settings j .1) e
+shot-refusals hasModel hasSettings model settings p r m k j s e =
+    shot-refused model settings p r m s (settings-let-through hasModel hasSettings (settings .payload) (settings .kind) k j .1) e
+
+-- 10 to 16 answer settings of either kind alike
+pub kinds-answered : (p : List ℕ) → settingsAnswer 4 p ≡ settingsAnswer 2 p
+unfolding settingsAnswer settingsRead checkSettings settingsFault sourceFault
+kinds-answered p = refl
 
 -- and in a stream they always were, so no shot past 41 to 45 ends a run: the next shot has the next number
 pub no-shot-ends : Accepted nothingHeard
@@ -95,7 +105,7 @@ no-shot-ends =
 -- the archive's "least weight": over a model and settings that were accepted, a shot past 41 to 45 gets the line of a refusal, or one whose bits are the best of its decode's
 -- legs: they satisfy every check where the line says converged, and fail at least one where it does not
 pub line-holds : (h : Heard) (offset : ℕ) (p : List ℕ) → Accepted h → judge (isThere (h .model)) (isThere (h .settings)) 3 p ≡ Done
-    → LineHolds (h .shots) (thePayload (h .model)) (thePayload (h .settings)) p (recordSaid h offset 3 p .text)
+    → LineHolds (h .shots) (thePayload (h .model)) (theRecord (h .settings)) p (recordSaid h offset 3 p .text)
     ⊎ ((code : ℕ) × (recordSaid h offset 3 p .text ≡ refusedLine (h .shots) code))
 line-holds = shot-line
 

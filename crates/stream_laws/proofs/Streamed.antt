@@ -3,16 +3,17 @@ use Prim.Native.Nat.{ℕ, zero, suc, _+_, _*_, _^_, _<_, _≤_}
 use mathlib.Core.Path.{_≡_, refl, sym, ap, _∙_}
 use mathlib.Core.Bool.{Bool, true}
 use mathlib.Core.List.{List, [], _∷_, _++_, map}
+use mathlib.Core.Logic.{⊎-elim}
 use native.Mathlib.Omega.{arith}
 use lib.ListN.{length, getD, take, length-append}
 use lib.Seq.{take-suc, take-length}
 use borrow.Author.Tests.{le-leb, eq-eqb}
 use Rattle.refusals.specs.declared.Answer.the-variants.{Done}
 use Rattle.refusals.specs.Tests.{unless, orElse}
-use Rattle.stream_grammar.specs.Stream.{AreBytes, bytesOf, Rec, rec, Sayable, AllSayable, none, more, checks, mechanisms, edges, degree, degrees, legs, scheduleByte, kindGood, countsFit, lengthGood, timeGood, roomGood, scheduleGood, tested, judge}
+use Rattle.stream_grammar.specs.Stream.{AreBytes, bytesOf, Rec, rec, Sayable, AllSayable, none, more, checks, mechanisms, edges, degree, degrees, legs, scheduleByte, isSettings, kindGood, countsFit, lengthGood, timeGood, roomGood, scheduleGood, tested, judge}
 use Rattle.stream_grammar.specs.Payloads.{encodeShot, SettingsFields, encodeSettings, Mechanism, encodeMechanisms, encodeDetectors, encodeModel}
 use Rattle.stream_grammar.proofs.Bytes.{bytes-append}
-use Rattle.stream_laws.proofs.Accepted.{ModelWithin}
+use Rattle.stream_laws.proofs.Accepted.{settings-kind, ModelWithin}
 use Rattle.stream_laws.proofs.Encoding.{length-bytesOf, bytes-bytesOf}
 use Rattle.stream_laws.proofs.ReadBack.{noMechanism, SettingsFit, settings-read, ModelFit, ModelRead, model-read}
 
@@ -21,7 +22,7 @@ use Rattle.stream_laws.proofs.ReadBack.{noMechanism, SettingsFit, setti
 module _ (hasModel hasSettings : Bool) (p : List ℕ) where
   -- a model within the room, as long as its counts say, whose degrees add up to its edges
   pub model-good : ModelWithin (length p) (checks p) (mechanisms p) (edges p) (degrees (mechanisms p) p) → judge hasModel hasSettings 1 p ≡ Done
-  unfolding judge tested kindGood lengthGood countsFit timeGood roomGood scheduleGood orElse unless
+  unfolding judge tested isSettings kindGood lengthGood countsFit timeGood roomGood scheduleGood orElse unless
   model-good w =
       rw (
         le-leb 12 (length p) (omega (arith, w .sizeFits)),
@@ -32,14 +33,18 @@ module _ (hasModel hasSettings : Bool) (p : List ℕ) where
         le-leb (edges p) 512 (w .edgesFit),
       )
 
-  -- settings of 49 bytes, with at most 16 relayed legs and a schedule that there is
-  pub settings-good : length p ≡ 49 → legs p ≤ 16 → scheduleByte p ≤ 1 → judge hasModel hasSettings 2 p ≡ Done
-  unfolding judge tested kindGood lengthGood timeGood roomGood scheduleGood orElse unless
-  settings-good l k s = rw (eq-eqb (length p) 49 l, le-leb (legs p) 16 k, le-leb (scheduleByte p) 1 s)
+  -- settings of either kind and 49 bytes, with at most 16 relayed legs and a schedule that there is
+  pub settings-good : (kind : ℕ) → isSettings kind ≡ true → length p ≡ 49 → legs p ≤ 16 → scheduleByte p ≤ 1 → judge hasModel hasSettings kind p ≡ Done
+  unfolding judge tested isSettings kindGood lengthGood timeGood roomGood scheduleGood orElse unless
+  settings-good kind h l k s =
+      ⊎-elim
+      (λ (e : kind ≡ 2). rw (e, eq-eqb (length p) 49 l, le-leb (legs p) 16 k, le-leb (scheduleByte p) 1 s))
+      (λ (e : kind ≡ 4). rw (e, eq-eqb (length p) 49 l, le-leb (legs p) 16 k, le-leb (scheduleByte p) 1 s))
+      (settings-kind kind h)
 
 -- a shot with a seed and at most 128 bytes of a syndrome, behind a model and settings
 pub shot-good : (p : List ℕ) → 8 ≤ length p → length p ≤ 136 → judge true true 3 p ≡ Done
-unfolding judge tested kindGood lengthGood timeGood roomGood scheduleGood orElse unless
+unfolding judge tested isSettings kindGood lengthGood timeGood roomGood scheduleGood orElse unless
 shot-good p l k = rw (le-leb 8 (length p) l, le-leb (length p) 136 k)
 
 -- ---- a model
@@ -145,10 +150,11 @@ pub record GoodSettings (s : SettingsFields) : Type 0 where
   pub scheduleFits : s .schedule ≤ 1
 
 -- 41 to 45 let them through
-pub settings-judged : (s : SettingsFields) → GoodSettings s → (hasModel hasSettings : Bool) → judge hasModel hasSettings 2 (encodeSettings s) ≡ Done
-settings-judged s good hasModel hasSettings =
+pub settings-judged : (kind : ℕ) (s : SettingsFields) → isSettings kind ≡ true → GoodSettings s → (hasModel hasSettings : Bool)
+    → judge hasModel hasSettings kind (encodeSettings s) ≡ Done
+settings-judged kind s h good hasModel hasSettings =
     let b = settings-read s (good .fit) in
-    settings-good hasModel hasSettings (encodeSettings s) (b .size) (omega (arith, b .legs, good .legsFit)) (omega (arith, b .schedule, good .scheduleFits))
+    settings-good hasModel hasSettings (encodeSettings s) kind h (b .size) (omega (arith, b .legs, good .legsFit)) (omega (arith, b .schedule, good .scheduleFits))
 
 -- a byte, and bytes behind it
 bytes-first : (x : ℕ) (xs : List ℕ) → x < 256 → AreBytes xs → AreBytes (x ∷ xs)
@@ -208,19 +214,19 @@ shot-judged x good = shot-good (shotPayload x) (omega (arith, length-shot x)) (o
 
 -- ---- records that a stream can hold
 
--- the records of a model, of settings and of shots
+-- the records of a model, of settings of a kind and of shots
 abbrev pub modelRecord : ℕ → List Mechanism → List ℕ → Rec
 modelRecord c ms ds = rec 1 (encodeModel c ms ds)
 
-abbrev pub settingsRecord : SettingsFields → Rec
-settingsRecord s = rec 2 (encodeSettings s)
+abbrev pub settingsRecord : ℕ → SettingsFields → Rec
+settingsRecord kind s = rec kind (encodeSettings s)
 
 abbrev pub shotRecord : ShotFields → Rec
 shotRecord x = rec 3 (shotPayload x)
 
 -- all of them, the model first
-abbrev pub allRecords : ℕ → List Mechanism → List ℕ → SettingsFields → List ShotFields → List Rec
-allRecords c ms ds s xs = modelRecord c ms ds ∷ (settingsRecord s ∷ map shotRecord xs)
+abbrev pub allRecords : ℕ → List Mechanism → List ℕ → ℕ → SettingsFields → List ShotFields → List Rec
+allRecords c ms ds kind s xs = modelRecord c ms ds ∷ (settingsRecord kind s ∷ map shotRecord xs)
 
 model-sayable : (c : ℕ) (ms : List Mechanism) (ds : List ℕ) → GoodModel c ms ds → Sayable (modelRecord c ms ds)
 model-sayable c ms ds good =
@@ -230,9 +236,9 @@ model-sayable c ms ds good =
       bytes = bytes-model c ms ds;
     }
 
-settings-sayable : (s : SettingsFields) → GoodSettings s → Sayable (settingsRecord s)
-settings-sayable s good =
-    record { kind = omega arith; size = omega (arith, settings-read s (good .fit) .size); bytes = bytes-settings s (good .scheduleFits) }
+settings-sayable : (kind : ℕ) (s : SettingsFields) → isSettings kind ≡ true → GoodSettings s → Sayable (settingsRecord kind s)
+settings-sayable kind s h good =
+    record { kind = ⊎-elim (λ (e : kind ≡ 2). omega arith) (λ (e : kind ≡ 4). omega arith) (settings-kind kind h); size = omega (arith, settings-read s (good .fit) .size); bytes = bytes-settings s (good .scheduleFits) }
 
 shot-sayable : (x : ShotFields) → GoodShot x → Sayable (shotRecord x)
 unfolding encodeShot
@@ -247,6 +253,6 @@ shots-sayable : (xs : List ShotFields) → ((i : ℕ) → i < length xs → Good
 shots-sayable [] f = none
 shots-sayable (x ∷ xs) f = more (shot-sayable x (f 0 (omega arith))) (shots-sayable xs (λ i h. f (suc i) (omega arith)))
 
-pub all-sayable : (c : ℕ) (ms : List Mechanism) (ds : List ℕ) (s : SettingsFields) (xs : List ShotFields) → GoodModel c ms ds → GoodSettings s
-    → ((i : ℕ) → i < length xs → GoodShot (getD xs i noShot)) → AllSayable (allRecords c ms ds s xs)
-all-sayable c ms ds s xs m t f = more (model-sayable c ms ds m) (more (settings-sayable s t) (shots-sayable xs f))
+pub all-sayable : (c : ℕ) (ms : List Mechanism) (ds : List ℕ) (kind : ℕ) (s : SettingsFields) (xs : List ShotFields) → GoodModel c ms ds → isSettings kind ≡ true
+    → GoodSettings s → ((i : ℕ) → i < length xs → GoodShot (getD xs i noShot)) → AllSayable (allRecords c ms ds kind s xs)
+all-sayable c ms ds kind s xs m h t f = more (model-sayable c ms ds m) (more (settings-sayable kind s h t) (shots-sayable xs f))

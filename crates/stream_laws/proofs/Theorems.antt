@@ -7,17 +7,20 @@ use mathlib.Core.Logic.{⊎-elim}
 use Prim.Native.Nat.{ℕ, zero, suc, _+_, _-_, _%_, _^_, _<_, _≤_}
 use native.Mathlib.Nat.{mod-eq-of-lt}
 use native.Mathlib.Omega.{arith}
+use lib.Dec.{eqb, leb}
 use lib.ListN.{length, getD, take, drop, length-append, length-drop}
 use lib.Seq.{length-take-le, take-at, drop-at}
 use borrow.Author.Tests.{leb-true, leb-false, le-leb, eqb-true, ne-eqb}
 use Rattle.numbers.proofs.Cases.{either, and-both}
-use Rattle.stream_grammar.specs.Stream.{seed, syndrome, AreBytes, number, numberAt, Rec, rec, Sayable, AllSayable, none, more, encode, stream, lengthSaid, kindSaid, isComplete, checks, mechanisms, edges, degrees, legs, lengthGood, timeGood, roomGood, claimsOf, judge, leftOver, isOfShot}
+use Rattle.stream_grammar.specs.Stream.{seed, syndrome, AreBytes, number, numberAt, Rec, rec, Sayable, AllSayable, none, more, encode, stream, lengthSaid, kindSaid, isComplete, checks, mechanisms, edges, degrees, legs, isSettings, kindGood, lengthGood, timeGood, roomGood, scheduleGood, claimsOf, tested, judge, leftOver, isOfShot}
 use Rattle.refusals.specs.declared.Answer.{Answer}
 use Rattle.refusals.specs.declared.Answer.the-variants.{Done}
+use Rattle.relay_settings.specs.declared.DrawRule.the-variants.{ByShot, SeedXorLeg}
+use Rattle.relay_settings.specs.declared.GammaSource.the-variants.{Seeded}
 use Rattle.relay_settings.specs.declared.Settings.{Settings}
 use Rattle.stream_reader.specs.declared.Reader.{Reader}
 use Rattle.stream_grammar.specs.declared.Counts.{Counts}
-use Rattle.stream_grammar.specs.Fields.{offset, countsRead, ModelLists, modelRead, settingsRead}
+use Rattle.stream_grammar.specs.Fields.{offset, countsRead, ModelLists, modelRead, ruleRead, settingsRead}
 use Rattle.stream_reader.specs.Reading.{fresh, holding, isWhole, opened, payloadKept, Held, held, pushed, fed, met, toMeet, verdict, atEnd}
 use Rattle.stream_grammar.proofs.Bytes.{bytes-take, bytes-drop, number-bound}
 use Rattle.stream_laws.proofs.Encoding.{encoded, length-said, kind-said, payload-said, length-encode, complete-is}
@@ -28,7 +31,7 @@ use Rattle.stream_laws.proofs.ReadBack.{shot-seed, shot-syndrome, Setti
 use Rattle.stream_laws.proofs.Streamed.{model-judged, model-fits, GoodModel, settings-judged, GoodSettings, ShotFields, noShot, GoodShot, shotPayload, shot-judged, allRecords, all-sayable}
 use Rattle.stream_laws.proofs.Along.{met-append, met-cut, met-then, endOf, end-then, follows, to-its-end}
 use Rattle.stream_laws.proofs.Degrees.{degrees-rise}
-use Rattle.stream_laws.proofs.Accepted.{passed, ModelWithin, model-within}
+use Rattle.stream_laws.proofs.Accepted.{settings-no-model, passed, ModelWithin, model-within}
 
 -- ---- the encoding
 
@@ -53,6 +56,27 @@ model-back = model-read
 -- "Kind 2, settings: .. 49 bytes"
 pub settings-back : (s : SettingsFields) → SettingsFit s → SettingsRead s (encodeSettings s)
 settings-back = settings-read
+
+-- "Kind 2 keeps the old rule; kind 4 is the same 49 bytes with the new one": of the same bytes they mean the same settings but for the draw, and 41 to 45 judge them alike
+pub kinds-of-settings : (p : List ℕ) → let t = settingsRead 2 p in
+    (t .«gamma_source» ≡ Seeded SeedXorLeg)
+    × (settingsRead 4 p
+    ≡ record {
+      schedule = t .schedule;
+      alpha = t .alpha;
+      clip = t .clip;
+      gamma0 = t .gamma0;
+      «pre_iterations» = t .«pre_iterations»;
+      «num_legs» = t .«num_legs»;
+      «leg_iterations» = t .«leg_iterations»;
+      «gamma_low» = t .«gamma_low»;
+      «gamma_high» = t .«gamma_high»;
+      «stop_after_converged» = t .«stop_after_converged»;
+      «gamma_source» = Seeded ByShot;
+    })
+    × ((hasModel hasSettings : Bool) → judge hasModel hasSettings 4 p ≡ judge hasModel hasSettings 2 p)
+unfolding settingsRead ruleRead judge tested isSettings kindGood lengthGood timeGood roomGood scheduleGood
+kinds-of-settings p = (refl, refl, λ hasModel hasSettings. refl)
 
 -- "Kind 3, shot: u64 seed, syndrome bytes"
 pub shot-back : (s : ℕ) (ys : List ℕ) → s < 2 ^ 64 → (seed (encodeShot s ys) ≡ s) × (syndrome (encodeShot s ys) ≡ ys)
@@ -218,30 +242,30 @@ judges hasModel hasSettings r offset room s h =
 -- ---- what is encoded and streamed comes back
 
 -- "All numbers are little-endian. A record is ..": a model, settings and shots within the room, encoded and streamed, are records that a stream can hold; the stream is
--- told apart into them alone, and the reader meets them and nothing else; 41 to 45 let each through in turn; and their fields are those encoded, floats by their bits
-pub record StreamedBack (c : ℕ) (ms : List Mechanism) (ds : List ℕ) (s : SettingsFields) (xs : List ShotFields) : Type 0 where
-  pub sayable : AllSayable (allRecords c ms ds s xs)
-  pub apart : (t : Apart (stream (allRecords c ms ds s xs))) → (t .records ≡ allRecords c ms ds s xs) × (t .rest ≡ [])
-  pub met : (room : List ℕ) → met (stream (allRecords c ms ds s xs)) (held (fresh 0) room) ≡ toMeet (allRecords c ms ds s xs) 0 room
+-- told apart into them alone, and the reader meets them and nothing else; 41 to 45 let each through in turn, settings of either kind; and their fields are those encoded, floats by their bits
+pub record StreamedBack (c : ℕ) (ms : List Mechanism) (ds : List ℕ) (kind : ℕ) (s : SettingsFields) (xs : List ShotFields) : Type 0 where
+  pub sayable : AllSayable (allRecords c ms ds kind s xs)
+  pub apart : (t : Apart (stream (allRecords c ms ds kind s xs))) → (t .records ≡ allRecords c ms ds kind s xs) × (t .rest ≡ [])
+  pub met : (room : List ℕ) → met (stream (allRecords c ms ds kind s xs)) (held (fresh 0) room) ≡ toMeet (allRecords c ms ds kind s xs) 0 room
   pub modelGood : judge false false 1 (encodeModel c ms ds) ≡ Done
-  pub settingsGood : judge true false 2 (encodeSettings s) ≡ Done
+  pub settingsGood : judge true false kind (encodeSettings s) ≡ Done
   pub shotsGood : (i : ℕ) → i < length xs → judge true true 3 (shotPayload (getD xs i noShot)) ≡ Done
   pub modelBack : ModelRead c ms ds (encodeModel c ms ds)
   pub settingsBack : SettingsRead s (encodeSettings s)
   pub shotsBack : (i : ℕ) → i < length xs
       → (seed (shotPayload (getD xs i noShot)) ≡ getD xs i noShot .seed) × (syndrome (shotPayload (getD xs i noShot)) ≡ getD xs i noShot .syndrome)
 
-pub streamed-back : (c : ℕ) (ms : List Mechanism) (ds : List ℕ) (s : SettingsFields) (xs : List ShotFields) → GoodModel c ms ds → GoodSettings s
-    → ((i : ℕ) → i < length xs → GoodShot (getD xs i noShot)) → StreamedBack c ms ds s xs
-streamed-back c ms ds s xs m t f =
-    let rs = allRecords c ms ds s xs in
-    let a = all-sayable c ms ds s xs m t f in
+pub streamed-back : (c : ℕ) (ms : List Mechanism) (ds : List ℕ) (kind : ℕ) (s : SettingsFields) (xs : List ShotFields) → GoodModel c ms ds → isSettings kind ≡ true
+    → GoodSettings s → ((i : ℕ) → i < length xs → GoodShot (getD xs i noShot)) → StreamedBack c ms ds kind s xs
+streamed-back c ms ds kind s xs m k t f =
+    let rs = allRecords c ms ds kind s xs in
+    let a = all-sayable c ms ds kind s xs m k t f in
     record {
       sayable = a;
       apart = told-apart-once rs a;
       met = λ room. ap (λ ys. met ys (held (fresh 0) room)) (sym (append-nil (stream rs))) ∙ meets rs [] 0 room a (λ i. omega arith) nothing-cut;
       modelGood = model-judged c ms ds m false false;
-      settingsGood = settings-judged s t true false;
+      settingsGood = settings-judged kind s k t true false;
       shotsGood = λ i h. shot-judged (getD xs i noShot) (f i h);
       modelBack = model-back c ms ds (model-fits c ms ds m);
       settingsBack = settings-back s (t .fit);
@@ -256,14 +280,18 @@ module _ (hasModel hasSettings : Bool) (p : List ℕ) where
   unfolding judge
   model-let-through d = let t = passed hasModel hasSettings (claimsOf 1 p) d in model-within _ _ _ _ _ _ (t .size-good) (t .room-good)
 
-  -- settings have 49 bytes and at most 16 relayed legs
-  pub settings-let-through : judge hasModel hasSettings 2 p ≡ Done → (length p ≡ 49) × (legs p ≤ 16)
+  -- settings, of either kind, have 49 bytes and at most 16 relayed legs
+  pub settings-let-through : (kind : ℕ) → isSettings kind ≡ true → judge hasModel hasSettings kind p ≡ Done → (length p ≡ 49) × (legs p ≤ 16)
   unfolding judge lengthGood roomGood
-  settings-let-through d = let t = passed hasModel hasSettings (claimsOf 2 p) d in (eqb-true (length p) 49 (t .size-good), leb-true (legs p) 16 (t .room-good))
+  settings-let-through kind h d =
+      let t = passed hasModel hasSettings (claimsOf kind p) d in
+      let size : eqb (length p) 49 ≡ true = rw (settings-no-model kind h, h) at (t .size-good) in
+      let room : leb (legs p) 16 ≡ true = rw (settings-no-model kind h, h) at (t .room-good) in
+      (eqb-true (length p) 49 size, leb-true (legs p) 16 room)
 
   -- a shot has a seed, at most 128 bytes of a syndrome, and a model and settings before it
   pub shot-let-through : judge hasModel hasSettings 3 p ≡ Done → (8 ≤ length p) × (length p ≤ 136) × (hasModel ≡ true) × (hasSettings ≡ true)
-  unfolding judge lengthGood timeGood roomGood
+  unfolding judge isSettings lengthGood timeGood roomGood
   shot-let-through d =
       let t = passed hasModel hasSettings (claimsOf 3 p) d in
       let b = and-both hasModel hasSettings (t .time-good) in
@@ -299,8 +327,8 @@ counts-once p x y e f = e ∙ sym f
 pub model-once : (p : List ℕ) (l x y : ModelLists) → x ≡ modelRead p l → y ≡ modelRead p l → x ≡ y
 model-once p l x y e f = e ∙ sym f
 
-pub settings-once : (p : List ℕ) (x y : Settings) → x ≡ settingsRead p → y ≡ settingsRead p → x ≡ y
-settings-once p x y e f = e ∙ sym f
+pub settings-once : (kind : ℕ) (p : List ℕ) (x y : Settings) → x ≡ settingsRead kind p → y ≡ settingsRead kind p → x ≡ y
+settings-once kind p x y e f = e ∙ sym f
 
 pub seed-once : (p : List ℕ) (x y : ℕ) → x ≡ seed p → y ≡ seed p → x ≡ y
 seed-once p x y e f = e ∙ sym f

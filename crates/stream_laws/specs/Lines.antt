@@ -10,10 +10,11 @@ use Rattle.graph_lists.specs.Graph.{Graph, graphOf, among}
 use Rattle.relay_stores.specs.Stores.{storesAt}
 use Rattle.relay_calls.specs.Calls.{summary}
 use Rattle.relay_laws.specs.BestOfLegs.{AreBits, Satisfies, Fails, BestOfLegs}
-use Rattle.stream_grammar.specs.Stream.{syndrome}
-use Rattle.stream_grammar.specs.Fields.{countsRead, modelRead, settingsRead}
+use Rattle.stream_grammar.specs.Stream.{Rec, syndrome}
+use Rattle.stream_grammar.specs.Fields.{countsRead, modelRead}
 use Rattle.stream_lines.specs.Lines.{shotLine}
 use Rattle.stream_table.specs.Table.{modelRoom}
+use Rattle.stream_session.specs.Text.{settingsOf}
 
 -- the graph of a model's payload: its counts, and which checks each mechanism sets off
 abbrev pub modelGraph : List ℕ → Graph
@@ -26,12 +27,12 @@ modelGraph model =
 abbrev pub modelPriors : List ℕ → List Float
 modelPriors model = modelRead model (modelRoom (countsRead model)) .priors
 
--- how many legs settings allow
-abbrev pub mostLegs : List ℕ → ℕ
-mostLegs settings = suc (settingsRead settings .«num_legs»)
+-- how many legs the settings of a record allow
+abbrev pub mostLegs : Rec → ℕ
+mostLegs settings = suc (settingsOf settings .«num_legs»)
 
--- a text that says converged or not, total, legs and bits of a shot, by the payloads of its model, of its settings and its own, p
-pub record LineHolds (shots : ℕ) (model settings p text : List ℕ) : Type 0 where
+-- a text that says converged or not, total, legs and bits of a shot, by the payload of its model, the record of its settings and its own payload, p
+pub record LineHolds (shots : ℕ) (model : List ℕ) (settings : Rec) (p text : List ℕ) : Type 0 where
   pub converged : Bool
   pub total : ℕ
   pub legs : ℕ
@@ -48,7 +49,7 @@ pub record LineHolds (shots : ℕ) (model settings p text : List ℕ) : Type 0 w
   -- and there are a weight, a number of stores and leg lists, which the decode left and `shots` does not write: the stores are the formula at the total, and the bits
   -- are the best of the legs
   pub stores : ℕ
-  pub by-formula : stores ≡ storesAt (settingsRead settings .schedule) (modelGraph model) total
+  pub by-formula : stores ≡ storesAt (settingsOf settings .schedule) (modelGraph model) total
   pub weight : Option Float
   pub legState : List ℕ
   pub legIterations : List ℕ

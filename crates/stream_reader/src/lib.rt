@@ -141,9 +141,9 @@ pub fn read_model(
     fields::detectors_in(payload, mechanisms, detectors);
 }
 
-// Relay's settings out of their payload, with the clip off and a seeded source.
-pub fn read_settings(payload: &[u8]) -> Settings
-    ensures { λ x. ⌜ x ≡ settingsRead (now (payload .entry)) ⌝ }
+// Relay's settings out of the payload of either kind, with the clip off and a seeded source.
+pub fn read_settings(kind: usize, payload: &[u8]) -> Settings
+    ensures { λ x. ⌜ x ≡ settingsRead kind (now (payload .entry)) ⌝ }
 {
     Settings {
         schedule: fields::schedule_of(fields::schedule_byte(payload)),
@@ -156,7 +156,7 @@ pub fn read_settings(payload: &[u8]) -> Settings
         gamma_low: fields::float_at(payload, 29),
         gamma_high: fields::float_at(payload, 37),
         stop_after_converged: fields::number4(payload, 45),
-        gamma_source: GammaSource::Seeded,
+        gamma_source: GammaSource::Seeded(fields::rule_of(kind)),
     }
 }
 
@@ -175,6 +175,9 @@ pub fn is_of_shot(code: usize) -> bool
         return true;
     }
     if code == 21 {
+        return true;
+    }
+    if code == 27 {
         return true;
     }
     code == 30

@@ -10,7 +10,7 @@ use Rattle.refusals.specs.declared.Refusal.{Refusal}
 use Rattle.refusals.specs.declared.Answer.{Answer}
 use Rattle.refusals.specs.declared.Answer.the-variants.{Done, Refused}
 use Rattle.refusals.specs.Refusal.{numberOf}
-use Rattle.stream_grammar.specs.Stream.{isOfShot}
+use Rattle.stream_grammar.specs.Stream.{isSettings, isOfShot}
 use Rattle.stream_reader.specs.declared.Reader.{Reader}
 use Rattle.stream_reader.specs.Reading.{Held, held, pushed, isWhole, atEnd}
 use Rattle.stream_lines.specs.Lines.{stoppedLine, endLine}
@@ -48,13 +48,15 @@ module _ (s : Session) (p model line : List ℕ) (x : Taken) where
   unfolding kindTaken
   kind-model h e = rw (eq-eqb _ _ h, e)
 
-  pub kind-settings : ¬ (s .reader .kind ≡ 1) → s .reader .kind ≡ 2 → x ≡ taken (settingsTaken s (settingsAnswer p) p line) model → x ≡ kindTaken s p model line
+  pub kind-settings : ¬ (s .reader .kind ≡ 1) → isSettings (s .reader .kind) ≡ true
+      → x ≡ taken (settingsTaken s (settingsAnswer (s .reader .kind) p) p line) model → x ≡ kindTaken s p model line
   unfolding kindTaken
-  kind-settings k h e = rw (ne-eqb _ _ k, eq-eqb _ _ h, e)
+  kind-settings k h e = rw (ne-eqb _ _ k, h, e)
 
-  pub kind-shot : ¬ (s .reader .kind ≡ 1) → ¬ (s .reader .kind ≡ 2) → x ≡ taken (shotTaken s (take (s .known .«model_length») model) p line) model → x ≡ kindTaken s p model line
+  pub kind-shot : ¬ (s .reader .kind ≡ 1) → isSettings (s .reader .kind) ≡ false
+      → x ≡ taken (shotTaken s (take (s .known .«model_length») model) p line) model → x ≡ kindTaken s p model line
   unfolding kindTaken
-  kind-shot k h e = rw (ne-eqb _ _ k, ne-eqb _ _ h, e)
+  kind-shot k h e = rw (ne-eqb _ _ k, h, e)
 
 -- ---- a byte
 

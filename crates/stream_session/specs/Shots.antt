@@ -16,7 +16,7 @@ use Rattle.relay_settings.specs.Settings.{published}
 use Rattle.relay_calls.specs.declared.Decoded.{Decoded}
 use Rattle.relay_calls.specs.declared.Decoded.the-variants as Decoded
 use Rattle.stream_reader.specs.declared.Reader.{Reader}
-use Rattle.stream_grammar.specs.Stream.{mechanisms, isOfShot}
+use Rattle.stream_grammar.specs.Stream.{mechanisms, isSettings, isOfShot}
 use Rattle.stream_reader.specs.Reading.{fresh, held, pushed, isWhole, verdict, atEnd, payloadKept}
 use Rattle.stream_grammar.specs.Fields.{settingsRead}
 use Rattle.stream_lines.specs.Lines.{shotLine, refusedLine, stoppedLine, endLine, unlessTooLong}
@@ -59,7 +59,7 @@ stops s r line =
 unfoldable pub says : Session → List ℕ → List ℕ → Told
 says s text line = told (session (s .reader) (s .known) ((s .shots + 1) % 2 ^ 64) (s .stopped) (length text)) (over text line)
 
--- 20, 21 and 30 are said of the shot, any other refusal ends the run
+-- 20, 21, 27 and 30 are said of the shot, any other refusal ends the run
 unfoldable pub refuses : Session → Refusal → List ℕ → Told
 refuses s r line = cond (isOfShot (numberOf r)) (says s (refusedLine (s .shots) (numberOf r)) line) (stops s r line)
 
@@ -81,9 +81,10 @@ tells s d line = answers s (d .answer) (d .correction) line
 unfoldable pub shotTaken : Session → List ℕ → List ℕ → List ℕ → Told
 shotTaken s model p line = tells s (shotDecoded model (s .known .settings) p (take (mechanisms model) (replicate roomMechanisms 0))) line
 
--- settings, which the table answers so: they replace earlier ones, and the model stays
+-- settings, which the table answers so: they replace earlier ones, of either kind, and the model stays
 abbrev pub settingsTaken : Session → Answer → List ℕ → List ℕ → Told
-settingsTaken s Done p line = told (goesOn s (known (s .known .«model_length») (s .known .«has_model») (settingsRead p) true)) line
+settingsTaken s Done p line =
+    told (goesOn s (known (s .known .«model_length») (s .known .«has_model») (settingsRead (s .reader .kind) p) true)) line
 settingsTaken s (Refused r) p line = stops s r line
 
 -- ---- a record
@@ -106,7 +107,7 @@ modelTaken s (Refused r) p model line = taken (stops s r line) model
 unfoldable pub kindTaken : Session → List ℕ → List ℕ → List ℕ → Taken
 kindTaken s p model line =
     cond (eqb (s .reader .kind) 1) (modelTaken s (modelFault p) p model line)
-    (cond (eqb (s .reader .kind) 2) (taken (settingsTaken s (settingsAnswer p) p line) model)
+    (cond (isSettings (s .reader .kind)) (taken (settingsTaken s (settingsAnswer (s .reader .kind) p) p line) model)
     (taken (shotTaken s (take (s .known .«model_length») model) p line) model))
 
 -- a record, which 41 to 45 answer so

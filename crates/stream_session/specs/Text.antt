@@ -1,5 +1,5 @@
 -- What `shots` writes for a stream that the grammar tells apart into records and what is left over: record after record, each by 41 to 45 and the table, with the
--- payloads of the last model and the last settings that were accepted. No list that keeps bytes, and no room, is in it. That the session says this, byte by byte,
+-- payload of the last model and the record of the last settings that were accepted. No list that keeps bytes, and no room, is in it. That the session says this, byte by byte,
 -- is proved (`stream_laws` `ShotsTheorems`). Definitions only. Assumes nothing.
 use Prim.Native.Nat.{ℕ, _+_, _%_, _^_}
 use mathlib.Core.Bool.{Bool, true, false, cond}
@@ -12,9 +12,10 @@ use Rattle.refusals.specs.declared.Refusal.{Refusal}
 use Rattle.refusals.specs.declared.Answer.{Answer}
 use Rattle.refusals.specs.declared.Answer.the-variants.{Done, Refused}
 use Rattle.refusals.specs.Refusal.{numberOf}
+use Rattle.relay_settings.specs.declared.Settings.{Settings}
 use Rattle.relay_calls.specs.declared.Decoded.{Decoded}
 use Rattle.relay_calls.specs.declared.Decoded.the-variants as Decoded
-use Rattle.stream_grammar.specs.Stream.{Rec, mechanisms, judge, leftOver, isOfShot}
+use Rattle.stream_grammar.specs.Stream.{Rec, rec, mechanisms, isSettings, judge, leftOver, isOfShot}
 use Rattle.stream_grammar.specs.Fields.{settingsRead}
 use Rattle.stream_lines.specs.Lines.{shotLine, refusedLine, stoppedLine, unlessTooLong}
 use Rattle.stream_table.specs.Table.{lentNumbers, modelFault, settingsAnswer, Decoding, shotDecoded}
@@ -22,28 +23,40 @@ use Rattle.stream_session.specs.Shots.{lastText}
 
 -- ---- what is known between records
 
--- the payloads of the last model and of the last settings that were accepted, if any were, and the number of the next shot
+-- the payload of the last model that was accepted and the record of the last settings, of either kind, if any were, and the number of the next shot
 pub record Heard : Type 0 where
   pub model : Option (List ℕ)
-  pub settings : Option (List ℕ)
+  pub settings : Option Rec
   pub shots : ℕ
 
-abbrev pub heard : Option (List ℕ) → Option (List ℕ) → ℕ → Heard
+abbrev pub heard : Option (List ℕ) → Option Rec → ℕ → Heard
 heard model settings shots = record { model = model; settings = settings; shots = shots }
 
 -- before the first record
 abbrev pub nothingHeard : Heard
 nothingHeard = heard none none 0
 
--- whether there is a payload
-abbrev pub isThere : Option (List ℕ) → Bool
+-- whether there is one
+abbrev pub isThere : {A : Type 0} → Option A → Bool
 isThere none = false
-isThere (some p) = true
+isThere (some a) = true
 
--- the payload; 43 has refused all shots without one
+-- it, or another where there is none; 43 has refused all shots without a model or settings
+abbrev pub theOne : {A : Type 0} → A → Option A → A
+theOne other none = other
+theOne other (some a) = a
+
+-- the model's payload
 abbrev pub thePayload : Option (List ℕ) → List ℕ
-thePayload none = []
-thePayload (some p) = p
+thePayload = theOne []
+
+-- the settings' record
+abbrev pub theRecord : Option Rec → Rec
+theRecord = theOne (rec 0 [])
+
+-- the settings of a record, by its kind and its payload
+abbrev pub settingsOf : Rec → Settings
+settingsOf r = settingsRead (r .kind) (r .payload)
 
 -- ---- a record
 
@@ -64,10 +77,10 @@ abbrev pub modelSaid : Heard → ℕ → List ℕ → Answer → Said
 modelSaid h offset p Done = said [] (some (heard (some p) (h .settings) (h .shots)))
 modelSaid h offset p (Refused r) = endsRun offset r
 
--- settings: they replace earlier ones, and the model stays
-abbrev pub settingsSaid : Heard → ℕ → List ℕ → Answer → Said
-settingsSaid h offset p Done = said [] (some (heard (h .model) (some p) (h .shots)))
-settingsSaid h offset p (Refused r) = endsRun offset r
+-- settings: they replace earlier ones, of either kind, and the model stays
+abbrev pub settingsSaid : Heard → ℕ → Rec → Answer → Said
+settingsSaid h offset q Done = said [] (some (heard (h .model) (some q) (h .shots)))
+settingsSaid h offset q (Refused r) = endsRun offset r
 
 -- a shot's line, and the next shot has the next number
 unfoldable pub lineSaid : Heard → List ℕ → Said
@@ -79,16 +92,16 @@ shotSaid h offset (Decoded.Converged legs total stores weight) bits = lineSaid h
 shotSaid h offset (Decoded.NotConverged legs total stores) bits = lineSaid h (unlessTooLong bits (shotLine (h .shots) false total legs bits))
 shotSaid h offset (Decoded.Refused r) bits = cond (isOfShot (numberOf r)) (lineSaid h (refusedLine (h .shots) (numberOf r))) (endsRun offset r)
 
--- the decode of a shot over a model and settings, all by their payloads
-unfoldable pub decodeOf : List ℕ → List ℕ → List ℕ → Decoding
-decodeOf model settings p = shotDecoded model (settingsRead settings) p (lentNumbers roomMechanisms (mechanisms model))
+-- the decode of a shot over a model, both by their payloads, with the settings of a record
+unfoldable pub decodeOf : List ℕ → Rec → List ℕ → Decoding
+decodeOf model settings p = shotDecoded model (settingsOf settings) p (lentNumbers roomMechanisms (mechanisms model))
 
 -- a record past 41 to 45, by its kind
 unfoldable pub payloadSaid : Heard → ℕ → ℕ → List ℕ → Said
 payloadSaid h offset kind p =
-    let d = decodeOf (thePayload (h .model)) (thePayload (h .settings)) p in
+    let d = decodeOf (thePayload (h .model)) (theRecord (h .settings)) p in
     cond (eqb kind 1) (modelSaid h offset p (modelFault p))
-    (cond (eqb kind 2) (settingsSaid h offset p (settingsAnswer p)) (shotSaid h offset (d .answer) (d .correction)))
+    (cond (isSettings kind) (settingsSaid h offset (rec kind p) (settingsAnswer kind p)) (shotSaid h offset (d .answer) (d .correction)))
 
 -- a record, which 41 to 45 answer so
 abbrev pub judgedSaid : Heard → ℕ → ℕ → List ℕ → Answer → Said

@@ -11,12 +11,14 @@ use numbers::limits::ROOM_LINE;
 use numbers::limits::ROOM_MECHANISMS;
 use refusals::Answer;
 
-// Settings: they replace earlier ones, and the model stays.
+// Settings: they replace earlier ones, of either kind, and the model stays.
 fn take_settings(s: Session, payload: &[u8], line: &mut [u8; ROOM_LINE]) -> Session
     ensures { λ x. ⌜
-        told x (now (line .exit)) ≡ settingsTaken s (settingsAnswer (now (payload .entry))) (now (payload .entry)) (now (line .entry)) ⌝ }
+        told x (now (line .exit))
+        ≡ settingsTaken s (settingsAnswer (s .reader .kind) (now (payload .entry))) (now (payload .entry)) (now (line .entry)) ⌝ }
 {
-    let a = stream_table::settings_answer(payload);
+    let kind = s.reader.kind;
+    let a = stream_table::settings_answer(kind, payload);
     let k = s.known;
     match a {
         Answer::Refused(r) => telling::stop(s, r, line),
@@ -25,7 +27,7 @@ fn take_settings(s: Session, payload: &[u8], line: &mut [u8; ROOM_LINE]) -> Sess
             Known {
                 model_length: k.model_length,
                 has_model: k.has_model,
-                settings: stream_reader::read_settings(payload),
+                settings: stream_reader::read_settings(kind, payload),
                 has_settings: true,
             },
         ),
@@ -110,7 +112,7 @@ fn take_kind(s: Session, payload: &[u8], model: &mut [u8], line: &mut [u8; ROOM_
     if s.reader.kind == 1 {
         return take_model(s, payload, model, line);
     }
-    if s.reader.kind == 2 {
+    if stream_grammar::rules::is_settings(s.reader.kind) {
         return take_settings(s, payload, line);
     }
     let n = stream_table::front(model, s.known.model_length);

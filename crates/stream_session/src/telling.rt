@@ -69,7 +69,7 @@ fn counted(s: Session, n: usize) -> Session
     }
 }
 
-// A shot's refusal: 20, 21 and 30 are said of the shot, any other ends the run.
+// A shot's refusal: 20, 21, 27 and 30 are said of the shot, any other ends the run.
 pub(crate) fn refused(s: Session, r: Refusal, line: &mut [u8; ROOM_LINE]) -> Session
     ensures { λ x. ⌜ told x (now (line .exit)) ≡ refuses s r (now (line .entry)) ⌝ }
 {

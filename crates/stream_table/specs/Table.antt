@@ -1,4 +1,4 @@
--- The table behind 45: a model by 1 to 6, settings by 10 to 16, a shot by 20, 21 and 30, each out of the payload of its record. A model's bytes, the settings and
+-- The table behind 45: a model by 1 to 6, settings by 10 to 16, a shot by 20, 21, 27 and 30, each out of the payload of its record. A model's bytes, the settings and
 -- a shot's bytes are all that a decode depends on. Definitions only. Assumes nothing.
 use Prim.Native.Nat.{ℕ, suc, _+_, _*_}
 use mathlib.Core.Bool.{Bool, cond}
@@ -73,9 +73,9 @@ modelFault p =
     let c = countsRead p in
     orElse (unless (within c) BeyondRoom) (builtFrom (c .edges) p (modelRoom c) (graphRoom c) .answer)
 
--- settings: 10 to 16; their source is seeded
-unfoldable pub settingsAnswer : List ℕ → Answer
-settingsAnswer p = checkSettings (settingsRead p) 0 []
+-- settings of either kind: 10 to 16; their source is seeded
+unfoldable pub settingsAnswer : ℕ → List ℕ → Answer
+settingsAnswer kind p = checkSettings (settingsRead kind p) 0 []
 
 -- `decode` of a shot over a model's payload, by way of the lists lent
 unfoldable pub decodedFrom : ℕ → List ℕ → Settings → List ℕ → ℕ → ModelLists → Graph → Calls.DecodeLists → Calls.DecodeOutcome
@@ -97,7 +97,7 @@ decoding d correction = record { answer = d; correction = correction }
 unfoldable pub found : Calls.DecodeOutcome → Decoding
 found o = decoding (o .answer) (o .left .correction)
 
--- a shot: what the decode gives, 20, 21 and 30 among it; 44 where the model is beyond the room
+-- a shot: what the decode gives, 20, 21, 27 and 30 among it; 44 where the model is beyond the room
 unfoldable pub shotDecoded : List ℕ → Settings → List ℕ → List ℕ → Decoding
 shotDecoded model settings p correction =
     let c = countsRead model in

@@ -1,5 +1,5 @@
-// Inner: the table behind 45, for `stream_session` alone: a model by 1 to 6, settings by 10 to 16, a shot by 20, 21 and 30, each out of the
-// payload of its record. Each call works in arrays of its own, filled with one value. Room: 128 checks, 256 mechanisms, 512 edges, 16
+// Inner: the table behind 45, for `stream_session` alone: a model by 1 to 6, settings by 10 to 16, a shot by 20, 21, 27 and 30, each out of
+// the payload of its record. Each call works in arrays of its own, filled with one value. Room: 128 checks, 256 mechanisms, 512 edges, 16
 // relayed legs.
 ghost use mathlib.Core.Path.{_≡_};
 ghost use Prim.Native.Nat.{_≤_};
@@ -124,11 +124,11 @@ pub fn model_fault(payload: &[u8]) -> Answer
 }
 
 // Settings: 10 to 16.
-pub fn settings_answer(payload: &[u8]) -> Answer
-    ensures { λ a. ⌜ a ≡ settingsAnswer (now (payload .entry)) ⌝ }
+pub fn settings_answer(kind: usize, payload: &[u8]) -> Answer
+    ensures { λ a. ⌜ a ≡ settingsAnswer kind (now (payload .entry)) ⌝ }
 {
     let none = [0.0; 1];
-    relay_settings::check_settings(stream_reader::read_settings(payload), 0, &none[..0])
+    relay_settings::check_settings(stream_reader::read_settings(kind, payload), 0, &none[..0])
 }
 
 // A model read and built and a shot decoded over it, in lists of the model's sizes.

@@ -1,4 +1,4 @@
--- `exports_session::put_session` meets its contract: each word is its field, a bool its bit, and the clip its byte and its magnitude. Assumes nothing.
+-- `exports_session::put_session` meets its contract: each word is its field, a bool its bit, the source its byte and its sets, and the clip its byte and its magnitude. Assumes nothing.
 use mathlib.Core.Path.{refl}
 use borrow.Author.Needs.{needs}
 use Rattle.exports_session.proofs.put_session.Statement.{statement}
@@ -28,8 +28,11 @@ byte-of-requires c κs = search needs
 cast-t17 : tie.Need-cast-t17
 cast-t17 c = search needs
 
-explicit-word-requires : tie.Need-explicit-word-requires
-explicit-word-requires c κs = search needs
+source-byte-requires : tie.Need-source-byte-requires
+source-byte-requires c κs = search needs
+
+cast-t19 : tie.Need-cast-t19
+cast-t19 c = search needs
 
 sets-word-requires : tie.Need-sets-word-requires
 sets-word-requires c κs = search needs
@@ -37,8 +40,8 @@ sets-word-requires c κs = search needs
 clip-byte-requires : tie.Need-clip-byte-requires
 clip-byte-requires c κs = search needs
 
-cast-t21 : tie.Need-cast-t21
-cast-t21 c = search needs
+cast-t22 : tie.Need-cast-t22
+cast-t22 c = search needs
 
 clip-float-requires : tie.Need-clip-float-requires
 clip-float-requires c κs = search needs
@@ -50,7 +53,7 @@ returns c =
       c .before .before .before .before .before .before .before .before .bit2 .ensures,
       c .before .before .before .before .before .before .before .bit3 .ensures,
       c .before .before .before .before .before .before .byte-of .ensures,
-      c .before .before .before .before .before .explicit-word .ensures,
+      c .before .before .before .before .before .source-byte .ensures,
       c .before .before .before .before .sets-word .ensures,
       c .before .before .before .clip-byte .ensures,
       c .before .clip-float .ensures,
@@ -69,9 +72,10 @@ put-session-spec =
     cast-t15
     byte-of-requires
     cast-t17
-    explicit-word-requires
+    source-byte-requires
+    cast-t19
     sets-word-requires
     clip-byte-requires
-    cast-t21
+    cast-t22
     clip-float-requires
     returns)

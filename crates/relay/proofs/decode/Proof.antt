@@ -1,8 +1,8 @@
 -- `relay::decode` meets its contract. A refused call leaves the lists; else the tests told all that the legs ask, and the index order passes 23 and 24.
 -- Assumes nothing.
-use mathlib.Core.Path.{refl, _∙_}
+use mathlib.Core.Path.{refl}
 use native.Mathlib.Omega.{arith}
-use Rattle.relay_decode.proofs.Faults.{index-refused, index-told, index-ran, shot-seed}
+use Rattle.relay_decode.proofs.Faults.{index-refused, index-told, index-ran}
 use borrow.Author.Needs.{needs}
 use Rattle.relay.proofs.decode.Statement.{statement}
 use Rattle.relay.proofs.decode.Tie as tie
@@ -37,24 +37,7 @@ decode-counted-requires c κs =
       cToV = a .c-to-v .now;
       vToC = a .v-to-c .now;
     }) _
-    (c .before .before .before .before .before .before .before .before .before .before .before .before .shot-fault .ensures ∙ shot-seed
-    (a .size .edges) (a .size .checks) (a .size .mechanisms) (a .settings)
-    (a .gammas .now) (a .seed) (a .syndrome .now) (a .priors .now)
-    (a .check-var .now) (a .check-offset .now)
-    (a .var-check .now) (a .var-message .now) (a .var-offset .now)
-    (record {
-      legState = a .leg-state .now;
-      legIterations = a .leg-iterations .now;
-      legWeight = a .leg-weight .now;
-      rows = a .rows .now;
-      correction = a
-          .correction .now;
-      posterior = a .posterior .now;
-      gamma = a .gamma .now;
-      bias = a .bias .now;
-      cToV = a .c-to-v .now;
-      vToC = a .v-to-c .now;
-    }))
+    (c .before .before .before .before .before .before .before .before .before .before .before .before .shot-fault .ensures)
     (c .before .before .before .before .before .before .before .before .before .before .enum-told .given .1) in
     (omega (arith, w .checks-many, w .checks-few), (w .reads, (w .legs-fit, (w .work-fits, (w .messages-fit, w .edges-few)))))
 
@@ -107,24 +90,7 @@ returns c =
       cToV = a .c-to-v .now;
       vToC = a .v-to-c .now;
     }) _ _
-    (c .before .before .before .shot-fault .ensures ∙ shot-seed (a .size .edges)
-    (a .size .checks) (a .size .mechanisms) (a .settings)
-    (a .gammas .now) (a .seed) (a .syndrome .now) (a .priors .now)
-    (a .check-var .now) (a .check-offset .now)
-    (a .var-check .now) (a .var-message .now) (a .var-offset .now)
-    (record {
-      legState = a .leg-state .now;
-      legIterations = a .leg-iterations .now;
-      legWeight = a .leg-weight .now;
-      rows = a .rows .now;
-      correction = a
-          .correction .now;
-      posterior = a .posterior .now;
-      gamma = a .gamma .now;
-      bias = a .bias .now;
-      cToV = a .c-to-v .now;
-      vToC = a .v-to-c .now;
-    }))
+    (c .before .before .before .shot-fault .ensures)
     (c .before .a .given .1)
 
 same-length-11 : tie.Need-same-length-11
@@ -190,24 +156,7 @@ returns-2 c =
       vToC = a .v-to-c .now;
     }) _ _
     (c .before .before .before .before .before .before .before .before .before .before .before .before .before .before .before .before .before .before
-    .before .before .before .before .before .before .before .before .before .before .before .before .before .before .before .shot-fault .ensures ∙ shot-seed
-    (a .size .edges) (a .size .checks) (a .size .mechanisms) (a .settings)
-    (a .gammas .now) (a .seed) (a .syndrome .now) (a .priors .now)
-    (a .check-var .now) (a .check-offset .now)
-    (a .var-check .now) (a .var-message .now) (a .var-offset .now)
-    (record {
-      legState = a .leg-state .now;
-      legIterations = a .leg-iterations .now;
-      legWeight = a .leg-weight .now;
-      rows = a .rows .now;
-      correction = a
-          .correction .now;
-      posterior = a .posterior .now;
-      gamma = a .gamma .now;
-      bias = a .bias .now;
-      cToV = a .c-to-v .now;
-      vToC = a .v-to-c .now;
-    }))
+    .before .before .before .before .before .before .before .before .before .before .before .before .before .before .before .shot-fault .ensures)
     (c .before .before .before .before .before .before .before .before .before .before .before .before .before .before .before .before .before .before
     .before .before .before .before .before .before .before .before .before .before .before .before .before .enum-told .given .1)
     (c .before .before .before .before .before .before .before .before .before .before .before .before .before .before .before .before .before .before

@@ -1,7 +1,7 @@
 -- `relay::decode_in_order` meets its contract. A refused call leaves the lists; else the tests told all that the legs ask, and the legs read no more of the graph than the four lists.
 -- Assumes nothing.
-use mathlib.Core.Path.{refl, _∙_}
-use Rattle.relay_decode.proofs.Faults.{in-order-refused, in-order-told, in-order-ran, fault-seed}
+use mathlib.Core.Path.{refl}
+use Rattle.relay_decode.proofs.Faults.{in-order-refused, in-order-told, in-order-ran}
 use borrow.Author.Needs.{needs}
 use Rattle.relay.proofs.decode_in_order.Statement.{statement}
 use Rattle.relay.proofs.decode_in_order.Tie as tie
@@ -35,23 +35,7 @@ decode-taken-requires c κs =
       cToV = a .c-to-v .now;
       vToC = a .v-to-c .now;
     }) _
-    (c .before .before .before .before .before .before .before .before .before .before .before .before .taken-fault .ensures ∙ fault-seed (a .size .edges)
-    (a .size .checks) (a .size .mechanisms) (a .settings)
-    (a .gammas .now) (a .seed) (a .syndrome .now) (a .priors .now)
-    (a .check-var .now) (a .check-offset .now) (a .var-check .now) (a .var-message .now) (a .var-offset .now) (a .order .now)
-    (record {
-      legState = a .leg-state .now;
-      legIterations = a .leg-iterations .now;
-      legWeight = a .leg-weight .now;
-      rows = a .rows .now;
-      correction = a
-          .correction .now;
-      posterior = a .posterior .now;
-      gamma = a .gamma .now;
-      bias = a .bias .now;
-      cToV = a .c-to-v .now;
-      vToC = a .v-to-c .now;
-    }))
+    (c .before .before .before .before .before .before .before .before .before .before .before .before .taken-fault .ensures)
     (c .before .before .before .before .before .before .before .before .before .before .enum-told .given .1) in
     (w .reads, (w .legs-fit, (w .work-fits, (w .messages-fit, w .edges-few))))
 
@@ -103,23 +87,7 @@ returns c =
       bias = a .bias .now;
       cToV = a .c-to-v .now;
       vToC = a .v-to-c .now;
-    }) _ _ (c .before .before .before .taken-fault .ensures ∙ fault-seed
-    (a .size .edges) (a .size .checks) (a .size .mechanisms) (a .settings)
-    (a .gammas .now) (a .seed) (a .syndrome .now) (a .priors .now)
-    (a .check-var .now) (a .check-offset .now) (a .var-check .now) (a .var-message .now) (a .var-offset .now) (a .order .now)
-    (record {
-      legState = a .leg-state .now;
-      legIterations = a .leg-iterations .now;
-      legWeight = a .leg-weight .now;
-      rows = a .rows .now;
-      correction = a
-          .correction .now;
-      posterior = a .posterior .now;
-      gamma = a .gamma .now;
-      bias = a .bias .now;
-      cToV = a .c-to-v .now;
-      vToC = a .v-to-c .now;
-    }))
+    }) _ _ (c .before .before .before .taken-fault .ensures)
     (c .before .a .given .1)
 
 same-length-11 : tie.Need-same-length-11
@@ -185,21 +153,7 @@ returns-2 c =
       vToC = a .v-to-c .now;
     }) _ _ (c .before .before .before .before .before .before .before .before .before .before .before .before .before .before .before
     .before .before .before .before .before .before .before .before .before .before .before .before .before .before .before .before .before .before
-    .taken-fault .ensures ∙ fault-seed (a .size .edges) (a .size .checks) (a .size .mechanisms) (a .settings) (a .gammas .now) (a .seed) (a .syndrome .now)
-    (a .priors .now) (a .check-var .now)
-    (a .check-offset .now) (a .var-check .now) (a .var-message .now)
-    (a .var-offset .now) (a .order .now) (record {
-      legState = a .leg-state .now;
-      legIterations = a .leg-iterations .now;
-      legWeight = a .leg-weight .now;
-      rows = a .rows .now;
-      correction = a .correction .now;
-      posterior = a .posterior .now;
-      gamma = a .gamma .now;
-      bias = a .bias .now;
-      cToV = a .c-to-v .now;
-      vToC = a .v-to-c .now;
-    })) (c .before .before .before .before .before .before .before .before .before .before .before .before .before .before .before
+    .taken-fault .ensures) (c .before .before .before .before .before .before .before .before .before .before .before .before .before .before .before
     .before .before .before .before .before .before .before .before .before .before .before .before .before .before .before .before .enum-told .given .1)
     (c .before .before .before .before .before .before .before .before .before .before .before .before .before .before .before .before .before .before
     .before .before .decode-taken .ensures)

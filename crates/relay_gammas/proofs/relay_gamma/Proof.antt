@@ -13,11 +13,11 @@ copy-set-requires : tie.Need-copy-set-requires
 copy-set-requires c κs = let w = c .before .before .before .before .before .before .pre .1 _
     (c .before .before .source .given .1) in (c .before .before .before .before .before .before .pre .0 .0, w .0, w .1)
 
-enum-told : tie.Need-enum-told
-enum-told c = search needs
+enum-known-source-2 : tie.Need-enum-known-source-2
+enum-known-source-2 c = search needs
 
-add-draw-gammas : tie.Need-add-draw-gammas
-add-draw-gammas c = search needs
+start-of-requires : tie.Need-start-of-requires
+start-of-requires c κs = search needs
 
 draw-gammas-requires : tie.Need-draw-gammas-requires
 draw-gammas-requires c κs = search needs
@@ -33,8 +33,9 @@ same-length-2 : tie.Need-same-length-2
 same-length-2 c = search needs
 
 returns-2 : tie.Need-returns-2
-returns-2 c = rw (c .before .before .before .before .enum-told .given .1)
-    (seeded-is _ _ _ _ _ _ (c .before .before .before .before .before .before .before .before .args .leg) (c .before .before .draw-gammas .ensures))
+returns-2 c = rw (c .before .before .before .before .before .before .source2 .given .1)
+    (seeded-is _ _ _ _ _ _ _ (c .before .before .before .before .before .before .before .before .before .before .args .leg) _
+    (c .before .before .before .before .start-of .ensures) (c .before .before .draw-gammas .ensures))
 
 pub relay-gamma-spec : {M : Type 1} → statement M
 relay-gamma-spec =
@@ -42,8 +43,8 @@ relay-gamma-spec =
     (tie.spec
     enum-known-source
     copy-set-requires
-    enum-told
-    add-draw-gammas
+    enum-known-source-2
+    start-of-requires
     draw-gammas-requires
     same-length
     returns

@@ -36,20 +36,24 @@ float-at-requires-4 c κs = search needs
 number4-requires-3 : tie.Need-number4-requires-3
 number4-requires-3 c κs = search needs
 
+rule-of-requires : tie.Need-rule-of-requires
+rule-of-requires c κs = search needs
+
 returns : tie.Need-returns
 unfolding settingsRead alphaBits gamma0Bits preIterations legIterations lowBits highBits stop
 returns c =
     rw (
-      c .number43 .ensures .0,
-      c .before .float-at4 .ensures,
-      c .before .before .float-at3 .ensures,
-      c .before .before .before .number42 .ensures .0,
-      c .before .before .before .before .legs .ensures,
-      c .before .before .before .before .before .number4 .ensures .0,
-      c .before .before .before .before .before .before .float-at2 .ensures,
-      c .before .before .before .before .before .before .before .float-at .ensures,
-      c .before .before .before .before .before .before .before .before .schedule-of .ensures,
-      c .before .before .before .before .before .before .before .before .before .schedule-byte .ensures,
+      c .rule-of .ensures,
+      c .before .number43 .ensures .0,
+      c .before .before .float-at4 .ensures,
+      c .before .before .before .float-at3 .ensures,
+      c .before .before .before .before .number42 .ensures .0,
+      c .before .before .before .before .before .legs .ensures,
+      c .before .before .before .before .before .before .number4 .ensures .0,
+      c .before .before .before .before .before .before .before .float-at2 .ensures,
+      c .before .before .before .before .before .before .before .before .float-at .ensures,
+      c .before .before .before .before .before .before .before .before .before .schedule-of .ensures,
+      c .before .before .before .before .before .before .before .before .before .before .schedule-byte .ensures,
     )
 
 pub read-settings-spec : {M : Type 1} → statement M
@@ -66,4 +70,5 @@ read-settings-spec =
     float-at-requires-3
     float-at-requires-4
     number4-requires-3
+    rule-of-requires
     returns)

@@ -66,28 +66,31 @@ legs-fit-requires c κs =
 work-fits-requires : tie.Need-work-fits-requires
 work-fits-requires c κs = search needs
 
-syndrome-fault-requires : tie.Need-syndrome-fault-requires
-syndrome-fault-requires c κs = search needs
-
 both-requires : tie.Need-both-requires
 both-requires c κs = search needs
 
 unless-requires : tie.Need-unless-requires
 unless-requires c κs = search needs
 
+syndrome-fault-requires : tie.Need-syndrome-fault-requires
+syndrome-fault-requires c κs = search needs
+
+seed-fault-requires : tie.Need-seed-fault-requires
+seed-fault-requires c κs = search needs
+
 or-else-requires : tie.Need-or-else-requires
 or-else-requires c κs = search needs
+
+or-else-requires-2 : tie.Need-or-else-requires-2
+or-else-requires-2 c κs = search needs
 
 returns-3 : tie.Need-returns-3
 unfolding shotFault
 returns-3 c =
-    let a = c .before .before .before .before .before .before .before .before .before .before .before .before .before .before .before .before .before .before .before .before .before .before .before .before .before .before .before .before .before .before .args in
-    or-passed _ _ _ _ _ (c .before .before .before .before .before .before .before .before .before .before .before .check-graph .ensures)
-    (c .before .before .before .before .before .before .before .before .before .before .is-done .ensures)
-    (c .before .before .before .before .before .before .before .before .before .if1 .left)
-    (or-passed _ _ _ _ _ (settled (c .before .before .before .before .before .before .before .before))
-    (c .before .before .before .before .before .before .before .is-done2 .ensures) (c .before .before .before .before .before .before .if2 .left)
-    (lists-fault (a .size .edges) (whole (a .t) (a .gammas .now) 0
+    let a = c .before .before .before .before .before .before .before .before .before .before .before .before .before .before .before .before .before .before .before .before .before .before .before .before .before .before .before .before .before .before .before .before .args in
+    or-passed _ _ _ _ _ (c .before .before .before .before .before .before .before .before .before .before .before .before .before .check-graph .ensures) (c .before .before .before .before .before .before .before .before .before .before .before .before .is-done .ensures) (c .before .before .before .before .before .before .before .before .before .before .before .if1 .left)
+    (or-passed _ _ _ _ _ (settled (c .before .before .before .before .before .before .before .before .before .before)) (c .before .before .before .before .before .before .before .before .before .is-done2 .ensures) (c .before .before .before .before .before .before .before .before .if2 .left)
+    (lists-fault (a .size .edges) (whole (a .t) (a .gammas .now) (a .seed)
     (a .syndrome .now) (a .priors .now) (a .check-var .now)
     (a .check-offset .now) (a .var-check .now) (a .var-message .now)
     (a .var-offset .now) [] (a .size .checks) (a .size .mechanisms))
@@ -96,17 +99,15 @@ returns-3 c =
       legIterations = a .leg-iterations .now;
       legWeight = a .leg-weight .now;
       rows = a .rows .now;
-      correction = a
-          .correction .now;
+      correction = a .correction .now;
       posterior = a .posterior .now;
       gamma = a .gamma .now;
       bias = a .bias .now;
       cToV = a .c-to-v .now;
       vToC = a .v-to-c .now;
-    }) _ _
-    (c .before .before .before .before .before .legs-fit .ensures)
-    (c .before .before .before .before .work-fits .ensures) _ _ _ _ (c .before .before .both .ensures) (c .before .before .before .syndrome-fault .ensures)
-    (c .before .unless .ensures) (c .or-else .ensures)))
+    }) _ _ (c .before .before .before .before .before .before .before .legs-fit .ensures) (c .before .before .before .before .before .before .work-fits .ensures) _ _ _ _ _ _
+    (c .before .before .before .before .before .both .ensures) (c .before .before .before .before .unless .ensures) (c .before .before .before .syndrome-fault .ensures) (c .before .before .seed-fault .ensures) (c .before .or-else .ensures)
+    (c .or-else2 .ensures)))
 
 pub shot-fault-spec : {M : Type 1} → statement M
 shot-fault-spec =
@@ -120,8 +121,10 @@ shot-fault-spec =
     returns-2
     legs-fit-requires
     work-fits-requires
-    syndrome-fault-requires
     both-requires
     unless-requires
+    syndrome-fault-requires
+    seed-fault-requires
     or-else-requires
+    or-else-requires-2
     returns-3)

@@ -13,7 +13,7 @@ is-done-requires c κs = search needs
 
 returns : tie.Need-returns
 returns c = let a = c .before .before .before .before .before .before .before .before .before .before .before .before .before .before .before .before .before .before .before .before .before .before .args in fault-before
-    (a .size .edges) (a .size .checks) (a .size .mechanisms) (a .t) (a .gammas .now) 0
+    (a .size .edges) (a .size .checks) (a .size .mechanisms) (a .t) (a .gammas .now) (a .seed)
     (a .syndrome .now) (a .priors .now) (a .check-var .now)
     (a .check-offset .now) (a .var-check .now) (a .var-message .now) (a .var-offset .now)
     (a .order .now) (record {
@@ -32,7 +32,7 @@ returns c = let a = c .before .before .before .before .before .before .before .b
 
 order-fault-requires : tie.Need-order-fault-requires
 order-fault-requires c κs = let a = c .before .before .before .before .before .before .before .before .before .before .before .before .before .before .before .before .before .before .before .before .before .before .args in order-asks
-    (a .size .edges) (a .size .checks) (a .size .mechanisms) (a .t) (a .gammas .now) 0
+    (a .size .edges) (a .size .checks) (a .size .mechanisms) (a .t) (a .gammas .now) (a .seed)
     (a .syndrome .now) (a .priors .now) (a .check-var .now)
     (a .check-offset .now) (a .var-check .now) (a .var-message .now) (a .var-offset .now)
     (a .order .now) (record {
@@ -51,7 +51,7 @@ order-fault-requires c κs = let a = c .before .before .before .before .before .
 
 returns-2 : tie.Need-returns-2
 returns-2 c = let a = c .before .before .before .before .before .before .before .before .before .before .before .before .before .before .before .before .before .before .before .before .before .before .before .args in fault-after
-    (a .size .edges) (a .size .checks) (a .size .mechanisms) (a .t) (a .gammas .now) 0
+    (a .size .edges) (a .size .checks) (a .size .mechanisms) (a .t) (a .gammas .now) (a .seed)
     (a .syndrome .now) (a .priors .now) (a .check-var .now)
     (a .check-offset .now) (a .var-check .now) (a .var-message .now) (a .var-offset .now)
     (a .order .now) (record {

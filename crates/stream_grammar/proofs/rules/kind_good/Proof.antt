@@ -16,7 +16,7 @@ both-requires c κs = search needs
 
 returns : tie.Need-returns
 unfolding kindGood
-returns c = cc
+returns c = rw (c .both .ensures, c .before .at-most2 .ensures, c .before .before .at-most .ensures)
 
 pub kind-good-spec : {M : Type 1} → statement M
 kind-good-spec = tie.close (tie.spec at-most-requires at-most-requires-2 both-requires returns)

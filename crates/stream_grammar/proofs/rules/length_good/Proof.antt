@@ -1,5 +1,6 @@
 -- `stream_grammar::rules::length_good` meets its contract. Kind by kind.
 -- Assumes nothing.
+use mathlib.Core.Path.{sym, _∙_}
 use borrow.Author.Tests.{eq-eqb, ne-eqb}
 use Rattle.stream_grammar.specs.Stream.{lengthGood}
 use borrow.Author.Needs.{needs}
@@ -25,13 +26,16 @@ returns : tie.Need-returns
 unfolding lengthGood
 returns c = rw (eq-eqb _ _ (c .before .before .before .before .before .if1 .taken), c .both2 .ensures, c .before .both .ensures, c .before .before .same-number .ensures, c .before .before .before .counts-fit .ensures, c .before .before .before .before .at-most .ensures)
 
+is-settings-requires : tie.Need-is-settings-requires
+is-settings-requires c κs = search needs
+
 returns-2 : tie.Need-returns-2
 unfolding lengthGood
-returns-2 c = rw (ne-eqb _ _ (c .before .if1 .left), eq-eqb _ _ (c .if2 .taken))
+returns-2 c = rw (ne-eqb _ _ (c .before .before .if1 .left), sym (c .before .is-settings .ensures) ∙ c .if2 .taken)
 
 returns-3 : tie.Need-returns-3
 unfolding lengthGood
-returns-3 c = rw (ne-eqb _ _ (c .before .if1 .left), ne-eqb _ _ (c .if2 .left))
+returns-3 c = rw (ne-eqb _ _ (c .before .before .if1 .left), sym (c .before .is-settings .ensures) ∙ c .if2 .left)
 
 pub length-good-spec : {M : Type 1} → statement M
 length-good-spec =
@@ -43,5 +47,6 @@ length-good-spec =
     both-requires
     both-requires-2
     returns
+    is-settings-requires
     returns-2
     returns-3)

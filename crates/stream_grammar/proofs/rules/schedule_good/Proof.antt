@@ -5,6 +5,9 @@ use borrow.Author.Needs.{needs}
 use Rattle.stream_grammar.proofs.rules.schedule_good.Statement.{statement}
 use Rattle.stream_grammar.proofs.rules.schedule_good.Tie as tie
 
+is-settings-requires : tie.Need-is-settings-requires
+is-settings-requires c κs = search needs
+
 at-most-requires : tie.Need-at-most-requires
 at-most-requires c κs = search needs
 
@@ -16,4 +19,4 @@ unfolding scheduleGood
 returns c = cc
 
 pub schedule-good-spec : {M : Type 1} → statement M
-schedule-good-spec = tie.close (tie.spec at-most-requires implies-requires returns)
+schedule-good-spec = tie.close (tie.spec is-settings-requires at-most-requires implies-requires returns)

@@ -18,11 +18,15 @@ same-length c = search needs
 returns : tie.Need-returns
 returns c = kind-model _ _ _ _ _ (c .before .before .before .before .before .if1 .taken) (c .before .before .take-model .ensures)
 
+is-settings-requires : tie.Need-is-settings-requires
+is-settings-requires c κs = search needs
+
 take-settings-requires : tie.Need-take-settings-requires
 take-settings-requires c κs = search needs
 
 returns-2 : tie.Need-returns-2
-returns-2 c = let a = c .before .before .before .before .before .before .before .before .args in kind-settings _ _ _ _ _ (c .before .before .before .before .if1 .left) (c .before .before .if2 .taken) (ap (λ (t : Told). taken t (a .model .now)) (c .take-settings .ensures))
+returns-2 c = let a = c .before .before .before .before .before .before .before .before .args in kind-settings _ _ _ _ _ (c .before .before .before .before .if1 .left)
+    (sym (c .before .before .before .is-settings .ensures) ∙ c .before .before .if2 .taken) (ap (λ (t : Told). taken t (a .model .now)) (c .take-settings .ensures))
 
 front-requires : tie.Need-front-requires
 front-requires c κs = search needs
@@ -42,7 +46,8 @@ same-length-2 c = search needs
 returns-3 : tie.Need-returns-3
 returns-3 c =
     let a = c .before .before .before .before .before .before .before .before .before .before .before .args in kind-shot _ _ _ _ _
-    (c .before .before .before .before .before .before .before .if1 .left) (c .before .before .before .before .before .if2 .left) (ap (λ (t : Told). taken t (a .model .now))
+    (c .before .before .before .before .before .before .before .if1 .left)
+    (sym (c .before .before .before .before .before .before .is-settings .ensures) ∙ c .before .before .before .before .before .if2 .left) (ap (λ (t : Told). taken t (a .model .now))
     (c .take-shot .ensures ∙ ap (λ (m : List ℕ). shotTaken (a .s) m (a .payload .now) (a .line .now)) (c .before .before .before .front .ensures .1)))
 
 pub take-kind-spec : {M : Type 1} → statement M
@@ -52,6 +57,7 @@ take-kind-spec =
     take-model-requires
     same-length
     returns
+    is-settings-requires
     take-settings-requires
     returns-2
     front-requires

@@ -1,0 +1,1 @@
+// Theorems of the seeded draws, and no code: see proofs/Theorems.antt.
