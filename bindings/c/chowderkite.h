@@ -49,7 +49,7 @@ extern "C" {
 
 /* ---- the version: raised whenever a call, a list or a code changes its meaning */
 
-#define CHOWDERKITE_VERSION 4
+#define CHOWDERKITE_VERSION 5
 
 /* The version of the archive that is linked. Where it is not CHOWDERKITE_VERSION, this header is another archive's. */
 uint64_t chowderkite_version(void);
@@ -65,7 +65,7 @@ uint64_t chowderkite_version(void);
 #define CHOWDERKITE_MAX_PRIOR 30.0
 
 /* ---- codes: 0 where nothing is refused, else the refusal's number plus 65536 times its place. A code keeps the place modulo
- * 2^32; only those of chowderkite_prior_of and chowderkite_priors_of can reach that. No call gives 26 to 28, or any from 46 on:
+ * 2^32; only those of chowderkite_prior_of and chowderkite_priors_of can reach that. No call gives 26, 28, or any from 46 on:
  * they are kept for calls to come. */
 
 enum chowderkite_refusal {
@@ -98,14 +98,14 @@ enum chowderkite_refusal {
                                               higher check named before it */
     CHOWDERKITE_STATE_NOT_FINITE = 25,     /* single iteration: a message, posterior or gamma before it */
     CHOWDERKITE_SEEDS_LENGTH = 26,         /* seeds of a block: not the number of shots */
-    CHOWDERKITE_SHOT_TOO_LARGE = 27,       /* a shot's number too large for its draws */
+    CHOWDERKITE_SHOT_TOO_LARGE = 27,       /* gammas drawn by shot: a shot number of 2^48 or above. Tested after 21 */
     CHOWDERKITE_OBSERVABLE_TOO_LARGE = 28, /* 64 or above. Place: mechanism */
     CHOWDERKITE_TOO_MANY_STORES = 29,      /* a decode's message stores could pass 2^64 - 1 */
     CHOWDERKITE_NON_FINITE = 30,           /* a posterior after a leg or a run of beliefs; single iteration: a
                                               posterior or message after it. Place: first mechanism that has one.
                                               Relay's clip can avert it */
     CHOWDERKITE_CUT_RECORD = 40,           /* a stream that ends within a record */
-    CHOWDERKITE_UNKNOWN_KIND = 41,         /* a record of another kind than 1, 2 and 3 */
+    CHOWDERKITE_UNKNOWN_KIND = 41,         /* a record of another kind than 1 to 4 */
     CHOWDERKITE_PAYLOAD_LENGTH = 42,       /* a payload of wrong length for its kind */
     CHOWDERKITE_SHOT_TOO_EARLY = 43,       /* a shot before a model or settings */
     CHOWDERKITE_BEYOND_ROOM = 44,          /* more than the room of a session */
@@ -304,10 +304,12 @@ uint64_t chowderkite_beliefs(
 
 /* ---- Relay-BP
  *
- * A schedule is a byte: CHOWDERKITE_FLOODING, and any other is CHOWDERKITE_CHECK_SERIAL. So is the source of the gammas of
- * relayed legs, explicit: CHOWDERKITE_SEEDED draws them from the shot's seed, and then sets and gammas are not looked at;
- * any other is CHOWDERKITE_EXPLICIT, and gammas holds as many sets as sets says, one after the other, each with a gamma
- * for each mechanism. Relayed leg r, from 1, uses set (r - 1) modulo sets.
+ * A schedule is a byte: CHOWDERKITE_FLOODING, and any other is CHOWDERKITE_CHECK_SERIAL. So is gamma_source, where the gammas
+ * of relayed legs come from (enum chowderkite_source). Relayed legs count from 1. Of an explicit source gammas holds as many
+ * sets as sets says, one after the other, each with a gamma for each mechanism, and leg r uses set (r - 1) modulo sets. Of the
+ * others neither is looked at: each leg draws its gammas in mechanism order by SplitMix64, which starts at a number that the
+ * seed and the leg make by a rule. By shot the seed is a shot number, below 2^48 (27), and no two legs of any shots start
+ * alike.
  *
  * And so is clip_on: CHOWDERKITE_CLIP_OFF, and then clip is not looked at; any other is CHOWDERKITE_CLIP_ON, and clip is a
  * magnitude, finite and above 0 (9). A check's message that is strictly greater in magnitude, an infinite one too, becomes the
@@ -319,18 +321,23 @@ uint64_t chowderkite_beliefs(
 #define CHOWDERKITE_FLOODING 0
 #define CHOWDERKITE_CHECK_SERIAL 1
 
-#define CHOWDERKITE_SEEDED 0
-#define CHOWDERKITE_EXPLICIT 1
+enum chowderkite_source {
+    CHOWDERKITE_BY_SHOT = 0,      /* drawn: SplitMix64 starts at the shot number times 65536, plus the leg */
+    CHOWDERKITE_SEEDED = 0,       /* names no rule, and so draws by shot */
+    CHOWDERKITE_EXPLICIT = 1,
+    CHOWDERKITE_SEED_XOR_LEG = 2  /* drawn, of any seed: it starts at the seed xor (leg + 1), as before version 5. Seed 40 in
+                                     leg 1 and seed 41 in leg 2 start alike. Any other byte is this too */
+};
 
 #define CHOWDERKITE_CLIP_OFF 0
 #define CHOWDERKITE_CLIP_ON 1
 
 /* Writes the published operating point: floats are alpha, gamma0, gamma_low, gamma_high, and the clip, 0.0 for off; counts are
- * pre_iterations, num_legs, leg_iterations, stop_after_converged, and whether the clip is on, 1 or 0. Answers its schedule, which
- * is Flooding; its gammas are drawn, and its clip is off. Refuses nothing. */
+ * pre_iterations, num_legs, leg_iterations, stop_after_converged, whether the clip is on, 1 or 0, and gamma_source. Answers its
+ * schedule, which is Flooding; its gammas are drawn by shot, and its clip is off. Refuses nothing. */
 uint8_t chowderkite_published(
     double floats[5],
-    uint64_t counts[5]);
+    uint64_t counts[6]);
 
 /* Tests settings as a decode over so many mechanisms does: 1 for the mechanisms, 9 to 19. Length: gammas sets times
  * mechanisms, of an explicit source alone. Writes nothing. */
@@ -346,7 +353,7 @@ uint64_t chowderkite_check_settings(
     double gamma_low,
     double gamma_high,
     size_t stop_after_converged,
-    uint8_t explicit_gammas,
+    uint8_t gamma_source,
     size_t sets,
     size_t mechanisms,
     const double *gammas, size_t gammas_len);
@@ -373,7 +380,8 @@ uint64_t chowderkite_check_settings(
  * Work: gamma and bias, mechanisms long; c_to_v and v_to_c, edges long. What leg lists and rows have beyond their least
  * length is kept.
  *
- * Refuses with 1, 2, 4, 7, 9 to 22, 29, 30. Refusal 30 leaves zeroes in all results, floats positive. */
+ * Refuses with 1, 2, 4, 7, 9 to 21, 27, 22, 29, 30, in this order. 27 comes with any number of legs. Refusal 30 leaves zeroes in
+ * all results, floats positive. */
 uint64_t chowderkite_decode(
     size_t checks,
     size_t mechanisms,
@@ -395,7 +403,7 @@ uint64_t chowderkite_decode(
     double gamma_low,
     double gamma_high,
     size_t stop_after_converged,
-    uint8_t explicit_gammas,
+    uint8_t gamma_source,
     size_t sets,
     const double *gammas, size_t gammas_len,
     const uint8_t *syndrome, size_t syndrome_len,
@@ -437,7 +445,7 @@ uint64_t chowderkite_decode_in_order(
     double gamma_low,
     double gamma_high,
     size_t stop_after_converged,
-    uint8_t explicit_gammas,
+    uint8_t gamma_source,
     size_t sets,
     const double *gammas, size_t gammas_len,
     const uint8_t *syndrome, size_t syndrome_len,
@@ -501,10 +509,11 @@ uint64_t chowderkite_iteration(
 
 /* ---- record streams
  *
- * A record is a u32 payload length, a u16 kind and the payload, all little-endian; kind 1 is a model, 2 settings, 3 a shot.
- * A settings record does not say a clip, and means that it is off. A session reads a stream byte by byte, decodes its shots, and
- * says what the program shots writes. Its room is 128 checks, 256 mechanisms, 512 edges and 16 relayed legs. None of these calls
- * refuses anything: what 40 to 45 refuse of a stream, the lines say. */
+ * A record is a u32 payload length, a u16 kind and the payload, all little-endian; kind 1 is a model, 2 and 4 settings, 3 a
+ * shot. Both kinds of settings have the same bytes: those of kind 4 mean gammas drawn by shot, those of kind 2, which were filed
+ * before version 5, from the seed xor the leg. Neither says a clip, which is off. A session reads a stream byte by byte,
+ * decodes its shots, and says what the program shots writes. Its room is 128 checks, 256 mechanisms, 512 edges and 16 relayed
+ * legs. None of these calls refuses anything: what 40 to 45 refuse of a stream, the lines say. */
 
 /* A session's words; its settings' floats stand beside them: alpha, gamma0, gamma_low, gamma_high and the clip, 0.0 for off. Who
  * only feeds a session need not look at them. */
@@ -519,7 +528,7 @@ enum chowderkite_session {
     CHOWDERKITE_SESSION_STOPPED = 12,      /* not 0 once a refusal has ended the run */
     CHOWDERKITE_SESSION_SAID = 13,         /* the length of the line that is to be written now, 0 for none */
     CHOWDERKITE_SESSION_SETTINGS = 14,     /* seven words: schedule, pre_iterations, num_legs, leg_iterations,
-                                              stop_after_converged, explicit, sets */
+                                              stop_after_converged, gamma_source, sets */
     CHOWDERKITE_SESSION_CLIP_ON = 21       /* not 0 if the settings' clip is on */
 };
 

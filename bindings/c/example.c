@@ -58,20 +58,20 @@ static uint64_t build_of_probabilities(const double *probabilities, double *made
         g->var_check, EDGES, g->var_message, EDGES, g->var_offset, MECHANISMS + 1);
 }
 
-/* Alpha 1, gamma0 0, two iterations, no relayed legs: R3's settings under a schedule, with a clip or without, and in an order,
- * or in index order where the order is NULL. */
-static uint64_t decode_clipped(
-    const graph *g, uint8_t schedule, uint8_t clip_on, double clip, const uint32_t *order, decoded *d) {
+/* Alpha 1, gamma0 0, two iterations, no relayed legs: R3's settings under a schedule, with a clip or without, with gammas that
+ * would come of a source and a seed, and in an order, or in index order where the order is NULL. */
+static uint64_t decode_with(
+    const graph *g, uint8_t schedule, uint8_t clip_on, double clip, uint8_t gamma_source, uint64_t seed,
+    const uint32_t *order, decoded *d) {
     const double alpha = 1.0, gamma0 = 0.0, low = 0.0, high = 0.0;
     const size_t pre_iterations = 2, num_legs = 0, leg_iterations = 0, stop = 1;
-    const uint64_t seed = 7;
     if (order == NULL) {
         return chowderkite_decode(
             CHECKS, MECHANISMS, EDGES, priors, MECHANISMS,
             g->check_var, EDGES, g->check_offset, CHECKS + 1,
             g->var_check, EDGES, g->var_message, EDGES, g->var_offset, MECHANISMS + 1,
             schedule, alpha, clip_on, clip, gamma0, pre_iterations, num_legs, leg_iterations, low, high, stop,
-            CHOWDERKITE_SEEDED, 0, NULL, 0, syndrome, CHECKS, seed,
+            gamma_source, 0, NULL, 0, syndrome, CHECKS, seed,
             d->leg_state, LEGS, d->leg_steps, LEGS, d->leg_weight, LEGS, d->rows, LEGS * MECHANISMS,
             d->correction, MECHANISMS, d->posterior, MECHANISMS,
             d->gamma, MECHANISMS, d->bias, MECHANISMS, d->c_to_v, EDGES, d->v_to_c, EDGES, d->counts, d->weight);
@@ -81,10 +81,16 @@ static uint64_t decode_clipped(
         g->check_var, EDGES, g->check_offset, CHECKS + 1,
         g->var_check, EDGES, g->var_message, EDGES, g->var_offset, MECHANISMS + 1,
         schedule, alpha, clip_on, clip, gamma0, pre_iterations, num_legs, leg_iterations, low, high, stop,
-        CHOWDERKITE_SEEDED, 0, NULL, 0, syndrome, CHECKS, seed, order, CHECKS,
+        gamma_source, 0, NULL, 0, syndrome, CHECKS, seed, order, CHECKS,
         d->leg_state, LEGS, d->leg_steps, LEGS, d->leg_weight, LEGS, d->rows, LEGS * MECHANISMS,
         d->correction, MECHANISMS, d->posterior, MECHANISMS,
         d->gamma, MECHANISMS, d->bias, MECHANISMS, d->c_to_v, EDGES, d->v_to_c, EDGES, d->counts, d->weight);
+}
+
+/* Shot 7. */
+static uint64_t decode_clipped(
+    const graph *g, uint8_t schedule, uint8_t clip_on, double clip, const uint32_t *order, decoded *d) {
+    return decode_with(g, schedule, clip_on, clip, CHOWDERKITE_BY_SHOT, 7, order, d);
 }
 
 static uint64_t decode(const graph *g, uint8_t schedule, const uint32_t *order, decoded *d) {
@@ -274,6 +280,29 @@ int main(void) {
         expect("off, a clip is not looked at", code == CHOWDERKITE_DONE && is_converged_as_r3(&d, 16));
     }
 
+    /* Shot numbers, where gammas are drawn by shot; here no leg draws any. */
+    {
+        const uint64_t too_large = (uint64_t)1 << 48;
+        decoded d, before;
+        uint64_t code;
+
+        memset(&d, 9, sizeof d);
+        code = decode_with(
+            &g, CHOWDERKITE_FLOODING, CHOWDERKITE_CLIP_OFF, 0.0, CHOWDERKITE_BY_SHOT, too_large - 1, NULL, &d);
+        expect("shot 2^48 - 1: as R3", code == CHOWDERKITE_DONE && is_converged_as_r3(&d, 16));
+
+        memset(&d, 9, sizeof d);
+        memcpy(&before, &d, sizeof d);
+        code = decode_with(&g, CHOWDERKITE_FLOODING, CHOWDERKITE_CLIP_OFF, 0.0, CHOWDERKITE_SEEDED, too_large, NULL, &d);
+        expect("shot 2^48 is refused with 27, and every list is as it was",
+               chowderkite_number_of(code) == CHOWDERKITE_SHOT_TOO_LARGE && !chowderkite_has_place(code)
+                   && memcmp(&d, &before, sizeof d) == 0);
+
+        code = decode_with(
+            &g, CHOWDERKITE_FLOODING, CHOWDERKITE_CLIP_OFF, 0.0, CHOWDERKITE_SEED_XOR_LEG, UINT64_MAX, NULL, &d);
+        expect("the draw from the seed xor the leg takes every seed", code == CHOWDERKITE_DONE && is_converged_as_r3(&d, 16));
+    }
+
     /* R6's first half: the single iteration takes that order. */
     {
         const double wanted[MECHANISMS] = {-4.0, 4.0, 8.0}, gamma[MECHANISMS] = {0.0, 0.0, 0.0};
@@ -298,11 +327,11 @@ int main(void) {
     /* The published operating point. */
     {
         const double wanted_floats[5] = {1.0, 0.1, -0.24, 0.66, 0.0};
-        const uint64_t wanted_counts[5] = {80, 40, 60, 1, CHOWDERKITE_CLIP_OFF};
+        const uint64_t wanted_counts[6] = {80, 40, 60, 1, CHOWDERKITE_CLIP_OFF, CHOWDERKITE_BY_SHOT};
         double floats[5];
-        uint64_t counts[5];
+        uint64_t counts[6];
         const uint8_t schedule = chowderkite_published(floats, counts);
-        expect("the published operating point: Flooding, alpha 1, gamma0 0.1, 80, 40 legs, 60, -0.24 to 0.66, stop 1, no clip",
+        expect("the published operating point: Flooding, alpha 1, gamma0 0.1, 80, 40 legs, 60, -0.24 to 0.66, stop 1, no clip, by shot",
                schedule == CHOWDERKITE_FLOODING && memcmp(floats, wanted_floats, sizeof floats) == 0 && memcmp(counts, wanted_counts, sizeof counts) == 0);
     }
 

@@ -8,7 +8,7 @@ macro_rules! refusals {
         /// Why a call refused, with its number.
         ///
         /// All refusals of the project are here. 40 to 45 belong to record streams, where [`Shots`](crate::Shots) says them in a
-        /// line and no call answers them; 26 to 28 and those from 46 on are kept for calls to come.
+        /// line and no call answers them; 26, 28 and those from 46 on are kept for calls to come.
         ///
         /// ```
         /// use chowderkite::Refusal;
@@ -89,7 +89,8 @@ refusals! {
     OrderExchanged = 24, "decode, CheckSerial: two checks that share a mechanism exchanged", at "check";
     StateNotFinite = 25, "single iteration: message, posterior or gamma not finite";
     SeedsLength = 26, "block of shots: seed list length not the shot count";
-    ShotTooLarge = 27, "shot number too large for its draws";
+    /// It is tested directly after 21, with any number of legs; [`DrawRule::ByShot`](crate::DrawRule::ByShot) alone has it.
+    ShotTooLarge = 27, "gammas drawn by shot: shot number 2^48 or above";
     ObservableTooLarge = 28, "observable number 64 or above", at "mechanism";
     /// They are [`RelayOutcome::stores`](crate::RelayOutcome::stores), by its formula, at `pre_iterations` plus `num_legs` times
     /// `leg_iterations`.

@@ -1,5 +1,5 @@
 //! A decoder for quantum error correction whose result is a function of its key: the model, the settings, the syndrome and the
-//! shot's seed.
+//! shot's seed, which is its number unless an older [`DrawRule`] is named.
 //!
 //! Min-sum beliefs and Relay-BP, in the shape of PECOS's `pecos-bp`, over code that is proved equal to one definition over IEEE
 //! 754 binary64, bit for bit, on every input. This crate makes lists that fit, calls the proved code, and passes on what it
@@ -83,7 +83,8 @@
 //! | priors by the library's `ln` | by a fixed definition, some 2^-32 nearer to 0; [`BpGraph::from_sparse`], [`BpGraph::from_dense`] take log ratios |
 //! | `min_sum_bp_into` | [`min_sum_into`], and [`min_sum()`], which allocates |
 //! | `RelayConfig::explicit_gammas` | [`GammaSource::Explicit`], flat, in [`RelayConfig::gamma_source`] |
-//! | gammas drawn by PECOS's generator | SplitMix64: other gammas for the same seed; [`GammaSource::drawn`] hands them out |
+//! | gammas drawn by PECOS's generator | SplitMix64, by a [`DrawRule`]: other gammas for the same seed; [`GammaSource::drawn`] hands them out |
+//! | a seed for each decode | a shot number, below 2^48, unless [`DrawRule::SeedXorLeg`] is named |
 //! | `RelayOutcome::legs` has executed legs | it has all; the first [`RelayOutcome::executed_legs`] were executed |
 //! | messages are not counted | [`RelayOutcome::stores`] |
 //! | check messages have no limit | [`RelayConfig::clip`], off unless it is said |
@@ -121,7 +122,7 @@ pub use graph::{BpGraph, GraphLists};
 pub use iteration::{iteration, RelayState};
 pub use min_sum::{min_sum, min_sum_into, BpScratch};
 pub use prior::{prior_of, priors_of, Prior, Priors};
-pub use relay::{GammaSource, LegOutcome, RelayBp, RelayConfig, RelayOutcome, Schedule};
+pub use relay::{DrawRule, GammaSource, LegOutcome, RelayBp, RelayConfig, RelayOutcome, Schedule};
 pub use shots::Shots;
 
 // The README's example is a test too.

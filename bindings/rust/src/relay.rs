@@ -24,11 +24,47 @@ impl Schedule {
     }
 }
 
+/// Where SplitMix64 starts for a relayed leg that draws its gammas. Legs count from 1; leg zero draws nothing.
+///
+/// ```
+/// use chowderkite::{DrawRule, Error, GammaSource};
+///
+/// // A leg's gammas for three mechanisms.
+/// let gammas = |rule: DrawRule, seed: u64, leg: usize| match GammaSource::drawn(rule, (-0.24, 0.66), seed, leg, 3)? {
+///     GammaSource::Explicit { gammas, .. } => Ok::<_, Error>(gammas[3 * (leg - 1)..].to_vec()),
+///     GammaSource::Seeded(_) => unreachable!(),
+/// };
+/// assert_eq!(gammas(DrawRule::SeedXorLeg, 40, 1)?, gammas(DrawRule::SeedXorLeg, 41, 2)?);
+/// assert_ne!(gammas(DrawRule::ByShot, 40, 1)?, gammas(DrawRule::ByShot, 41, 2)?);
+/// assert_eq!(DrawRule::default(), DrawRule::ByShot);
+/// # Ok::<(), Error>(())
+/// ```
+#[derive(Clone, Copy, Debug, Default, PartialEq, Eq, Hash)]
+pub enum DrawRule {
+    /// At `shot * 65_536 + leg`: the seed is a shot number, below 2^48, and another is refused with 27. No two legs of any shots start
+    /// alike. This is the rule where none is named.
+    #[default]
+    ByShot,
+    /// At `seed ^ (leg + 1)`, of any seed: for records that were filed before there was another rule. Seed 40 in leg 1 and seed 41 in
+    /// leg 2 both start at 42, and so share their gammas.
+    SeedXorLeg,
+}
+
+impl DrawRule {
+    /// As the calls name a source that draws by it.
+    const fn byte(self) -> u8 {
+        match self {
+            Self::ByShot => calls::BY_SHOT,
+            Self::SeedXorLeg => calls::SEED_XOR_LEG,
+        }
+    }
+}
+
 /// Where the gammas of relayed legs come from.
 #[derive(Clone, Debug, PartialEq)]
 pub enum GammaSource {
-    /// Drawn by SplitMix64 from the shot's seed, within [`RelayConfig::gamma_range`].
-    Seeded,
+    /// Drawn by SplitMix64 from the shot's seed and the leg, within [`RelayConfig::gamma_range`].
+    Seeded(DrawRule),
     /// Sets that are handed in. Relayed leg `r`, from 1, uses set `(r - 1) % sets`.
     Explicit {
         /// How many sets there are.
@@ -43,12 +79,18 @@ impl GammaSource {
     /// another decoder to repeat.
     ///
     /// ```
-    /// use chowderkite::{BpGraph, GammaSource, RelayBp, RelayConfig};
+    /// use chowderkite::{BpGraph, DrawRule, GammaSource, RelayBp, RelayConfig};
     ///
     /// let graph = BpGraph::from_sparse(2, &[(4.0, vec![0]), (4.0, vec![0, 1]), (4.0, vec![1])])?;
     /// let seeded = RelayConfig { stop_after_converged: 5, ..RelayConfig::default() };
     /// let explicit = RelayConfig {
-    ///     gamma_source: GammaSource::drawn(seeded.gamma_range, 7, seeded.num_legs, graph.mechanism_count()),
+    ///     gamma_source: GammaSource::drawn(
+    ///         DrawRule::ByShot,
+    ///         seeded.gamma_range,
+    ///         7,
+    ///         seeded.num_legs,
+    ///         graph.mechanism_count(),
+    ///     )?,
     ///     ..seeded.clone()
     /// };
     /// let one = RelayBp::new(graph.clone(), seeded)?.decode(&[1, 0], 7)?;
@@ -56,24 +98,44 @@ impl GammaSource {
     /// assert_eq!(one, other);
     /// # Ok::<(), chowderkite::Error>(())
     /// ```
-    #[must_use]
-    pub fn drawn(gamma_range: (f64, f64), seed: u64, legs: usize, mechanisms: usize) -> Self {
+    ///
+    /// # Errors
+    ///
+    /// Those of a decode that would draw them: 1 for the mechanisms, 13 for the legs, 15, and 27 for a shot number of 2^48 or above.
+    /// Explicit sets take any seed, so sets of such a shot would be those of another one, and nobody would be told.
+    pub fn drawn(
+        rule: DrawRule,
+        gamma_range: (f64, f64),
+        seed: u64,
+        legs: usize,
+        mechanisms: usize,
+    ) -> Result<Self, Error> {
+        let seeded = RelayConfig {
+            num_legs: legs,
+            gamma_range,
+            gamma_source: Self::Seeded(rule),
+            ..RelayConfig::default()
+        };
+        seeded.check(mechanisms)?;
+        // 27 is a decode's: one over nothing is asked.
+        let nothing = BpGraph::from_sparse::<[u32; 0]>(0, &[])?;
+        RelayBp::new(nothing, seeded)?.decode(&[], seed)?;
         let (low, high) = gamma_range;
         let mut gammas = Vec::new();
         for leg in 1..=legs as u64 {
-            let mut draws = Draws::of_leg(seed, leg);
+            let mut draws = Draws::of_leg(rule, seed, leg);
             gammas.extend((0..mechanisms).map(|_| draws.gamma(low, high)));
         }
-        Self::Explicit { sets: legs, gammas }
+        Ok(Self::Explicit { sets: legs, gammas })
     }
 }
 
 /// Relay's settings.
 ///
-/// The default is the published operating point:
+/// The default is the published operating point, with gammas drawn by shot:
 ///
 /// ```
-/// use chowderkite::{GammaSource, RelayConfig, Schedule};
+/// use chowderkite::{DrawRule, GammaSource, RelayConfig, Schedule};
 ///
 /// let config = RelayConfig::default();
 /// assert_eq!(config.schedule, Schedule::Flooding);
@@ -81,7 +143,7 @@ impl GammaSource {
 /// assert_eq!((config.pre_iterations, config.num_legs, config.leg_iterations), (80, 40, 60));
 /// assert_eq!(config.gamma_range, (-0.24, 0.66));
 /// assert_eq!(config.stop_after_converged, 1);
-/// assert_eq!(config.gamma_source, GammaSource::Seeded);
+/// assert_eq!(config.gamma_source, GammaSource::Seeded(DrawRule::ByShot));
 /// ```
 ///
 /// Explicit sets lie flat, one after the other:
@@ -122,7 +184,7 @@ pub struct RelayConfig {
     /// let graph = BpGraph::from_sparse(10, &busy)?;
     /// let decode = |clip: Option<f64>| {
     ///     let config = RelayConfig { clip, ..RelayConfig::default() };
-    ///     RelayBp::new(graph.clone(), config)?.decode(&[1, 1, 1, 1, 1, 1, 1, 1, 0, 0], 7)
+    ///     RelayBp::new(graph.clone(), config)?.decode(&[1, 1, 1, 1, 1, 1, 1, 1, 0, 0], 69)
     /// };
     /// assert_eq!(decode(None).unwrap_err().number(), 30);
     /// let outcome = decode(Some(30.0))?;
@@ -153,8 +215,15 @@ impl Default for RelayConfig {
         version::check();
         let (schedule, floats, counts) = calls::published();
         let [alpha, gamma0, low, high, clip] = floats;
-        let [pre_iterations, num_legs, leg_iterations, stop_after_converged, clip_on] =
+        let [pre_iterations, num_legs, leg_iterations, stop_after_converged, clip_on, source] =
             counts.map(|count| count as usize);
+        let rules = [DrawRule::ByShot, DrawRule::SeedXorLeg];
+        let Some(rule) = rules
+            .into_iter()
+            .find(|rule| usize::from(rule.byte()) == source)
+        else {
+            unreachable!("the archive answered the source {source}, which its contract rules out")
+        };
         Self {
             schedule: if schedule == 0 {
                 Schedule::Flooding
@@ -169,7 +238,7 @@ impl Default for RelayConfig {
             leg_iterations,
             gamma_range: (low, high),
             stop_after_converged,
-            gamma_source: GammaSource::Seeded,
+            gamma_source: GammaSource::Seeded(rule),
         }
     }
 }
@@ -186,9 +255,9 @@ impl RelayConfig {
     }
 
     fn lent(&self) -> calls::Settings<'_> {
-        let (explicit, sets, gammas): (u8, usize, &[f64]) = match &self.gamma_source {
-            GammaSource::Seeded => (0, 0, &[]),
-            GammaSource::Explicit { sets, gammas } => (1, *sets, gammas),
+        let (source, sets, gammas): (u8, usize, &[f64]) = match &self.gamma_source {
+            GammaSource::Seeded(rule) => (rule.byte(), 0, &[]),
+            GammaSource::Explicit { sets, gammas } => (calls::EXPLICIT, *sets, gammas),
         };
         calls::Settings {
             schedule: self.schedule.byte(),
@@ -202,7 +271,7 @@ impl RelayConfig {
             gamma_low: self.gamma_range.0,
             gamma_high: self.gamma_range.1,
             stop_after_converged: self.stop_after_converged,
-            explicit,
+            source,
             sets,
             gammas,
         }
@@ -351,8 +420,8 @@ fn outcome_of(lists: &DecodeLists) -> RelayOutcome {
 ///
 /// let graph = BpGraph::from_sparse(2, &[(4.0, vec![0]), (4.0, vec![0, 1]), (4.0, vec![1])])?;
 /// let mut decoder = RelayBp::new(graph, RelayConfig::default())?;
-/// for (seed, syndrome) in [[0, 0], [1, 0], [1, 1]].iter().enumerate() {
-///     let outcome = decoder.decode(syndrome, seed as u64)?;
+/// for (shot, syndrome) in [[0, 0], [1, 0], [1, 1]].iter().enumerate() {
+///     let outcome = decoder.decode(syndrome, shot as u64)?;
 ///     assert!(outcome.converged);
 /// }
 /// # Ok::<(), chowderkite::Error>(())
@@ -380,11 +449,12 @@ impl RelayBp {
         })
     }
 
-    /// Decodes a syndrome, a byte 0 or 1 for each check. The seed counts where gammas are drawn.
+    /// Decodes a syndrome, a byte 0 or 1 for each check. The seed counts where gammas are drawn: by shot, as they are unless another rule is
+    /// named, it is the shot's number, below 2^48. Give each shot its own.
     ///
     /// # Errors
     ///
-    /// 20, 21, 29, 30.
+    /// 20, 21, 27, 29, 30.
     pub fn decode(&mut self, syndrome: &[u8], seed: u64) -> Result<RelayOutcome, Error> {
         Error::of_code(calls::decode(
             self.graph.lent(),
@@ -417,7 +487,7 @@ impl RelayBp {
     ///
     /// # Errors
     ///
-    /// 20, 21, 23, 24, 29, 30.
+    /// 20, 21, 27, 23, 24, 29, 30.
     pub fn decode_in_order(
         &mut self,
         syndrome: &[u8],

@@ -7,7 +7,8 @@ use chowderkite_sys::streams::{self, Line, LINE, MAX_PAYLOAD};
 ///
 /// The reference has the stream's records and the lines; `./shots --help` and `tools/stream` in the repository say the same. Its room is
 /// 128 checks, 256 mechanisms, 512 edges and 16 relayed legs. A stream's settings say no [clip](crate::RelayConfig::clip), and mean that it is
-/// off.
+/// off. Those of kind 4 mean gammas [drawn by shot](crate::DrawRule::ByShot), and those of kind 2, which streams had before there was another
+/// rule, [from the seed xor the leg](crate::DrawRule::SeedXorLeg).
 ///
 /// ```
 /// use chowderkite::Shots;

@@ -104,7 +104,7 @@ fn decodes(seed: u64, count: usize) -> Vec<Filed> {
         }
         let settings = random_settings(&mut random);
         let mut decoder = RelayBp::new(graph.clone(), settings).unwrap();
-        let record = decoder.decode(&syndrome, random.draw()).unwrap();
+        let record = decoder.decode(&syndrome, random.shot()).unwrap();
         Filed {
             graph,
             syndrome,

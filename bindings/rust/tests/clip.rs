@@ -3,7 +3,10 @@
 
 mod common;
 
-use chowderkite::{iteration, BpGraph, RelayBp, RelayConfig, RelayOutcome, RelayState, Schedule};
+use chowderkite::{
+    iteration, BpGraph, DrawRule, GammaSource, RelayBp, RelayConfig, RelayOutcome, RelayState,
+    Schedule,
+};
 use chowderkite_sys::calls;
 use chowderkite_sys::lists::{DecodeLists, GraphLists, Size};
 use common::{bits, model_g, outcome_bits, plain, Random, BAD_CLIPS};
@@ -75,6 +78,14 @@ fn of_one_entry() {
     }
 }
 
+/// The published point with the draw by which seed 7 comes to 30 on the models below, as in the oracle's lists.
+fn point() -> RelayConfig {
+    RelayConfig {
+        gamma_source: GammaSource::Seeded(DrawRule::SeedXorLeg),
+        ..RelayConfig::default()
+    }
+}
+
 /// Three mechanisms on eight neighbouring checks each, the first of which happened, at the published point. Messages grow with each iteration,
 /// and after the ninth leg a posterior is not finite; with a clip the second leg finds what happened.
 #[test]
@@ -82,7 +93,7 @@ fn a_heavy_model() {
     let busy = [0..8, 1..9, 2..10].map(|checks| (4.0, checks.collect::<Vec<u32>>()));
     let graph = BpGraph::from_sparse(10, &busy).unwrap();
     let syndrome = [1, 1, 1, 1, 1, 1, 1, 1, 0, 0];
-    let point = RelayConfig::default();
+    let point = point();
     assert_eq!((point.alpha, point.clip), (1.0, None));
 
     let mut off = RelayBp::new(graph.clone(), point.clone()).unwrap();
@@ -122,7 +133,7 @@ fn a_heavy_model_under_check_serial() {
     (syndrome[1], syndrome[13]) = (1, 1);
     let config = RelayConfig {
         schedule: CheckSerial,
-        ..RelayConfig::default()
+        ..point()
     };
     let mut off = RelayBp::new(graph.clone(), config.clone()).unwrap();
     let error = off.decode(&syndrome, 7).unwrap_err();
@@ -141,9 +152,15 @@ fn what_refuses_still() {
     let busy = [0..8, 1..9, 2..10].map(|checks| (4.0, checks.collect::<Vec<u32>>()));
     let busy = BpGraph::from_sparse(10, &busy).unwrap();
     let alone = BpGraph::from_sparse(2, &[(4.0, [0])]).unwrap();
-    let point = RelayConfig::default();
+    let point = point();
     for (graph, syndrome, clip, gamma0, is_refused) in [
-        (&busy, &[1, 1, 1, 1, 1, 1, 1, 1, 0, 0][..], f64::MAX, 0.1, true),
+        (
+            &busy,
+            &[1, 1, 1, 1, 1, 1, 1, 1, 0, 0][..],
+            f64::MAX,
+            0.1,
+            true,
+        ),
         (&alone, &[1, 1], 1.0, 1e300, true),
         (&alone, &[1, 1], 1.0, 1.0, false),
     ] {
@@ -281,7 +298,7 @@ impl Lent {
             gamma_low: 0.0,
             gamma_high: 0.0,
             stop_after_converged: 1,
-            explicit: 0,
+            source: calls::BY_SHOT,
             sets: 0,
             gammas: &[],
         }

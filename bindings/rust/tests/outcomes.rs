@@ -3,8 +3,8 @@
 mod common;
 
 use chowderkite::{
-    iteration, min_sum, min_sum_into, BpGraph, BpScratch, GammaSource, LegOutcome, Refusal,
-    RelayBp, RelayConfig, RelayState, Schedule,
+    iteration, min_sum, min_sum_into, BpGraph, BpScratch, DrawRule, GammaSource, LegOutcome,
+    Refusal, RelayBp, RelayConfig, RelayState, Schedule,
 };
 use common::{bits, outcome_bits, Random};
 use Schedule::{CheckSerial, Flooding};
@@ -30,7 +30,7 @@ fn used_again_as_fresh() {
         for _ in 0..100 {
             let happened = random.below(12);
             let syndrome = random.syndrome(&graph, happened);
-            let seed = random.draw();
+            let seed = random.shot();
             let mut fresh = RelayBp::new(graph.clone(), settings(schedule)).unwrap();
             let outcome = used.decode(&syndrome, seed).unwrap();
             assert_eq!(
@@ -107,7 +107,7 @@ fn any_order_under_flooding() {
     for _ in 0..100 {
         let happened = random.below(12);
         let syndrome = random.syndrome(&graph, happened);
-        let seed = random.draw();
+        let seed = random.shot();
         let order = random.permutation(20);
         assert_eq!(
             outcome_bits(&decoder.decode_in_order(&syndrome, seed, &order).unwrap()),
@@ -184,7 +184,7 @@ fn orders_under_check_serial() {
     for _ in 0..200 {
         let happened = random.below(6);
         let syndrome = random.syndrome(&graph, happened);
-        let seed = random.draw();
+        let seed = random.shot();
         let mut order: Vec<u32> = (0..20).collect();
         for _ in 0..random.below(5) {
             let place = random.below(19);
@@ -216,19 +216,27 @@ fn seeded_is_explicit() {
     let graph = random.model(20, 50);
     for _ in 0..20 {
         let syndrome = random.syndrome(&graph, 8);
-        let seed = random.draw();
-        let seeded = settings(Flooding);
-        let explicit = RelayConfig {
-            gamma_source: GammaSource::drawn(seeded.gamma_range, seed, seeded.num_legs, 50),
-            ..seeded.clone()
-        };
-        let one = RelayBp::new(graph.clone(), seeded)
-            .unwrap()
-            .decode(&syndrome, seed);
-        let other = RelayBp::new(graph.clone(), explicit)
-            .unwrap()
-            .decode(&syndrome, 0);
-        assert_eq!(outcome_bits(&one.unwrap()), outcome_bits(&other.unwrap()));
+        for (rule, seed) in [
+            (DrawRule::ByShot, random.shot()),
+            (DrawRule::SeedXorLeg, random.draw()),
+        ] {
+            let seeded = RelayConfig {
+                gamma_source: GammaSource::Seeded(rule),
+                ..settings(Flooding)
+            };
+            let sets = GammaSource::drawn(rule, seeded.gamma_range, seed, seeded.num_legs, 50);
+            let explicit = RelayConfig {
+                gamma_source: sets.unwrap(),
+                ..seeded.clone()
+            };
+            let one = RelayBp::new(graph.clone(), seeded)
+                .unwrap()
+                .decode(&syndrome, seed);
+            let other = RelayBp::new(graph.clone(), explicit)
+                .unwrap()
+                .decode(&syndrome, 0);
+            assert_eq!(outcome_bits(&one.unwrap()), outcome_bits(&other.unwrap()));
+        }
     }
 }
 
@@ -240,9 +248,11 @@ fn decode_is_iterations() {
     for schedule in [Flooding, CheckSerial] {
         for _ in 0..20 {
             let syndrome = random.syndrome(&graph, 6);
-            let seed = random.draw();
+            let seed = random.shot();
             let mut config = settings(schedule);
-            config.gamma_source = GammaSource::drawn(config.gamma_range, seed, 2, 50);
+            let rule = DrawRule::ByShot;
+            config.gamma_source =
+                GammaSource::drawn(rule, config.gamma_range, seed, 2, 50).unwrap();
             for clip in [None, Some(1.5), Some(1e-310)] {
                 config.clip = clip;
                 assert_is_iterations(&graph, &config, &syndrome);

@@ -492,9 +492,11 @@ fn refusal_29() {
     order[0] = 1;
     let answer = serial.decode_in_order(&syndrome, 0, &order);
     assert_refused(answer, Refusal::OrderNotEachOnce, None);
+    let answer = serial.decode_in_order(&syndrome, 1 << 48, &order);
+    assert_refused(answer, Refusal::ShotTooLarge, None);
     let mut not_binary = syndrome.clone();
     not_binary[9] = 2;
-    let answer = serial.decode(&not_binary, 0);
+    let answer = serial.decode(&not_binary, 1 << 48);
     assert_refused(answer, Refusal::SyndromeNotBinary, Some(9));
     assert_refused(serial.decode(&[], 0), Refusal::SyndromeLength, None);
 

@@ -5,7 +5,7 @@ mod common;
 use chowderkite::{BpGraph, RelayBp, RelayConfig, Schedule};
 use chowderkite_sys::calls;
 use chowderkite_sys::lists::{DecodeLists, Size};
-use common::{model_g, plain, stores_at, Random};
+use common::{lent, model_g, plain, stores_at, Random};
 use Schedule::{CheckSerial, Flooding};
 
 const SCHEDULES: [Schedule; 2] = [Flooding, CheckSerial];
@@ -152,18 +152,7 @@ fn none_where_refused() {
         mechanisms: graph.mechanism_count(),
         edges: graph.edge_count(),
     };
-    let lists = graph.lists();
-    let lent = calls::Graph {
-        checks: size.checks,
-        mechanisms: size.mechanisms,
-        edges: size.edges,
-        priors: graph.prior_llrs(),
-        check_var: &lists.check_var,
-        check_offset: &lists.check_offset,
-        var_check: &lists.var_check,
-        var_message: &lists.var_message,
-        var_offset: &lists.var_offset,
-    };
+    let lent = lent(&graph);
     let decode = |alpha: f64, syndrome: &[u8], order: &[u32]| {
         let settings = calls::Settings {
             schedule: 1,
@@ -177,7 +166,7 @@ fn none_where_refused() {
             gamma_low: 0.0,
             gamma_high: 0.0,
             stop_after_converged: 1,
-            explicit: 0,
+            source: calls::BY_SHOT,
             sets: 0,
             gammas: &[],
         };

@@ -1,5 +1,5 @@
-//! Record streams: the repository's examples in pieces of every kind, a cut stream, what comes after a refusal, and the clip, which no
-//! stream says.
+//! Record streams: the repository's examples in pieces of every kind, a cut stream, what comes after a refusal, the draw that each kind of
+//! settings means, and the clip, which no stream says.
 
 use chowderkite::Shots;
 use chowderkite_sys::streams::{self, LINE, MAX_PAYLOAD};
@@ -31,7 +31,7 @@ fn said(stream: &[u8], lengths: &[usize]) -> Vec<u8> {
 
 #[test]
 fn examples_in_pieces() {
-    for name in ["g", "refused", "repetition", "surface"] {
+    for name in ["g", "refused", "by_shot", "repetition", "surface"] {
         let stream = example(&format!("{name}.stream"));
         let wanted = example(&format!("{name}.out"));
         for lengths in [&[usize::MAX][..], &[1], &[7, 1, 100, 3]] {
@@ -61,6 +61,53 @@ fn nothing_is_said_after_a_refusal() {
     assert_eq!(shots.feed(&[0, 0, 0, 0, 9, 0]), b"stopped 41 0\n");
     assert_eq!(shots.feed(&example("g.stream")), b"");
     assert_eq!(shots.finish(), b"");
+}
+
+/// The settings of G's stream as kind 4, and back as kind 2: a session's own word says the draw, and 27 comes of the one alone.
+#[test]
+fn kinds_of_settings() {
+    const SOURCE: usize = 19;
+    let stream = example("g.stream");
+    let (model, settings) = (&stream[..70], &stream[70..125]);
+    let of_kind = |kind: u8| {
+        let mut record = settings.to_vec();
+        record[4] = kind;
+        record
+    };
+    let shot = |seed: u64| {
+        let mut record = stream[125..].to_vec();
+        record[6..14].copy_from_slice(&seed.to_le_bytes());
+        record
+    };
+    let mut session = streams::session_new();
+    let (mut payload, mut kept, mut line) = (vec![0; MAX_PAYLOAD], vec![0; MAX_PAYLOAD], [0; LINE]);
+    let mut feed = |session: &mut streams::Session, bytes: &[u8]| {
+        let mut text = Vec::new();
+        for &byte in bytes {
+            streams::take(session, byte, &mut payload, &mut kept, &mut line);
+            text.extend_from_slice(&line[..session.said()]);
+        }
+        String::from_utf8(text).unwrap()
+    };
+    feed(&mut session, model);
+    let mut number = 0;
+    for (kind, source, at_limit) in [
+        (2, 2, "1 2 1 100"),
+        (4, 0, "refused 27"),
+        (2, 2, "1 2 1 100"),
+        (4, 0, "refused 27"),
+    ] {
+        assert_eq!(feed(&mut session, &of_kind(kind)), "");
+        assert_eq!(session.words[SOURCE], source);
+        for (seed, said) in [((1 << 48) - 1, "1 2 1 100"), (1 << 48, at_limit)] {
+            let line = feed(&mut session, &shot(seed));
+            assert_eq!(line, format!("shot {number} {said}\n"));
+            number += 1;
+        }
+    }
+    let offset = model.len() + 4 * (settings.len() + 2 * 16);
+    let line = feed(&mut session, &of_kind(5));
+    assert_eq!(line, format!("stopped 41 {offset}\n"));
 }
 
 /// Settings of a stream mean that the clip is off. A session's own words can have it on, and then it acts, until other settings come.

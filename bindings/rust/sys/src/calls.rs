@@ -34,7 +34,14 @@ pub struct MadeLists<'a> {
     pub graph: GraphLists<'a>,
 }
 
-/// Settings of Relay. `schedule` is 0 for Flooding, `clip_on` for no clip, and `explicit` for gammas that are drawn.
+/// A source of gammas: drawn by shot.
+pub const BY_SHOT: u8 = 0;
+/// A source of gammas: explicit sets.
+pub const EXPLICIT: u8 = 1;
+/// A source of gammas: drawn from the seed xor the leg.
+pub const SEED_XOR_LEG: u8 = 2;
+
+/// Settings of Relay. `schedule` is 0 for Flooding, `clip_on` for no clip, and `source` is one of the three above.
 #[derive(Clone, Copy, Debug)]
 pub struct Settings<'a> {
     pub schedule: u8,
@@ -48,7 +55,7 @@ pub struct Settings<'a> {
     pub gamma_low: f64,
     pub gamma_high: f64,
     pub stop_after_converged: usize,
-    pub explicit: u8,
+    pub source: u8,
     pub sets: usize,
     pub gammas: &'a [f64],
 }
@@ -358,11 +365,11 @@ pub fn beliefs(
 }
 
 /// The published operating point: its schedule; alpha, gamma0, gamma_low, gamma_high and the clip, 0.0 for off; pre_iterations, num_legs,
-/// leg_iterations, stop_after_converged, and 1 or 0 for a clip that is on or off.
+/// leg_iterations, stop_after_converged, 1 or 0 for a clip that is on or off, and the source of its gammas.
 #[inline]
 #[must_use]
-pub fn published() -> (u8, [f64; 5], [u64; 5]) {
-    let (mut floats, mut counts) = ([0.0; 5], [0; 5]);
+pub fn published() -> (u8, [f64; 5], [u64; 6]) {
+    let (mut floats, mut counts) = ([0.0; 5], [0; 6]);
     // SAFETY: both are arrays of the length that the call writes, and apart.
     let schedule = unsafe { crate::chowderkite_published(&mut floats, &mut counts) };
     (schedule, floats, counts)
@@ -386,7 +393,7 @@ pub fn check_settings(settings: Settings, mechanisms: usize) -> u64 {
             settings.gamma_low,
             settings.gamma_high,
             settings.stop_after_converged,
-            settings.explicit,
+            settings.source,
             settings.sets,
             mechanisms,
             settings.gammas.as_ptr(),
@@ -434,7 +441,7 @@ pub fn decode(
             settings.gamma_low,
             settings.gamma_high,
             settings.stop_after_converged,
-            settings.explicit,
+            settings.source,
             settings.sets,
             settings.gammas.as_ptr(),
             settings.gammas.len(),
@@ -507,7 +514,7 @@ pub fn decode_in_order(
             settings.gamma_low,
             settings.gamma_high,
             settings.stop_after_converged,
-            settings.explicit,
+            settings.source,
             settings.sets,
             settings.gammas.as_ptr(),
             settings.gammas.len(),

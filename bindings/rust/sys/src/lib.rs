@@ -29,7 +29,7 @@ pub mod lists;
 pub mod streams;
 
 /// The version of the calls that are declared here; [`chowderkite_version`] answers that of the archive that is linked.
-pub const VERSION: u64 = 4;
+pub const VERSION: u64 = 5;
 
 unsafe extern "C" {
     /// The version of the calls: raised whenever a call, a list or a code changes its meaning.
@@ -198,8 +198,8 @@ unsafe extern "C" {
     ) -> u64;
 
     /// Writes the published operating point: alpha, gamma0, gamma_low, gamma_high, the clip or 0.0; pre_iterations, num_legs,
-    /// leg_iterations, stop_after_converged, 1 or 0 for a clip that is on or off. Answers its schedule.
-    pub unsafe fn chowderkite_published(floats: *mut [f64; 5], counts: *mut [u64; 5]) -> u8;
+    /// leg_iterations, stop_after_converged, 1 or 0 for a clip that is on or off, the source of its gammas. Answers its schedule.
+    pub unsafe fn chowderkite_published(floats: *mut [f64; 5], counts: *mut [u64; 6]) -> u8;
 
     /// Tests settings over so many mechanisms.
     pub unsafe fn chowderkite_check_settings(
@@ -214,7 +214,7 @@ unsafe extern "C" {
         gamma_low: f64,
         gamma_high: f64,
         stop_after_converged: usize,
-        explicit: u8,
+        source: u8,
         sets: usize,
         mechanisms: usize,
         gammas: *const f64,
@@ -250,7 +250,7 @@ unsafe extern "C" {
         gamma_low: f64,
         gamma_high: f64,
         stop_after_converged: usize,
-        explicit: u8,
+        source: u8,
         sets: usize,
         gammas: *const f64,
         gammas_len: usize,
@@ -309,7 +309,7 @@ unsafe extern "C" {
         gamma_low: f64,
         gamma_high: f64,
         stop_after_converged: usize,
-        explicit: u8,
+        source: u8,
         sets: usize,
         gammas: *const f64,
         gammas_len: usize,

@@ -1,11 +1,30 @@
 //! Models, settings and comparisons that the tests share.
 #![allow(dead_code)] // each test file uses some
 
-use chowderkite::{BpGraph, GammaSource, LegOutcome, RelayConfig, RelayOutcome, Schedule};
+use chowderkite::{
+    BpGraph, DrawRule, GammaSource, LegOutcome, RelayConfig, RelayOutcome, Schedule,
+};
+use chowderkite_sys::calls;
 
 /// The reference's G: 2 checks; detectors {0}, {0,1}, {1}; priors 4.
 pub fn model_g() -> BpGraph {
     BpGraph::from_sparse(2, &[(4.0, vec![0]), (4.0, vec![0, 1]), (4.0, vec![1])]).unwrap()
+}
+
+/// A graph, as the calls take it.
+pub fn lent(graph: &BpGraph) -> calls::Graph<'_> {
+    let lists = graph.lists();
+    calls::Graph {
+        checks: graph.check_count(),
+        mechanisms: graph.mechanism_count(),
+        edges: graph.edge_count(),
+        priors: graph.prior_llrs(),
+        check_var: &lists.check_var,
+        check_offset: &lists.check_offset,
+        var_check: &lists.var_check,
+        var_message: &lists.var_message,
+        var_offset: &lists.var_offset,
+    }
 }
 
 /// The settings of the reference's runs: alpha 1, gamma0 0, no relayed legs.
@@ -20,7 +39,7 @@ pub fn plain(schedule: Schedule, pre_iterations: usize) -> RelayConfig {
         leg_iterations: 0,
         gamma_range: (0.0, 0.0),
         stop_after_converged: 1,
-        gamma_source: GammaSource::Seeded,
+        gamma_source: GammaSource::Seeded(DrawRule::ByShot),
     }
 }
 
@@ -96,6 +115,11 @@ impl Random {
         self.0 ^= self.0 >> 7;
         self.0 ^= self.0 << 17;
         self.0
+    }
+
+    /// A shot number.
+    pub fn shot(&mut self) -> u64 {
+        self.draw() >> 16
     }
 
     pub fn below(&mut self, limit: usize) -> usize {
