@@ -3,19 +3,21 @@
 use crate::answers::{Decoded, Refusal};
 use crate::line::{Kind, Line};
 use crate::model::{Model, random_model};
-use crate::splitmix::{SplitMix64, relay_sets};
+use crate::splitmix::{Rule, SplitMix64, relay_sets};
 
 const SEED: u64 = 0x6465_636f_6465_0003;
 const RANDOM: usize = 600;
 const SEED_OF_CLIPPED: u64 = 0x636c_6970_7065_0004;
 const RANDOM_CLIPPED: usize = 60;
+const SEED_OF_SHOTS: u64 = 0x7368_6f74_7300_0005;
+const RANDOM_BY_SHOT: usize = 24;
 const MOST_LEGS: usize = 16;
 
 /// Where the gammas of relayed legs come from.
 #[derive(Clone, Debug)]
 pub enum Source {
-    /// The reference's draw from the shot's seed; the Rust gets it as explicit sets.
-    Seeded,
+    /// The reference's draw from the shot's seed, by a rule; the Rust gets it as explicit sets.
+    Seeded(Rule),
     Explicit(Vec<Vec<f64>>),
 }
 
@@ -44,7 +46,8 @@ pub struct DecodeCase {
 }
 
 impl Settings {
-    /// What the reference's small runs use: alpha 1, gamma0 0, no relayed legs.
+    /// What the reference's small runs use: alpha 1, gamma0 0, no relayed legs. A case that has some draws as cases did before there was
+    /// another rule.
     pub fn plain(serial: bool, pre_iterations: usize) -> Self {
         Self {
             serial,
@@ -57,12 +60,29 @@ impl Settings {
             low: 0.0,
             high: 0.0,
             stop: 1,
-            source: Source::Seeded,
+            source: Source::Seeded(Rule::SeedXorLeg),
         }
     }
 
-    pub fn is_explicit(&self) -> bool {
-        matches!(self.source, Source::Explicit(_))
+    /// The rule of the draw, none where the sets are explicit.
+    pub fn rule(&self) -> Option<Rule> {
+        match self.source {
+            Source::Seeded(rule) => Some(rule),
+            Source::Explicit(_) => None,
+        }
+    }
+
+    /// The same with gammas drawn by a rule.
+    pub fn drawn(self, rule: Rule) -> Self {
+        Self {
+            source: Source::Seeded(rule),
+            ..self
+        }
+    }
+
+    /// The default operating point with the draw that it had before there was another rule.
+    pub fn point_before() -> Self {
+        Self::default_point().drawn(Rule::SeedXorLeg)
     }
 
     /// The reference's default operating point.
@@ -78,7 +98,7 @@ impl Settings {
             low: -0.24,
             high: 0.66,
             stop: 1,
-            source: Source::Seeded,
+            source: Source::Seeded(Rule::ByShot),
         }
     }
 }
@@ -89,15 +109,22 @@ impl DecodeCase {
         let settings = &self.settings;
         match &settings.source {
             Source::Explicit(sets) => Some(sets.clone()),
-            Source::Seeded if settings.num_legs == 0 => None,
-            Source::Seeded => Some(relay_sets(
+            Source::Seeded(_) if settings.num_legs == 0 => None,
+            Source::Seeded(rule) => Some(relay_sets(
+                *rule,
                 self.seed,
                 settings.num_legs,
                 self.model.mechanisms(),
-                settings.low,
-                settings.high,
+                (settings.low, settings.high),
             )),
         }
+    }
+
+    /// Whether its draw, if it has one, takes the seed: 27 where it does not.
+    pub fn takes_seed(&self) -> bool {
+        self.settings
+            .rule()
+            .is_none_or(|rule| rule.takes(self.seed))
     }
 
     pub fn line(&self, priors: &[f64], answer: &Result<Decoded, Refusal>) -> String {
@@ -117,7 +144,8 @@ impl DecodeCase {
         line.floats(&[settings.low, settings.high]);
         line.count(settings.stop);
         match &settings.source {
-            Source::Seeded => line.counts([&0, &0]),
+            Source::Seeded(Rule::ByShot) => line.counts([&0, &0]),
+            Source::Seeded(Rule::SeedXorLeg) => line.counts([&2, &0]),
             Source::Explicit(sets) => {
                 line.counts([&1, &sets.len()]);
                 sets.iter().for_each(|set| line.floats(set));
@@ -141,17 +169,22 @@ pub fn cases() -> Vec<DecodeCase> {
         let case = random_case(&mut random, number);
         // The same run with the drawn sets handed in, where they are short enough to write down.
         let twin = number % 9 == 0 && case.settings.num_legs <= 4 && case.model.mechanisms() <= 10;
-        if let (true, Source::Seeded, Some(sets)) =
-            (twin, &case.settings.source, case.explicit_sets())
-        {
-            let mut explicit = case.clone();
-            explicit.settings.source = Source::Explicit(sets);
-            cases.push(explicit);
-        }
+        cases.extend(twin.then(|| as_explicit(&case)).flatten());
         cases.push(case);
     }
     cases.extend([false, true].map(heavy));
+    cases.extend(by_shot());
     cases
+}
+
+/// The same case with the drawn sets handed in, if it draws any.
+fn as_explicit(case: &DecodeCase) -> Option<DecodeCase> {
+    let (Source::Seeded(_), Some(sets)) = (&case.settings.source, case.explicit_sets()) else {
+        return None;
+    };
+    let mut explicit = case.clone();
+    explicit.settings.source = Source::Explicit(sets);
+    Some(explicit)
 }
 
 /// A case from its parts.
@@ -183,7 +216,7 @@ pub fn heavy(serial: bool) -> DecodeCase {
     };
     let settings = Settings {
         serial,
-        ..Settings::default_point()
+        ..Settings::point_before()
     };
     let syndrome = model.syndrome_of(&[true, false, serial]);
     case(model, settings, syndrome)
@@ -207,10 +240,10 @@ fn fixed() -> Vec<DecodeCase> {
         case(Model::g(), Settings::plain(false, 2), vec![1, 0]),
         case(Model::g(), Settings::plain(true, 1), vec![1, 0]),
         case(Model::g(), Settings::plain(true, 2), vec![1, 0]),
-        case(Model::g(), Settings::default_point(), vec![1, 1]),
-        case(ring.clone(), Settings::default_point(), vec![1, 0, 1, 0, 0]),
+        case(Model::g(), Settings::point_before(), vec![1, 1]),
+        case(ring.clone(), Settings::point_before(), vec![1, 0, 1, 0, 0]),
         // An odd syndrome on a ring has no correction: every leg runs out.
-        case(ring.clone(), Settings::default_point(), vec![1, 0, 0, 0, 0]),
+        case(ring.clone(), Settings::point_before(), vec![1, 0, 0, 0, 0]),
     ];
     for serial in [false, true] {
         for probability in [crate::model::probability_of(2.0), 0.0, 0.5, 1.0] {
@@ -236,7 +269,7 @@ fn fixed() -> Vec<DecodeCase> {
 }
 
 /// Each of five mechanisms on two neighbouring checks of five.
-fn ring() -> Model {
+pub fn ring() -> Model {
     Model {
         checks: 5,
         probabilities: vec![0.05, 0.04, 0.03, 0.02, 0.01],
@@ -255,6 +288,89 @@ fn relayed(serial: bool) -> Settings {
         stop: 3,
         ..Settings::plain(serial, 2)
     }
+}
+
+/// The least number that 27 refuses.
+pub const TOO_LARGE: u64 = 1 << 48;
+
+/// Those with gammas drawn by shot, and their borders.
+fn by_shot() -> Vec<DecodeCase> {
+    let mut cases = Vec::new();
+    let of_shot = |case: DecodeCase, shot: u64| DecodeCase {
+        settings: case.settings.clone().drawn(Rule::ByShot),
+        seed: shot,
+        ..case
+    };
+    for serial in [false, true] {
+        // All 16 legs run. 40 and 41 are the seeds that share starts by the other rule.
+        let odd = case(ring(), relayed(serial), vec![1, 0, 0, 0, 0]);
+        for shot in [0, 1, 40, 41, TOO_LARGE - 1] {
+            cases.push(of_shot(odd.clone(), shot));
+        }
+        let even = case(ring(), relayed(serial), vec![1, 0, 1, 0, 0]);
+        let shot = of_shot(even, TOO_LARGE - 1);
+        cases.extend(as_explicit(&shot));
+        cases.push(shot);
+    }
+    cases.push(case(ring(), Settings::default_point(), vec![1, 0, 1, 0, 0]));
+    let mut random = SplitMix64::new(SEED_OF_SHOTS);
+    let most = cases.len() + RANDOM_BY_SHOT;
+    while cases.len() < most {
+        let case = random_case(&mut random, cases.len());
+        if case.settings.rule().is_none() {
+            continue;
+        }
+        let shot = some_shot(&mut random);
+        cases.push(of_shot(case, shot));
+    }
+    // 27, with legs and without, and what takes the same seeds.
+    for seed in [TOO_LARGE, u64::MAX] {
+        for serial in [false, true] {
+            let legs = case(Model::g(), relayed(serial), vec![1, 0]);
+            let none = case(Model::g(), Settings::plain(serial, 2), vec![1, 0]);
+            for case in [legs, none] {
+                cases.push(of_shot(case.clone(), seed));
+                cases.push(DecodeCase { seed, ..case });
+            }
+        }
+        cases.push(DecodeCase { seed, ..good() });
+    }
+    cases.extend(beside_27().into_iter().map(|(_, case)| case));
+    cases
+}
+
+/// A shot number that 27 takes: small, of any size, or about the limit.
+pub fn some_shot(random: &mut SplitMix64) -> u64 {
+    match random.below(4) {
+        0 => random.below(64) as u64,
+        1 => TOO_LARGE - 1 - random.below(64) as u64,
+        _ => random.draw() >> random.between(16, 63),
+    }
+}
+
+/// A shot number that is too large beside each other fault that a drawn case can have, with the number that must come first: 27 is behind all
+/// that the Rust tests, and before the legs, which would come to 30.
+pub fn beside_27() -> Vec<(usize, DecodeCase)> {
+    let too_large = DecodeCase {
+        settings: good().settings.drawn(Rule::ByShot),
+        seed: TOO_LARGE,
+        ..good()
+    };
+    let mut cases: Vec<(usize, DecodeCase)> = SPOILED
+        .iter()
+        .filter(|(code, _)| ![17, 19].contains(code))
+        .map(|(code, spoil)| {
+            let mut case = too_large.clone();
+            spoil(&mut case);
+            (*code, case)
+        })
+        .collect();
+    let mut huge = too_large;
+    huge.settings.alpha = 1e308;
+    cases.push((27, huge.clone()));
+    huge.seed = TOO_LARGE - 1;
+    cases.push((30, huge));
+    cases
 }
 
 /// Clips that 9 refuses.
@@ -463,7 +579,7 @@ fn borders() -> Vec<DecodeCase> {
         // The interval is tested for the seeded source too.
         with(&|case| {
             (case.settings.low, case.settings.high) = (low, high);
-            case.settings.source = Source::Seeded;
+            case.settings.source = Source::Seeded(Rule::SeedXorLeg);
         });
     }
     // An interval of one point, in both zeros, is good.
@@ -525,7 +641,7 @@ pub fn random_case(random: &mut SplitMix64, number: usize) -> DecodeCase {
         let sets = random.between(1, 4);
         Source::Explicit(random_sets(random, sets, mechanisms))
     } else {
-        Source::Seeded
+        Source::Seeded(Rule::SeedXorLeg)
     };
     let settings = Settings {
         serial: random.once_in(2),

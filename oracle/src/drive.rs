@@ -121,7 +121,12 @@ pub fn decode_by(
     let mut decoder = RelayBp::new(graph, config).map_err(number)?;
     assert_eq!(decoder.graph().mechanism_count(), mechanisms);
     assert_eq!(decoder.config().num_legs, case.settings.num_legs);
-    let outcome = decode(&mut decoder).map_err(number)?;
+    let outcome = decode(&mut decoder).map_err(number);
+    // 27 is ours: behind the Rust's tests, the last of which is 21, and before its legs.
+    if !case.takes_seed() && !matches!(&outcome, Err(refusal) if refusal.code <= 21) {
+        return Err(Refusal { code: 27, place: 0 });
+    }
+    let outcome = outcome?;
     assert_eq!(outcome.converged, outcome.weight.is_some());
     let legs = outcome.legs.into_iter().map(|leg| {
         assert_eq!(leg.converged, leg.weight.is_some());

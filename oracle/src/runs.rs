@@ -7,7 +7,9 @@ use crate::exact::bp::RelayConfig;
 use crate::exact::drive;
 use crate::graph_cases::GraphCase;
 use crate::model::{Model, find_probability};
-use crate::splitmix::SplitMix64;
+use crate::splitmix::{
+    PUBLISHED, PUBLISHED_LEG, PUBLISHED_SHOT, PUBLISHED_START, Rule, SplitMix64,
+};
 use crate::stores;
 use crate::tally::Tally;
 
@@ -211,38 +213,32 @@ fn nothing(tally: &mut Tally) {
 fn default_point(tally: &mut Tally) {
     let theirs = format!("{:?}", RelayConfig::default());
     let ours = Settings::default_point();
-    let holds = matches!(ours.source, Source::Seeded)
+    let holds = matches!(ours.source, Source::Seeded(Rule::ByShot))
         && theirs == format!("{:?}", drive::config(&ours, None));
     tally.check("default operating point", holds, &theirs);
 }
 
 /// The public outputs of SplitMix64, since the seeded sets and all the cases come of it.
 fn generator(tally: &mut Tally) {
-    let vectors: [(u64, [u64; 3]); 2] = [
-        (
-            0,
-            [
-                0xE220_A839_7B1D_CDAF,
-                0x6E78_9E6A_A1B9_65F4,
-                0x06C4_5D18_8009_454F,
-            ],
-        ),
-        (
-            1_234_567,
-            [
-                6_457_827_717_110_365_317,
-                3_203_168_211_198_807_973,
-                9_817_491_932_198_370_423,
-            ],
-        ),
+    let from_0 = [
+        0xE220_A839_7B1D_CDAF,
+        0x6E78_9E6A_A1B9_65F4,
+        0x06C4_5D18_8009_454F,
     ];
+    let vectors: [(u64, &[u64]); 2] = [(0, &from_0), (PUBLISHED_START, &PUBLISHED)];
     for (seed, wanted) in vectors {
         let mut generator = SplitMix64::new(seed);
-        let seen = [generator.draw(), generator.draw(), generator.draw()];
+        let seen: Vec<u64> = wanted.iter().map(|_| generator.draw()).collect();
         tally.check(
             &format!("SplitMix64 from {seed}"),
             seen == wanted,
             &format!("{seen:x?}"),
         );
     }
+    let start = Rule::ByShot.start(PUBLISHED_SHOT, PUBLISHED_LEG as u64);
+    tally.check(
+        &format!("the start of leg {PUBLISHED_LEG} of shot {PUBLISHED_SHOT}"),
+        start == PUBLISHED_START,
+        &start.to_string(),
+    );
 }

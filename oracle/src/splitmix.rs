@@ -1,5 +1,19 @@
 //! SplitMix64, the public algorithm: the source of the cases, and of the reference's seeded gammas.
 
+/// Where the published outputs below start, which is also where leg 54,919 of shot 18 does, by shot.
+pub const PUBLISHED_START: u64 = 1_234_567;
+pub const PUBLISHED_SHOT: u64 = 18;
+pub const PUBLISHED_LEG: usize = 54_919;
+
+/// Published outputs, the first five.
+pub const PUBLISHED: [u64; 5] = [
+    6_457_827_717_110_365_317,
+    3_203_168_211_198_807_973,
+    9_817_491_932_198_370_423,
+    4_593_380_528_125_082_431,
+    16_408_922_859_458_223_821,
+];
+
 #[derive(Clone)]
 pub struct SplitMix64 {
     state: u64,
@@ -70,11 +84,44 @@ impl SplitMix64 {
     }
 }
 
+/// Where the generator of a relayed leg starts.
+#[derive(Clone, Copy, Debug, PartialEq, Eq)]
+pub enum Rule {
+    /// At the stream number of the shot, which is the seed, and the leg.
+    ByShot,
+    /// At the seed xor one more than the leg.
+    SeedXorLeg,
+}
+
+impl Rule {
+    /// Whether it takes a seed: 27 where it does not.
+    pub fn takes(self, seed: u64) -> bool {
+        match self {
+            Self::ByShot => seed < 1 << 48,
+            Self::SeedXorLeg => true,
+        }
+    }
+
+    /// The start of a leg, from 1. Of a seed that is not taken it is cut to 64 bits, and nobody draws from it.
+    pub fn start(self, seed: u64, leg: u64) -> u64 {
+        match self {
+            Self::ByShot => (u128::from(seed) * 65_536 + u128::from(leg)) as u64,
+            Self::SeedXorLeg => seed ^ (leg + 1),
+        }
+    }
+}
+
 /// The gamma sets of the relayed legs 1 to `legs`, as the reference draws them.
-pub fn relay_sets(seed: u64, legs: usize, mechanisms: usize, low: f64, high: f64) -> Vec<Vec<f64>> {
+pub fn relay_sets(
+    rule: Rule,
+    seed: u64,
+    legs: usize,
+    mechanisms: usize,
+    (low, high): (f64, f64),
+) -> Vec<Vec<f64>> {
     (1..=legs as u64)
         .map(|leg| {
-            let mut generator = SplitMix64::new(seed ^ (leg + 1));
+            let mut generator = SplitMix64::new(rule.start(seed, leg));
             (0..mechanisms)
                 .map(|_| low + (high - low) * generator.unit())
                 .collect()

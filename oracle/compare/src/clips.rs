@@ -187,7 +187,7 @@ fn busy(random: &mut SplitMix64) -> DecodeCase {
         model,
         settings: decode_cases::Settings {
             serial: random.once_in(2),
-            ..decode_cases::Settings::default_point()
+            ..decode_cases::Settings::point_before()
         },
         seed: random.draw(),
     }
@@ -201,24 +201,46 @@ pub fn damaged(_: u64, random: &mut SplitMix64, counts: &mut Counts) {
         "stores of damaged decodes with a clip",
     ];
     let clip = some_clip(random);
-    compare_damaged(names, clip, random, counts);
+    compare_damaged(names, |_, _| {}, clip, random, counts);
 }
 
 /// All that a decode takes.
-struct Call {
-    given: Given,
-    settings: Settings,
-    gammas: Vec<f64>,
-    syndrome: Vec<u8>,
-    order: Vec<u32>,
-    left: Decode,
+pub struct Call {
+    pub given: Given,
+    pub settings: Settings,
+    pub gammas: Vec<f64>,
+    pub syndrome: Vec<u8>,
+    pub order: Vec<u32>,
+    pub left: Decode,
+}
+
+impl Call {
+    /// A good one over G, with two explicit sets, and what the building of its graph was answered.
+    pub fn good(serial: bool, random: &mut SplitMix64) -> (Self, Answer) {
+        let (given, built) = Given::built(&Model::g(), random);
+        let case = decode_cases::Settings {
+            num_legs: 2,
+            leg_iterations: 2,
+            source: Source::Explicit(vec![vec![0.25; 3]; 2]),
+            ..decode_cases::Settings::plain(serial, 2)
+        };
+        let call = Self {
+            left: Decode::filled(given.size, 3, 9),
+            given,
+            settings: settings_of(&case),
+            gammas: flat_of(&case),
+            syndrome: vec![1, 0],
+            order: vec![0, 1],
+        };
+        (call, built)
+    }
 }
 
 /// The number of a test, and what makes it refuse.
-type Fault = (u64, fn(&mut Call));
+pub type Fault = (u64, fn(&mut Call));
 
 /// Of every test of a decode that a small call can come to, but 9. 18 and 19 are of an explicit source.
-const FAULTS: [Fault; 18] = [
+pub const FAULTS: [Fault; 18] = [
     (1, |call| call.given.size.mechanisms = MOST_COUNT + 1),
     (2, |call| call.given.priors.push(0.0)),
     (4, |call| call.given.priors[1] = 31.0),
@@ -230,7 +252,9 @@ const FAULTS: [Fault; 18] = [
     (14, |call| call.settings.leg_iterations = 0),
     (15, |call| call.settings.low = f64::INFINITY),
     (16, |call| call.settings.stop = 0),
-    (17, |call| call.settings.sets = Some(0)),
+    (17, |call| {
+        call.settings.source = proved::Source::Explicit(0)
+    }),
     (18, |call| call.gammas.push(0.0)),
     (19, |call| call.gammas[4] = f64::NAN),
     (20, |call| call.syndrome.push(0)),
@@ -262,25 +286,8 @@ fn order_of_two(
     random: &mut SplitMix64,
     counts: &mut Counts,
 ) {
-    let (given, built) = Given::built(&Model::g(), random);
-    let case = decode_cases::Settings {
-        num_legs: 2,
-        leg_iterations: 2,
-        source: Source::Explicit(vec![vec![0.25; 3]; 2]),
-        ..decode_cases::Settings::plain(serial, 2)
-    };
-    let left = Decode::filled(given.size, 3, 9);
-    let mut call = Call {
-        given,
-        settings: Settings {
-            clip,
-            ..settings_of(&case)
-        },
-        gammas: flat_of(&case),
-        syndrome: vec![1, 0],
-        order: vec![0, 1],
-        left,
-    };
+    let (mut call, built) = Call::good(serial, random);
+    call.settings.clip = clip;
     let number = fault.map(|(number, _)| number);
     if let Some((_, spoil)) = fault {
         spoil(&mut call);

@@ -6,6 +6,7 @@ use crate::best::{self, Asked};
 use crate::clips;
 use crate::counts::Counts;
 use crate::damage::{damage_lists, nudge_length};
+use crate::draws;
 use crate::given::{Given, model_of};
 use crate::limits;
 use crate::rounds::{Part, Rate};
@@ -13,7 +14,7 @@ use crate::spoils;
 use crate::steps::random_order;
 use crate::table::{
     MOST_COUNT, MOST_TURNS, test, wanted_alpha, wanted_clip, wanted_lengths, wanted_lists,
-    wanted_mechanisms, wanted_names, wanted_stores, wanted_syndrome,
+    wanted_mechanisms, wanted_names, wanted_seed, wanted_stores, wanted_syndrome,
 };
 use oracle::answers::{Decoded, Refusal};
 use oracle::bits::is_zero;
@@ -23,7 +24,7 @@ use oracle::exact::drive;
 use oracle::model::Model;
 use oracle::open::bp::{BpGraph, with_priors};
 use oracle::open::drive as open;
-use oracle::splitmix::SplitMix64;
+use oracle::splitmix::{Rule, SplitMix64};
 use oracle::stores;
 use proved::{Answer, Clip, Decode, Settings, Shot, Size};
 use std::collections::BTreeSet;
@@ -83,6 +84,18 @@ pub const PARTS: &[Part] = &[
         rate: Rate::First(clips::ORDERS_OF_TESTS),
         case: clips::order_of_tests,
     },
+    Part {
+        rate: Rate::Each(1),
+        case: draws::small,
+    },
+    Part {
+        rate: Rate::Every(2),
+        case: draws::damaged,
+    },
+    Part {
+        rate: Rate::First(draws::FIXED),
+        case: draws::fixed,
+    },
 ];
 
 fn small(case: u64, random: &mut SplitMix64, counts: &mut Counts) {
@@ -123,7 +136,7 @@ fn of_two_minds(_: u64, random: &mut SplitMix64, counts: &mut Counts) {
             low,
             high,
             stop: random.between(2, 6),
-            ..CaseSettings::default_point()
+            ..CaseSettings::point_before()
         },
         seed: random.draw(),
     };
@@ -148,9 +161,10 @@ pub fn settings_of(case: &CaseSettings) -> Settings {
         low: case.low,
         high: case.high,
         stop: case.stop,
-        sets: match &case.source {
-            Source::Seeded => None,
-            Source::Explicit(sets) => Some(sets.len()),
+        source: match &case.source {
+            Source::Seeded(Rule::ByShot) => proved::Source::ByShot,
+            Source::Seeded(Rule::SeedXorLeg) => proved::Source::SeedXorLeg,
+            Source::Explicit(sets) => proved::Source::Explicit(sets.len()),
         },
     }
 }
@@ -169,16 +183,17 @@ pub fn case_of(settings: Settings, gammas: &[f64], mechanisms: usize) -> CaseSet
         low: settings.low,
         high: settings.high,
         stop: settings.stop,
-        source: match settings.sets {
-            None => Source::Seeded,
-            Some(sets) => Source::Explicit((0..sets).map(set).collect()),
+        source: match settings.source {
+            proved::Source::ByShot => Source::Seeded(Rule::ByShot),
+            proved::Source::SeedXorLeg => Source::Seeded(Rule::SeedXorLeg),
+            proved::Source::Explicit(sets) => Source::Explicit((0..sets).map(set).collect()),
         },
     }
 }
 
 pub fn flat_of(case: &CaseSettings) -> Vec<f64> {
     match &case.source {
-        Source::Seeded => Vec::new(),
+        Source::Seeded(_) => Vec::new(),
         Source::Explicit(sets) => sets.concat(),
     }
 }
@@ -532,31 +547,20 @@ pub fn large_case(case: u64, random: &mut SplitMix64) -> DecodeCase {
             num_legs,
             leg_iterations: 5,
             stop: 2,
-            ..CaseSettings::default_point()
+            ..CaseSettings::point_before()
         },
         seed: random.draw(),
     }
 }
 
-/// The published operating point, which the Rust's settings have by default.
+/// The published operating point, which the Rust's settings have by default, with the draw by shot.
 fn published(_: u64, _: &mut SplitMix64, counts: &mut Counts) {
     let ours = proved::published();
     let theirs = format!("{:?}", RelayConfig::default());
-    let case = CaseSettings {
-        serial: ours.serial,
-        alpha: ours.alpha,
-        clip: ours.clip.meant(),
-        gamma0: ours.gamma0,
-        pre_iterations: ours.pre_iterations,
-        num_legs: ours.num_legs,
-        leg_iterations: ours.leg_iterations,
-        low: ours.low,
-        high: ours.high,
-        stop: ours.stop,
-        source: Source::Seeded,
-    };
+    let case = case_of(ours, &[], 0);
     let is_off = (ours.clip.on, ours.clip.magnitude.to_bits()) == (0, 0);
-    let same = is_off && format!("{:?}", drive::config(&case, None)) == theirs;
+    let by_shot = ours.source == proved::Source::ByShot;
+    let same = is_off && by_shot && format!("{:?}", drive::config(&case, None)) == theirs;
     counts.check("decodes, the published point", Ok(()), same, || {
         format!("{ours:?} for {theirs}")
     });
@@ -582,7 +586,7 @@ pub fn wanted_settings(settings: Settings, gammas: &[f64], mechanisms: usize) ->
         15,
     )?;
     test(settings.stop > 0, 16)?;
-    let Some(sets) = settings.sets else {
+    let proved::Source::Explicit(sets) = settings.source else {
         return Ok(());
     };
     test(legs == 0 || sets > 0, 17)?;
@@ -594,12 +598,13 @@ pub fn wanted_settings(settings: Settings, gammas: &[f64], mechanisms: usize) ->
     }
 }
 
-/// What it says before the legs: 1, 2, 4, 7, 9 to 24, 29.
+/// What it says before the legs: 1, 2, 4, 7, 9 to 21, 27, 22 to 24, 29.
 pub fn wanted_before(given: &Given, settings: Settings, shot: Shot, left: &Decode) -> Answer {
     wanted_lists(given)?;
     let mechanisms = given.size.mechanisms;
     wanted_settings(settings, shot.gammas, mechanisms)?;
     wanted_syndrome(shot.syndrome, given.size.checks)?;
+    wanted_seed(settings, shot.seed)?;
     let legs = settings.num_legs;
     let rows = [
         left.leg_state.len(),
@@ -640,7 +645,10 @@ fn damage_settings(random: &mut SplitMix64, settings: &mut Settings) {
         7 => (settings.low, settings.high) = (-f64::MAX, f64::MAX),
         8 => (settings.low, settings.high) = (0.5, 0.25),
         9 => settings.stop = random.pick(&[0, 0, 1 << 32, usize::MAX]),
-        10 => settings.sets = Some(random.pick(&[0, 1, MOST_TURNS + 1, 1 << 32, usize::MAX])),
+        10 => {
+            let sets = random.pick(&[0, 1, MOST_TURNS + 1, 1 << 32, usize::MAX]);
+            settings.source = proved::Source::Explicit(sets);
+        }
         11 => settings.leg_iterations = MOST_TURNS,
         _ => settings.low = settings.high,
     }
@@ -653,18 +661,20 @@ fn damaged(_: u64, random: &mut SplitMix64, counts: &mut Counts) {
         "legs, best of damaged decodes",
         "stores of damaged decodes",
     ];
-    compare_damaged(names, Clip::OFF, random, counts);
+    compare_damaged(names, |_, _| {}, Clip::OFF, random, counts);
 }
 
-/// A call with a clip, damaged in one place or two.
+/// A call with a clip, of a case that may be changed first, damaged in one place or two.
 pub fn compare_damaged(
     [alone, name, lines, written]: [&'static str; 4],
+    change: fn(&mut DecodeCase, &mut SplitMix64),
     clip: Clip,
     random: &mut SplitMix64,
     counts: &mut Counts,
 ) {
     let round = random.below(2);
     let mut case = random_case(random, round);
+    change(&mut case, random);
     let (mut given, built) = Given::built(&case.model, random);
     let mut settings = settings_of(&case.settings);
     settings.clip = clip;

@@ -6,11 +6,11 @@ use crate::counts::Counts;
 use crate::decodes::{bits, case_of, check_stores, settings_of};
 use crate::given::Given;
 use crate::table::{MOST_COUNT, MOST_EDGES, MOST_TURNS, most_iterations, wanted_stores};
-use oracle::decode_cases::{DecodeCase, Settings as CaseSettings};
+use oracle::decode_cases::{DecodeCase, Settings as CaseSettings, TOO_LARGE};
 use oracle::model::Model;
 use oracle::splitmix::SplitMix64;
 use oracle::stores;
-use proved::{Answer, Decode, Settings, Shot};
+use proved::{Answer, Decode, Settings, Shot, Source};
 
 /// Mechanisms on every check there can be; mechanisms on one check besides; iterations of leg zero, legs, iterations of a leg; and whether 29
 /// lets it through.
@@ -43,7 +43,7 @@ fn settings(pre_iterations: usize, num_legs: usize, leg_iterations: usize) -> Se
         pre_iterations,
         num_legs,
         leg_iterations,
-        ..CaseSettings::default_point()
+        ..CaseSettings::point_before()
     })
 }
 
@@ -241,21 +241,33 @@ fn refused(
             ..good()
         },
     ];
-    for call in calls {
+    let mut ask = |name: &'static str, call: Asked, seed: u64| {
         let before = bits(&call.lists);
         let mut left = call.lists;
         let shot = Shot {
             gammas: &[],
             syndrome: call.syndrome,
-            seed: 1,
+            seed,
             order: call.order,
         };
         let answer = given.decode(call.settings, shot, &mut left);
         let good = *built == Ok(()) && answer == call.wanted && bits(&left) == before;
-        counts.check("decodes, of too many stores", call.wanted, good, || {
+        counts.check(name, call.wanted, good, || {
             format!("{answer:?} for {:?}: {settings:?}", call.wanted)
         });
+    };
+    for call in calls {
+        ask("decodes, of too many stores", call, 1);
     }
+    let by_shot = Asked {
+        settings: Settings {
+            source: Source::ByShot,
+            ..settings
+        },
+        wanted: Err((27, 0)),
+        ..good()
+    };
+    ask("decodes, of too many stores, 27", by_shot, TOO_LARGE);
 }
 
 /// A decode that is taken, and converges in its first iteration.
@@ -268,7 +280,7 @@ fn taken(
 ) {
     let gammas = vec![0.5; model.mechanisms()];
     let settings = Settings {
-        sets: Some(1),
+        source: Source::Explicit(1),
         ..settings
     };
     let shot = Shot {

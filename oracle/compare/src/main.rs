@@ -8,6 +8,7 @@ mod clips;
 mod counts;
 mod damage;
 mod decodes;
+mod draws;
 mod fronts;
 mod given;
 mod graphs;

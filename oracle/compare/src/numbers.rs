@@ -72,7 +72,7 @@ fn case(_: u64, g: &mut SplitMix64, counts: &mut Counts) {
         && same(proved::infinity(), f64::INFINITY)
         && proved::alpha_good(x) == (x.is_finite() && x > 0.0)
         && (proved::number_of(a), proved::place_of(a)) == (a & 0xFFFF, a >> 16)
-        && proved::is_of_shot(b % 64) == [20, 21, 30].contains(&(b % 64));
+        && proved::is_of_shot(b % 64) == [20, 21, 27, 30].contains(&(b % 64));
     counts.check("numbers", Ok(()), good, || {
         format!("x {x:e}, interval {low:e} to {high:e}, numbers {a:x} and {b:x}")
     });

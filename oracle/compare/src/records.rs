@@ -4,7 +4,7 @@
 use crate::counts::Counts;
 use crate::rounds::{Part, Rate};
 use oracle::bits::same;
-use oracle::splitmix::SplitMix64;
+use oracle::splitmix::{Rule, SplitMix64};
 use proved::streams::{self as calls, Line, MAX_PAYLOAD, Session};
 use streams::expect::{self, Asked};
 use streams::random;
@@ -18,32 +18,52 @@ pub const PARTS: &[Part] = &[
         rate: Rate::Each(1),
         case: lines,
     },
+    Part {
+        rate: Rate::Each(1),
+        case: stream_of_both,
+    },
 ];
 
 fn stream(_: u64, g: &mut SplitMix64, counts: &mut Counts) {
-    let stream = random::stream(g);
-    let wanted = expect::run(&stream);
-    let (found, session) = said(&stream);
-    // No stream says a clip.
+    let names = ["sessions", "readers", "lines, what they imply"];
+    compare(names, &random::stream(g), counts);
+}
+
+/// The same with settings of both kinds.
+fn stream_of_both(_: u64, g: &mut SplitMix64, counts: &mut Counts) {
+    let names = [
+        "sessions, of both kinds",
+        "readers, of both kinds",
+        "lines of both kinds, what they imply",
+    ];
+    compare(names, &random::stream_of_both(g), counts);
+}
+
+fn compare([sessions, readers, implied]: [&'static str; 3], stream: &[u8], counts: &mut Counts) {
+    let wanted = expect::run(stream);
+    let (found, session) = said(stream);
+    // No stream says a clip, and settings that were taken say their draw.
     let is_off = (session.words[CLIP_ON], session.floats[CLIP].to_bits()) == (0, 0);
-    let good = found == wanted.text.as_bytes() && is_off;
-    counts.check("sessions", Ok(()), good, || {
+    let is_drawn = match wanted.rule() {
+        Some(rule) if wanted.stopped.is_none() => session.words[SOURCE] == source_of(rule),
+        _ => true,
+    };
+    let good = found == wanted.text.as_bytes() && is_off && is_drawn;
+    counts.check(sessions, Ok(()), good, || {
         format!(
             "{stream:?} gave {:?}, wanted {:?}, {session:?}",
             String::from_utf8_lossy(&found),
             wanted.text
         )
     });
-    counts.check("readers", Ok(()), meets(&stream), || format!("{stream:?}"));
+    counts.check(readers, Ok(()), meets(stream), || format!("{stream:?}"));
     let text = String::from_utf8_lossy(&found);
     let lines: Vec<&str> = text.lines().collect();
     for asked in &wanted.decoded {
         // Each shot has a line, and nothing else has one before the last.
         let line = lines.get(asked.number).copied().unwrap_or_default();
         let good = is_implied(line, asked).unwrap_or(false);
-        counts.check("lines, what they imply", Ok(()), good, || {
-            format!("{line:?}: {asked:?}")
-        });
+        counts.check(implied, Ok(()), good, || format!("{line:?}: {asked:?}"));
     }
 }
 
@@ -76,9 +96,18 @@ fn bit(digit: &[u8]) -> Option<bool> {
     }
 }
 
-/// Where a session has its settings' clip: among the words and among the floats.
+/// Where a session has its settings' clip, among the words and among the floats, and the source of their gammas.
 const CLIP_ON: usize = 21;
 const CLIP: usize = 4;
+const SOURCE: usize = 19;
+
+/// A draw as the calls name its source.
+fn source_of(rule: Rule) -> usize {
+    match rule {
+        Rule::ByShot => 0,
+        Rule::SeedXorLeg => 2,
+    }
+}
 
 /// What a session says of a stream, and what it is then.
 fn said(stream: &[u8]) -> (Vec<u8>, Session) {
@@ -142,7 +171,8 @@ fn is_read(reader: &calls::Reader, payload: &[u8], record: &[u8]) -> bool {
         && (expect::verdict(kind as u16, bytes, true).is_some()
             || match kind {
                 1 => is_model(reader, payload, bytes),
-                2 => is_settings(payload, bytes),
+                2 => is_settings(Rule::SeedXorLeg, kind, payload, bytes),
+                4 => is_settings(Rule::ByShot, kind, payload, bytes),
                 _ => calls::read_seed(payload) == number(&bytes[..8]),
             })
 }
@@ -186,9 +216,10 @@ fn is_model(reader: &calls::Reader, payload: &[u8], bytes: &[u8]) -> bool {
         && lists.2 == detectors
 }
 
-/// Whether settings that 41 to 45 let through are read as their bytes lie.
-fn is_settings(payload: &[u8], bytes: &[u8]) -> bool {
-    let (schedule, [floats @ .., clip], [counts @ .., clip_on]) = calls::read_settings(payload);
+/// Whether settings that 41 to 45 let through are read as their bytes lie, and with the draw of their kind.
+fn is_settings(rule: Rule, kind: usize, payload: &[u8], bytes: &[u8]) -> bool {
+    let (schedule, [floats @ .., clip], [counts @ .., clip_on, source]) =
+        calls::read_settings(kind, payload);
     let wanted = [1, 9, 29, 37].map(|place| float(&bytes[place..place + 8]));
     schedule == bytes[0]
         && floats
@@ -198,6 +229,7 @@ fn is_settings(payload: &[u8], bytes: &[u8]) -> bool {
         && counts == [17, 21, 25, 45].map(|place| number(&bytes[place..place + 4]))
         // They say no clip, and mean that it is off.
         && (clip_on, clip.to_bits()) == (0, 0)
+        && source as usize == source_of(rule)
 }
 
 /// A line over the front of a list whose surplus is kept.

@@ -4,7 +4,7 @@
 use crate::given::{Given, rust};
 use oracle::graph_cases::{GraphCase, Incidence};
 use oracle::stores;
-use proved::{Answer, Clip, Lists, Settings, Size};
+use proved::{Answer, Clip, Lists, Settings, Size, Source};
 use std::collections::BTreeSet;
 
 pub const MOST_COUNT: usize = 65_536;
@@ -232,6 +232,11 @@ pub fn wanted_names(order: &[u32], checks: usize) -> Answer {
 /// The most iterations that a decode with these settings can take, once they have passed 12 to 14.
 pub fn most_iterations(settings: Settings) -> u64 {
     (settings.pre_iterations + settings.num_legs * settings.leg_iterations) as u64
+}
+
+/// 27: by shot the seed is a number of 48 bits.
+pub fn wanted_seed(settings: Settings, seed: u64) -> Answer {
+    test(settings.source != Source::ByShot || seed >> 48 == 0, 27)
 }
 
 /// 29: by the formula, at the most iterations.

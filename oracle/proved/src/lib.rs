@@ -212,7 +212,26 @@ pub fn iteration(
     ))
 }
 
-/// The settings of Relay; `sets` where the gammas are explicit, and drawn from the seed where it is none.
+/// Where the gammas of relayed legs come from: drawn by a rule, or as many explicit sets.
+#[derive(Clone, Copy, Debug, PartialEq, Eq)]
+pub enum Source {
+    ByShot,
+    SeedXorLeg,
+    Explicit(usize),
+}
+
+impl Source {
+    /// As the calls take it: a byte, and how many sets.
+    fn said(self) -> (u8, usize) {
+        match self {
+            Self::ByShot => (calls::BY_SHOT, 0),
+            Self::SeedXorLeg => (calls::SEED_XOR_LEG, 0),
+            Self::Explicit(sets) => (calls::EXPLICIT, sets),
+        }
+    }
+}
+
+/// The settings of Relay.
 #[derive(Clone, Copy, Debug)]
 pub struct Settings {
     pub serial: bool,
@@ -225,11 +244,12 @@ pub struct Settings {
     pub low: f64,
     pub high: f64,
     pub stop: usize,
-    pub sets: Option<usize>,
+    pub source: Source,
 }
 
 impl Settings {
     fn with<'a>(self, gammas: &'a [f64]) -> calls::Settings<'a> {
+        let (source, sets) = self.source.said();
         calls::Settings {
             schedule: u8::from(self.serial),
             alpha: self.alpha,
@@ -242,8 +262,8 @@ impl Settings {
             gamma_low: self.low,
             gamma_high: self.high,
             stop_after_converged: self.stop,
-            explicit: u8::from(self.sets.is_some()),
-            sets: self.sets.unwrap_or(0),
+            source,
+            sets,
             gammas,
         }
     }
@@ -253,8 +273,10 @@ impl Settings {
 pub fn published() -> Settings {
     let (schedule, floats, counts) = calls::published();
     let [alpha, gamma0, low, high, magnitude] = floats;
-    let [pre_iterations, num_legs, leg_iterations, stop, on] = counts.map(|count| count as usize);
+    let [pre_iterations, num_legs, leg_iterations, stop, on, source] =
+        counts.map(|count| count as usize);
     let on = on as u8;
+    let sources = [Source::ByShot, Source::Explicit(0), Source::SeedXorLeg];
     Settings {
         serial: schedule != 0,
         alpha,
@@ -266,7 +288,7 @@ pub fn published() -> Settings {
         low,
         high,
         stop,
-        sets: None,
+        source: sources[source],
     }
 }
 

@@ -53,12 +53,13 @@ unsafe extern "C" {
         detectors_len: usize,
     );
 
-    /// Writes the floats and counts of a settings' payload, as `chowderkite_published` does. Answers the schedule.
+    /// Writes the floats and counts of a settings' payload of a kind, as `chowderkite_published` does. Answers the schedule.
     unsafe fn chowderkite_read_settings(
+        kind: usize,
         payload: *const u8,
         payload_len: usize,
         floats: *mut [f64; 5],
-        counts: *mut [u64; 5],
+        counts: *mut [u64; 6],
     ) -> u8;
 
     /// The seed of a shot's payload.
@@ -155,12 +156,18 @@ pub fn read_model(
     }
 }
 
-/// The settings of their payload, as `chowderkite_sys::calls::published` has them.
-pub fn read_settings(payload: &[u8]) -> (u8, [f64; 5], [u64; 5]) {
-    let (mut floats, mut counts) = ([0.0; 5], [0; 5]);
+/// The settings of their payload, of a kind, as `chowderkite_sys::calls::published` has them.
+pub fn read_settings(kind: usize, payload: &[u8]) -> (u8, [f64; 5], [u64; 6]) {
+    let (mut floats, mut counts) = ([0.0; 5], [0; 6]);
     // SAFETY: as in `push`.
     let schedule = unsafe {
-        chowderkite_read_settings(payload.as_ptr(), payload.len(), &mut floats, &mut counts)
+        chowderkite_read_settings(
+            kind,
+            payload.as_ptr(),
+            payload.len(),
+            &mut floats,
+            &mut counts,
+        )
     };
     (schedule, floats, counts)
 }

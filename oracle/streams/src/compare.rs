@@ -6,9 +6,9 @@ use crate::expect;
 use crate::program::{LONGEST_PACKET, Program};
 use crate::random;
 use crate::stream::{Model, Settings};
-use oracle::decode_cases::{Source, random_case};
+use oracle::decode_cases::{random_case, some_shot};
 use oracle::exact::drive;
-use oracle::splitmix::SplitMix64;
+use oracle::splitmix::{Rule, SplitMix64};
 use std::fs::File;
 use std::path::{Path, PathBuf};
 use std::process::Output;
@@ -46,7 +46,12 @@ pub fn run(program: &Program, count: u64, seed: u64) -> std::io::Result<Score> {
             eprintln!("streams: {number} of {count}, {} failed", score.failed);
         }
         let mut random = random_of(seed, number);
-        let stream = random::stream(&mut random);
+        // Every other stream has settings of both kinds.
+        let stream = if number % 2 == 0 {
+            random::stream(&mut random)
+        } else {
+            random::stream_of_both(&mut random)
+        };
         let wanted = expect::run(&stream);
         counts.add(&wanted);
         bytes += stream.len();
@@ -121,7 +126,13 @@ fn copies(count: u64, seed: u64, score: &mut Score) {
     let mut same = 0;
     for round in 0..count {
         let mut case = random_case(&mut random, round as usize);
-        case.settings.source = Source::Seeded;
+        if round % 2 == 0 {
+            case.settings = case.settings.drawn(Rule::SeedXorLeg);
+        } else {
+            // A shot number of the case's own, so that the cases to come stay what they are.
+            case.seed = some_shot(&mut SplitMix64::new(case.seed));
+            case.settings = case.settings.drawn(Rule::ByShot);
+        }
         let published = match drive::decode(&case) {
             Ok(outcome) => Ok(Decoded {
                 converged: outcome.weight.is_some(),

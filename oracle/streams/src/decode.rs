@@ -40,11 +40,11 @@ pub fn decode(
     syndrome: &[u8],
 ) -> Result<Decoded, NotFinite> {
     let sets = relay_sets(
+        settings.rule,
         seed,
         settings.legs as usize,
         model.mechanisms.len(),
-        settings.low,
-        settings.high,
+        (settings.low, settings.high),
     );
     let config = RelayConfig {
         schedule: if settings.schedule == 0 {
@@ -71,6 +71,6 @@ pub fn decode(
             bits: outcome.correction,
         }),
         Err(DecoderError::InternalError(_)) => Err(NotFinite),
-        Err(error) => panic!("20 and 21 let the shot through, and the Rust says {error:?}"),
+        Err(error) => panic!("20, 21 and 27 let the shot through, and the Rust says {error:?}"),
     }
 }

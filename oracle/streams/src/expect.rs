@@ -2,7 +2,8 @@
 //! crates. The decodes are the Rust's.
 
 use crate::decode::{Decoded, NotFinite, decode};
-use crate::stream::{MODEL, Mechanism, Model, SETTINGS, SHOT, Settings};
+use crate::stream::{MODEL, Mechanism, Model, SETTINGS, SETTINGS_BY_SHOT, SHOT, Settings};
+use oracle::splitmix::Rule;
 
 /// A number of refusal.
 pub type Code = u32;
@@ -58,7 +59,7 @@ fn test(good: bool, code: Code) -> Result<(), Code> {
 pub fn verdict(kind: u16, payload: &[u8], has_both: bool) -> Option<Code> {
     let answer = match kind {
         MODEL => read_model(payload).err(),
-        SETTINGS => read_settings(payload).err(),
+        SETTINGS | SETTINGS_BY_SHOT => read_settings(kind, payload).err(),
         SHOT if payload.len() < 8 => Some(42),
         SHOT if !has_both => Some(43),
         SHOT => (payload.len() > 136).then_some(44),
@@ -77,14 +78,19 @@ impl Run {
         let payload = &fields.0[..length];
         match kind {
             MODEL => self.model = Some(read_model(payload)?),
-            SETTINGS => self.settings = Some(read_settings(payload)?),
+            SETTINGS | SETTINGS_BY_SHOT => self.settings = Some(read_settings(kind, payload)?),
             SHOT => self.take_shot(payload)?,
             _ => return Err(41),
         }
         Ok(6 + length)
     }
 
-    /// A shot: 42, 43 and 44 end the run; 20, 21 and 30 are a line.
+    /// The rule of the settings that hold, none where there are none.
+    pub fn rule(&self) -> Option<Rule> {
+        self.settings.map(|settings| settings.rule)
+    }
+
+    /// A shot: 42, 43 and 44 end the run; 20, 21, 27 and 30 are a line.
     fn take_shot(&mut self, payload: &[u8]) -> Result<(), Code> {
         test(payload.len() >= 8, 42)?;
         let (Some(model), Some(settings)) = (&self.model, &self.settings) else {
@@ -97,6 +103,8 @@ impl Run {
             Err(20)
         } else if syndrome.iter().any(|&byte| byte > 1) {
             Err(21)
+        } else if settings.rule == Rule::ByShot && seed >= 1 << 48 {
+            Err(27)
         } else {
             decode(model, settings, seed, syndrome).map_err(|NotFinite| 30)
         };
@@ -146,12 +154,17 @@ fn read_model(payload: &[u8]) -> Result<Model, Code> {
     Ok(model)
 }
 
-/// Settings: 42, 44, 45, then 10 to 16. 13 can't come: more legs than its limit are beyond the room.
-fn read_settings(payload: &[u8]) -> Result<Settings, Code> {
+/// Settings of either kind: 42, 44, 45, then 10 to 16. 13 can't come: more legs than its limit are beyond the room.
+fn read_settings(kind: u16, payload: &[u8]) -> Result<Settings, Code> {
     test(payload.len() == 49, 42)?;
     let mut fields = Fields(payload);
     // The fields are read in the order in which they stand here.
     let settings = Settings {
+        rule: if kind == SETTINGS {
+            Rule::SeedXorLeg
+        } else {
+            Rule::ByShot
+        },
         schedule: fields.u8(),
         alpha: fields.f64(),
         gamma0: fields.f64(),
@@ -163,6 +176,7 @@ fn read_settings(payload: &[u8]) -> Result<Settings, Code> {
         stop: fields.u32(),
     };
     let Settings {
+        rule: _,
         schedule,
         alpha,
         gamma0,

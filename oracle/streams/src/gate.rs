@@ -2,11 +2,13 @@
 //! ones names what it is to come to, so that the expectation is held to the case and not to itself.
 
 mod contents;
+mod draws;
 mod records;
 mod whole;
 
 use crate::counts::Counts;
 use crate::expect::{self, Code};
+use crate::random;
 use crate::stream::Stream;
 use oracle::tally::Tally;
 use std::path::{Path, PathBuf};
@@ -86,7 +88,13 @@ pub fn cases() -> Vec<Case> {
     records::long_records(&mut cases);
     whole::full_room(&mut cases);
     records::every_cut(&mut cases);
-    whole::drawn(&mut cases);
+    let (kind_2, both) = (random::stream, random::stream_of_both);
+    whole::drawn(&mut cases, "drawn", 160, 0x0064_7261_776e, kind_2);
+    draws::whole_runs(&mut cases);
+    draws::refused_shots(&mut cases);
+    draws::faults(&mut cases);
+    let name = "drawn, of both kinds";
+    whole::drawn(&mut cases, name, 40, 0x6472_6177_6e02, both);
     cases.0
 }
 
@@ -113,6 +121,15 @@ pub fn run(tally: &mut Tally, list: bool) {
     );
     write(tally, "shots", "stdin", &document);
     write(tally, "shots", "stdout", text.as_bytes());
+
+    let lines = draws::of_either_kind().map(|stream| expect::run(&stream.bytes).text);
+    let others = lines[0].lines().zip(lines[1].lines());
+    let others = others.filter(|(one, other)| one != other).count();
+    tally.check(
+        "the same shots behind either kind of settings",
+        others > 0,
+        &format!("{others} lines differ"),
+    );
 
     let (stream, codes) = whole::pieces();
     let case = Case {
@@ -158,7 +175,7 @@ pub fn run(tally: &mut Tally, list: bool) {
     counts.print();
     // 1, 2, 3 and 13 can't come of a stream.
     let missing: Vec<Code> = (4..=6)
-        .chain([10, 11, 12, 14, 15, 16, 20, 21, 30])
+        .chain([10, 11, 12, 14, 15, 16, 20, 21, 27, 30])
         .chain(40..=45)
         .filter(|code| !counts.has(*code))
         .collect();

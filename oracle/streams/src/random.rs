@@ -1,17 +1,28 @@
 //! Random streams: several models and settings, refused shots between good ones, and in about half of them something spoiled.
 
-use crate::stream::{MODEL, Mechanism, Model, SETTINGS, SHOT, Settings, Stream};
+use crate::stream::{MODEL, Mechanism, Model, SHOT, Settings, Stream};
+use oracle::decode_cases::{TOO_LARGE, some_shot};
 use oracle::exact::drive;
 use oracle::model::{even_degree, random_model};
-use oracle::splitmix::SplitMix64;
+use oracle::splitmix::{Rule, SplitMix64};
 
 const MOST_CHECKS: usize = 128;
 const MOST_MECHANISMS: usize = 256;
 const MOST_EDGES: usize = 512;
 
-/// A stream of a few records.
+/// A stream of a few records, with settings of kind 2 alone.
 pub fn stream(random: &mut SplitMix64) -> Vec<u8> {
+    made(false, random)
+}
+
+/// The same with settings of kinds 2 and 4.
+pub fn stream_of_both(random: &mut SplitMix64) -> Vec<u8> {
+    made(true, random)
+}
+
+fn made(both: bool, random: &mut SplitMix64) -> Vec<u8> {
     let mut maker = Maker {
+        both,
         // In a third of the streams each record may have a fault of its own.
         faults: random.once_in(3),
         ..Maker::default()
@@ -48,6 +59,8 @@ struct Maker {
     starts: Vec<usize>,
     /// The last model, for shots that fit it.
     model: Option<Model>,
+    /// Whether there are settings of kind 4 too.
+    both: bool,
     faults: bool,
 }
 
@@ -74,6 +87,9 @@ impl Maker {
 
     fn add_settings(&mut self, random: &mut SplitMix64) {
         let mut settings = some_settings(random);
+        if self.both && random.once_in(2) {
+            settings = settings.by_shot();
+        }
         if self.is_faulty(random) {
             faulty_settings(random, &mut settings);
         }
@@ -81,7 +97,7 @@ impl Maker {
         if self.faults && random.once_in(40) {
             payload.resize(random.pick(&[0, 1, 48, 50, 5000]), 0);
         }
-        self.add(SETTINGS, &payload);
+        self.add(settings.kind(), &payload);
     }
 
     fn add_shot(&mut self, random: &mut SplitMix64) {
@@ -105,6 +121,9 @@ impl Maker {
             syndrome.resize(random.pick(&[129, 130, 1000, 6000]), 1);
         }
         let seed = match random.below(8) {
+            // Mostly shot numbers, and some on the other side of their limit.
+            0 if self.both => TOO_LARGE + random.below(64) as u64,
+            1..=6 if self.both => some_shot(random),
             0 => random.below(64) as u64,
             1 => u64::MAX - random.below(64) as u64,
             _ => random.draw(),
@@ -119,7 +138,7 @@ impl Maker {
 
     /// A kind that there is not, of any length: now and then megabytes.
     fn add_foreign(&mut self, random: &mut SplitMix64) {
-        let kind = random.pick(&[0, 4, 5, 256, 257, 258, 259, u16::MAX]);
+        let kind = random.pick(&[0, 6, 5, 256, 257, 258, 259, u16::MAX]);
         let length = long(random);
         self.add(kind, &vec![random.draw() as u8; length]);
     }
@@ -202,6 +221,7 @@ fn some_settings(random: &mut SplitMix64) -> Settings {
         _ => random.pick(&[5, 10, 15, 16]),
     };
     let mut settings = Settings {
+        rule: Rule::SeedXorLeg,
         schedule: random.below(2) as u8,
         alpha: random.pick(&[0.5, 0.625, 0.75, 0.9, 1.0, 1.0, 1.0, 1.0, 1.25, 2.0]),
         gamma0: random.pick(&[0.0, 0.1, 0.1, 0.5, 0.9, -0.2, -1.0]),

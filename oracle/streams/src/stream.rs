@@ -3,6 +3,7 @@
 use oracle::decode_cases;
 use oracle::exact::drive;
 use oracle::model::{self, parities};
+use oracle::splitmix::Rule;
 
 #[derive(Clone, Debug)]
 pub struct Mechanism {
@@ -18,6 +19,8 @@ pub struct Model {
 
 #[derive(Clone, Copy, Debug)]
 pub struct Settings {
+    /// Said by the record's kind, and not in the payload.
+    pub rule: Rule,
     /// 0 is Flooding, 1 CheckSerial.
     pub schedule: u8,
     pub alpha: f64,
@@ -31,8 +34,11 @@ pub struct Settings {
 }
 
 pub const MODEL: u16 = 1;
+/// Settings with the draw from the seed xor the leg.
 pub const SETTINGS: u16 = 2;
 pub const SHOT: u16 = 3;
+/// The same bytes with the draw by shot.
+pub const SETTINGS_BY_SHOT: u16 = 4;
 
 impl Model {
     pub fn new(checks: u32, mechanisms: &[(f64, &[u32])]) -> Self {
@@ -122,13 +128,31 @@ impl Settings {
         }
     }
 
-    /// Settings of a case, whatever their source.
+    /// The same, drawn by shot.
+    pub fn by_shot(self) -> Self {
+        Self {
+            rule: Rule::ByShot,
+            ..self
+        }
+    }
+
+    /// The kind of their record.
+    pub fn kind(&self) -> u16 {
+        match self.rule {
+            Rule::ByShot => SETTINGS_BY_SHOT,
+            Rule::SeedXorLeg => SETTINGS,
+        }
+    }
+
+    /// Settings of a case that draws its gammas.
+    ///
     /// # Panics
     ///
-    /// If they have a clip, which no record says.
+    /// If they have a clip or explicit sets, which no record says.
     pub fn of(case: &decode_cases::Settings) -> Self {
         assert_eq!(case.clip, None);
         Self {
+            rule: case.rule().expect("a rule of the draw"),
             schedule: u8::from(case.serial),
             alpha: case.alpha,
             gamma0: case.gamma0,
@@ -190,7 +214,7 @@ impl Stream {
     }
 
     pub fn settings(self, settings: &Settings) -> Self {
-        self.record(SETTINGS, &settings.payload())
+        self.record(settings.kind(), &settings.payload())
     }
 
     pub fn shot(self, seed: u64, syndrome: &[u8]) -> Self {

@@ -115,7 +115,7 @@ pub(super) fn models(cases: &mut Cases) {
 }
 
 type Change = fn(&mut Settings);
-type Spoil = (Code, &'static str, Change);
+pub(super) type Spoil = (Code, &'static str, Change);
 
 /// Ways to spoil good settings, by the number that each earns, in the order of the tests.
 const SPOILED: [Spoil; 38] = [
@@ -214,15 +214,20 @@ pub(super) fn settings(cases: &mut Cases) {
     }
 }
 
-/// Two faults in one record: the test that comes first counts.
-pub(super) fn which_wins(cases: &mut Cases) {
-    // Of each number the first way, so that no two touch the same field.
+/// Of each number the first way, so that no two touch the same field.
+pub(super) fn firsts() -> Vec<Spoil> {
     let mut firsts: Vec<Spoil> = Vec::new();
     for spoil in SPOILED {
         if firsts.iter().all(|(code, _, _)| *code != spoil.0) {
             firsts.push(spoil);
         }
     }
+    firsts
+}
+
+/// Two faults in one record: the test that comes first counts.
+pub(super) fn which_wins(cases: &mut Cases) {
+    let firsts = firsts();
     for (place, (code, name, spoil)) in firsts.iter().enumerate() {
         for (_, later, spoil_again) in &firsts[place + 1..] {
             let mut settings = Settings::relayed(0, 2, 2, 2, 1);

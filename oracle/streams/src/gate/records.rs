@@ -39,7 +39,7 @@ pub(super) fn cut(cases: &mut Cases) {
 /// 41.
 pub(super) fn kinds(cases: &mut Cases) {
     let g = Model::g().payload();
-    for kind in [0, 4, 5, 255, 256, 257, 258, 259, 0x0300, u16::MAX] {
+    for kind in [0, 6, 5, 255, 256, 257, 258, 259, 0x0300, u16::MAX] {
         let name = format!("kind {kind}");
         cases.stops(41, &name, Stream::new().record(kind, &g));
         cases.stops(41, &name, Stream::new().record(kind, &[]));

@@ -108,7 +108,7 @@ pub(super) fn document_runs(cases: &mut Cases) {
 }
 
 /// A ring of checks, with two detectors a mechanism.
-fn ring(checks: u32, prior: f64) -> Model {
+pub(super) fn ring(checks: u32, prior: f64) -> Model {
     let lists: Vec<[u32; 2]> = (0..checks).map(|c| [c, (c + 1) % checks]).collect();
     let mechanisms: Vec<(f64, &[u32])> = lists
         .iter()
@@ -298,16 +298,21 @@ pub(super) fn pieces() -> (Stream, Vec<Code>) {
     (stream, codes)
 }
 
-/// Short streams as `compare` draws them.
-pub(super) fn drawn(cases: &mut Cases) {
-    const COUNT: usize = 160;
+/// So many short streams as `compare` draws them.
+pub(super) fn drawn(
+    cases: &mut Cases,
+    name: &str,
+    count: usize,
+    seed: u64,
+    draw: fn(&mut SplitMix64) -> Vec<u8>,
+) {
     const LONGEST: usize = 900;
-    let mut random = SplitMix64::new(0x0064_7261_776e);
+    let mut random = SplitMix64::new(seed);
     let mut kept = 0;
-    while kept < COUNT {
-        let bytes = random::stream(&mut random);
+    while kept < count {
+        let bytes = draw(&mut random);
         if bytes.len() <= LONGEST {
-            cases.add("drawn", Stream::new().raw(&bytes), ComesTo::Either);
+            cases.add(name, Stream::new().raw(&bytes), ComesTo::Either);
             kept += 1;
         }
     }
