@@ -10,13 +10,14 @@
 
 enum { MOST = 16, LEGS = 2 };
 
-/* A decode, as chowderkite.h of version 4 declares it. Version 3, before T-10, has no clip. */
+/* A decode, as chowderkite.h of versions 4 and 5 declares it: both have 1 for explicit gammas, which all decodes here have. Version 3, before
+ * T-10, has no clip. */
 #define IN(type, list) const type *list, size_t list##_len
 #define OUT(type, list) type *list, size_t list##_len
 #define GRAPH size_t checks, size_t mechanisms, size_t edges, IN(double, priors), IN(uint32_t, check_var), IN(uint32_t, check_offset), \
     IN(uint32_t, var_check), IN(uint32_t, var_message), IN(uint32_t, var_offset)
 #define REST double gamma0, size_t pre_iterations, size_t num_legs, size_t leg_iterations, double gamma_low, double gamma_high, \
-    size_t stop_after_converged, uint8_t explicit_gammas, size_t sets, IN(double, gammas), IN(uint8_t, syndrome), uint64_t seed, \
+    size_t stop_after_converged, uint8_t gamma_source, size_t sets, IN(double, gammas), IN(uint8_t, syndrome), uint64_t seed, \
     OUT(uint8_t, leg_state), OUT(uint32_t, leg_steps), OUT(double, leg_weight), OUT(uint8_t, rows), OUT(uint8_t, correction), \
     OUT(double, posterior), OUT(double, gamma), OUT(double, bias), OUT(double, c_to_v), OUT(double, v_to_c), uint64_t counts[4], \
     double weight[1]
@@ -165,7 +166,7 @@ int main(int argc, char **argv) {
         }
         if (!first) first = library;
         archives[i] = (Archive){word[0], ((Version *)found(library, "chowderkite_version"))(), found(library, "chowderkite_decode"), *word[2] != 0, atof(word[2])};
-        if (archives[i].version != 3 && archives[i].version != 4) {
+        if (archives[i].version < 3 || archives[i].version > 5) {
             fprintf(stderr, "bench/archives: version %llu is not known here\n", (unsigned long long)archives[i].version);
             return 1;
         }

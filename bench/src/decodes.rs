@@ -61,7 +61,7 @@ pub fn settings(serial: bool) -> Settings {
         low: point.low,
         high: point.high,
         stop: point.stop,
-        sets: Some(LEGS),
+        source: proved::Source::Explicit(LEGS),
     }
 }
 
