@@ -39,7 +39,7 @@ seedGood (Explicit sets) seed = true
 seedGood (Seeded ByShot) seed = ltb seed (2 ^ 48)
 seedGood (Seeded SeedXorLeg) seed = true
 
--- 27
+-- 27: a seed that its source does not take
 unfoldable pub seedFault : GammaSource → ℕ → Answer
 seedFault source seed = unless (seedGood source seed) ShotTooLarge
 
