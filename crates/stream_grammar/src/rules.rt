@@ -1,7 +1,8 @@
 // The tests 41 to 45, each by itself.
 ghost use mathlib.Core.Path.{_≡_};
 ghost use mathlib.Core.Bool.{_||_, not};
-ghost use Rattle.stream_grammar.specs.Stream.{isSettings, kindGood, countsFit, lengthGood, timeGood, countsWithin, roomGood, scheduleGood};
+ghost use Rattle.stream_grammar.specs.Stream.{isSettings, kindGood, countsFit, lengthGood, timeGood, countsWithin};
+ghost use Rattle.stream_grammar.specs.Stream.{roomGood, scheduleGood};
 use numbers::limits::ROOM_CHECKS;
 use numbers::limits::ROOM_EDGES;
 use numbers::limits::ROOM_LEGS;
