@@ -65,7 +65,7 @@ shotLine n converged total legs bits =
 unfoldable pub numbersLine : List ℕ → ℕ → List ℕ → ℕ → List ℕ
 numbersLine v a w b = (numbered v a ++ numbered w b) ++ newline
 
--- a shot that was refused, with 20, 21 or 30
+-- a shot that was refused, with 20, 21, 27 or 30
 unfoldable pub refusedLine : ℕ → ℕ → List ℕ
 refusedLine n code = numbersLine shotWord n refusedWord code
 
