@@ -1,7 +1,7 @@
 -- Tests 2 and 7 over six lists: over converted lists they say what those over five say, and where 7 is passed each number is its place. Assumes nothing.
 use Prim.Native.Nat.{ℕ, ◌<◌}
 use mathlib.Core.Path.{◌≡◌, refl, sym, ◌∙◌, ap}
-use mathlib.Core.Bool.{Bool, true, false, ◌&&◌, and_false}
+use mathlib.Core.Bool.{Bool, true, false, ◌&&◌, and-false}
 use mathlib.Core.List.{List}
 use mathlib.Core.Logic.{◌↔◌, ⊎_elim}
 use lib.Dec.{eqb}
@@ -96,7 +96,7 @@ module _ (edges : ℕ) (priors : List Float) (o : Numbered) (sizes : sizes_good 
   -- a list of numbers of another length does not fit
   length_unfit : (length o.check_message ≡ edges → ⊥) → (eqb (length priors) o.mechanisms && numbered_fits edges o) ≡ false
   unfolding numbered_fits
-  length_unfit h = rw (ne_eqb _ _ h, and_false (graph_fits edges (without_numbers o))) (and_false (eqb (length priors) o.mechanisms))
+  length_unfit h = rw (ne_eqb _ _ h, and-false (graph_fits edges (without_numbers o))) (and-false (eqb (length priors) o.mechanisms))
 
   -- which is 2
   pub length_fault : (length o.check_message ≡ edges → ⊥) → numbered_fault edges priors o ≡ Refused ModelListLength

@@ -1,5 +1,5 @@
 -- The steps of the quick test, as the code has them. Assumes nothing.
-use mathlib.Core.Bool.{Bool, true, false, and_false}
+use mathlib.Core.Bool.{Bool, true, false, and-false}
 use mathlib.Core.List.{List}
 use mathlib.Core.Path.{◌≡◌, refl, sym, ◌∙◌}
 use Prim.Native.Nat.{ℕ, suc, ◌+◌, ◌-◌, ◌<◌, ◌≤◌}
@@ -32,7 +32,7 @@ step_low n xs i x a p q h = rw (← p, ← q, lt-leb a x h)
 -- one that is not below n
 pub step_high : (n : ℕ) (xs : List ℕ) (i x : ℕ) → x ≡ get_or xs i 0 → n ≤ x → step_good n xs i ≡ false
 unfolding step_good
-step_high n xs i x q h = rw (← q, le-ltb x n h) (and_false (leb (low xs i) x))
+step_high n xs i x q h = rw (← q, le-ltb x n h) (and-false (leb (low xs i) x))
 
 -- the least that may stand next
 pub low_next : (xs : List ℕ) (i x : ℕ) → x ≡ get_or xs i 0 → x + 1 ≡ low xs (i + 1)

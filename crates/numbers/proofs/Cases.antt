@@ -1,6 +1,6 @@
 -- Numbers and tests by cases, and the turns of a loop of tests. Assumes nothing.
 use Rattle.std.proofs.Common.{◌≡◌, ℕ, zero, suc, ◌+◌, ◌<◌, ◌≤◌, Bool, true, false, cond, not, ◌&&◌, eqb, ltb, ◌⊎◌, sym, refl, ◌∙◌, inl, inr, ⊎_elim, add-one, arith, ltb-false, ltb-true, eq-eqb, ne_eqb, eqb-true}
-use mathlib.Core.Bool.{and_false, false≢true}
+use mathlib.Core.Bool.{and-false, false≢true}
 use borrow.Author.Tests.{not-true, not-false, eqb-false}
 use Rattle.numbers.specs.Loops.{every}
 
@@ -61,7 +61,7 @@ every_turn p i h t = rw (add-one, h, t)
 pub every_stop : (p : ℕ → Bool) (i n : ℕ) → i < n → p i ≡ false → every n p ≡ false
 every_stop p i zero h t = absurd (omega arith)
 every_stop p i (suc n) h t =
-    ⊎_elim (λ (e : i ≡ n). rw (← e, t) (and_false (every i p))) (λ l. rw (every_stop p i n l t)) (last_or_before i n h)
+    ⊎_elim (λ (e : i ≡ n). rw (← e, t) (and-false (every i p))) (λ l. rw (every_stop p i n l t)) (last_or_before i n h)
 
 -- `if !b { return false; }`, taken
 pub every_refuse : (p : ℕ → Bool) (i n : ℕ) (b : Bool) → i < n → b ≡ p i → not b ≡ true → false ≡ every n p

@@ -1,6 +1,8 @@
 // Inner: what the decoder reckons with: the limits; a float's magnitude and its signs, bit for bit as the Rust's, but for a NaN, whose bits
 // are nobody's: `abs` clears its sign bit, and `magnitude` gives it back as it is; the product modulo 2^64 and the generator SplitMix64,
 // with the gamma of a draw. No function asks anything of its caller.
+#![tactic(auto)]
+
 pub mod limits;
 
 ghost use Rattle.std.specs.Prelude.{◌≡◌, false};

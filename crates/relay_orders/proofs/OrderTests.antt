@@ -1,7 +1,7 @@
 -- A turn of each loop of tests 23 and 24, and what its ways out say. Assumes nothing.
 use Prim.Native.Nat.{ℕ, zero, suc, ◌+◌, max, ◌<◌, ◌≤◌}
 use mathlib.Core.Path.{◌≡◌, refl, sym, ◌∙◌, ap, subst}
-use mathlib.Core.Bool.{Bool, true, false, ◌&&◌, ◌||◌, and-true, and_false, or-false, or_assoc, cond, false≢true}
+use mathlib.Core.Bool.{Bool, true, false, ◌&&◌, ◌||◌, and-true, and-false, or-false, or_assoc, cond, false≢true}
 use mathlib.Core.List.{List, [], ◌∷◌, ◌++◌, append-nil, foldl, foldl-append}
 use native.Mathlib.Omega.{arith}
 use native.Mathlib.Nat.{not-suc-le-zero, le_of_suc-le-suc}
@@ -224,7 +224,7 @@ module _ (entries : ℕ → List ℕ) (c v : ℕ) where
   -- it is above c where the highest was, or where the check has v and is above c
   above_step : (b : Bool) (t d : ℕ) → ltb c (cond b (max t d) t) ≡ (ltb c t || (ltb c d && b))
   above_step true t d = above_max c t d ∙ ap (λ z. ltb c t || z) (sym (and-true (ltb c d)))
-  above_step false t d = sym (rw (and_false (ltb c d)) (or-false (ltb c t)))
+  above_step false t d = sym (rw (and-false (ltb c d)) (or-false (ltb c t)))
 
   -- so is it after several
   above_fold : (ds : List ℕ) (t : ℕ) → ltb c (foldl Step t ds) ≡ (ltb c t || any_of (λ d. ltb c d && has (entries d) v) ds)
