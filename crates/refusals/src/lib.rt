@@ -1,4 +1,6 @@
 // Every refusal under one type, with its number and its place, for users: docs/REFERENCE.md has the table.
+#![tactic(auto)]
+
 ghost use Rattle.std.specs.Prelude.{◌≡◌};
 ghost use Rattle.refusals.specs.Refusal.{number_of, place_of};
 
