@@ -11,7 +11,7 @@ use Rattle.numbers.proofs.Cases.{less_or_not}
 use Rattle.numbers.proofs.Loops.{map_at, length_part, get_d_part}
 use Rattle.numbers.specs.Loops.{row}
 use Rattle.graph_lists.specs.Graph.{Graph, mechanisms_of, flipped, checks_of, entries, graph_of, own_incidence}
-use Rattle.graph_lists.specs.Lists.{has, joined, start, offsets, stands, places}
+use Rattle.graph_lists.specs.Lists.{joined, start, offsets, stands, places}
 use Rattle.graph_lists.specs.Sound.{Offsets, Long, Keys, Rising}
 use Rattle.graph_lists.specs.Steps.{count_before, first_of_key, row_of}
 use Rattle.graph_lists.proofs.Built.{offsets_at, length_offsets, offsets_cut, graph_offsets, Entry, entry, graph_keys, graph_vars, graph_var_offsets}
