@@ -8,7 +8,7 @@ pub mod dense;
 pub mod indices;
 
 // How many checks, mechanisms and edges a model has.
-#[derive(Drop)]
+#[derive(Clone, Copy)]
 pub struct Size {
     pub checks: usize,
     pub mechanisms: usize,

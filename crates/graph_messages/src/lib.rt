@@ -1,5 +1,7 @@
 // Inner: what min-sum and Relay do alike with messages, one to an edge. Its functions ask that entries name something and that lists fit,
 // which a graph that has passed its tests grants.
+#![tactic(auto)]
+
 ghost use Rattle.std.specs.Prelude.{◌≡◌, cond, map, ◌<◌, length, get_or, replicate};
 ghost use Rattle.std.specs.Float.{nan};
 ghost use Rattle.std.specs.Float.Ieee.{lt};
@@ -16,7 +18,7 @@ use refusals::{Answer, Refusal};
 use refusals_tests::is_done;
 
 // What the first pass over a check's messages knows: the total sign, the least and the next magnitude, and whose the least is.
-#[derive(Drop)]
+#[derive(Clone, Copy)]
 pub struct Scan {
     pub total_sign: f64,
     pub min1: f64,

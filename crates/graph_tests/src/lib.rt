@@ -19,7 +19,7 @@ use refusals::{Answer, Refusal};
 use refusals_tests::{at_most, both, is_done, one_more, same_number, unless};
 
 // What the numbers are that a model gives for its mechanisms.
-#[derive(Drop)]
+#[derive(Clone, Copy)]
 pub enum Given {
     Priors,
     Probabilities,

@@ -11,7 +11,7 @@ use refusals::{Answer, Refusal};
 use refusals_tests::{at_most, both, is_done, same_number};
 
 // How long the syndrome and the lent lists are.
-#[derive(Drop)]
+#[derive(Clone, Copy)]
 pub(crate) struct Lengths {
     pub(crate) syndrome: usize,
     pub(crate) posterior: usize,

@@ -71,13 +71,13 @@ pub fn wrapping_mul(a: u64, b: u64) -> u64
 }
 
 // The generator SplitMix64.
-#[derive(Drop)]
+#[derive(Clone, Copy)]
 pub struct SplitMix64 {
     pub state: u64,
 }
 
 // A draw, with the generator that gives the next.
-#[derive(Drop)]
+#[derive(Clone, Copy)]
 pub struct Drawn {
     pub value: u64,
     pub next: SplitMix64,

@@ -1,5 +1,7 @@
 // The prior of a probability, for users: the logarithm of (1 - p) / p, cut to -30 .. 30, in whole numbers of 2^-32 and as a float. Every
 // call takes every input; a refusal writes nothing.
+#![tactic(auto)]
+
 ghost use Rattle.std.specs.Prelude.{◌≡◌, true, map, T, nat_abs, length, ℕ, ◌+◌, ◌-◌, ◌*◌, ◌^◌, ◌≤◌, ◌<◌};
 ghost use Rattle.std.specs.Float.Ieee.Positive.{num, den, positive};
 ghost use Rattle.refusals.specs.declared.Answer.TheVariants.{Done};
@@ -62,7 +64,7 @@ fn cut_sum(twos: u64, high: u64, low: u64) -> u64
 // ---- a ratio taken apart
 
 // A ratio is 2^twos * high / low, where low has 32 bits and high is from low to twice it.
-#[derive(Drop)]
+#[derive(Clone, Copy)]
 struct Parts {
     twos: u64,
     high: u64,
@@ -165,7 +167,7 @@ pub fn is_probability(p: f64) -> bool
 }
 
 // What `prior_of` answers: the prior times 2^32 as a whole number, with the float made of it; or why there is none.
-#[derive(Drop)]
+#[derive(Clone, Copy)]
 pub enum PriorAnswer {
     Prior(i64, f64),
     Refused(Refusal),

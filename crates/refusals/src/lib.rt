@@ -6,7 +6,7 @@ ghost use Rattle.refusals.specs.Refusal.{number_of, place_of};
 
 // Why a call refuses, by rising number. A number in a case is the place: a mechanism, a check, for GammaNotFinite an index of the flat list
 // of gammas, and of a text its line or shot. No call gives yet: SeedsLength, ObservableTooLarge, and all from DroppedWithOthers on.
-#[derive(Drop)]
+#[derive(Clone, Copy)]
 pub enum Refusal {
     SizeAboveLimit,
     ModelListLength,
@@ -59,7 +59,7 @@ pub enum Refusal {
 }
 
 // What a call that has nothing else to say answers.
-#[derive(Drop)]
+#[derive(Clone, Copy)]
 pub enum Answer {
     Done,
     Refused(Refusal),
@@ -122,7 +122,7 @@ pub fn number_of(r: Refusal) -> usize
 }
 
 // A refusal's place, if it has one.
-#[derive(Drop)]
+#[derive(Clone, Copy)]
 pub enum Place {
     Nowhere,
     At(usize),

@@ -1,5 +1,7 @@
 // Inner: small tests that answer a bool, and how tests that follow one another answer: what every call's tests are put together from. It
 // asks nothing of its caller.
+#![tactic(auto)]
+
 ghost use Rattle.std.specs.Prelude.{◌≡◌, ◌&&◌, suc, eqb, leb};
 ghost use Rattle.std.specs.Float.Ieee.{lt};
 ghost use Rattle.numbers.specs.Floats.{zero⁺, is_finite};

@@ -10,7 +10,7 @@ use refusals::Refusal;
 
 // What a decode answers, with the number of messages that its iterations wrote. The corrections, the posterior and the legs' records are
 // in the lent lists.
-#[derive(Drop)]
+#[derive(Clone, Copy)]
 pub enum Decoded {
     Converged {
         executed_legs: usize,
@@ -27,7 +27,7 @@ pub enum Decoded {
 }
 
 // A leg's record, read out of the leg lists.
-#[derive(Drop)]
+#[derive(Clone, Copy)]
 pub enum LegRecord {
     Converged { weight: f64, iterations: usize },
     RanOut { iterations: usize },

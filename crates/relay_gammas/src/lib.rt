@@ -1,5 +1,7 @@
 // Inner: the gammas of a leg: gamma0 throughout, a set of the flat list, or a seeded draw; and 27, the seeds that a draw takes. `relay_leg`
 // and `relay_decode` alone call it.
+#![tactic(auto)]
+
 ghost use Rattle.std.specs.Prelude.{◌≡◌, ℕ, ◌+◌, ◌-◌, ◌*◌, ◌%◌, ◌^◌, ◌<◌, ◌≤◌, length};
 ghost use Rattle.numbers.specs.Limits.{max_count};
 ghost use Rattle.numbers.specs.Loops.{part};

@@ -173,7 +173,7 @@ upto_names zero = record { once_each = λ k h. absurd (omega arith); none_else =
 upto_names (suc n) = record { once_each = λ k h. once k h (ℕ_discrete n k) (upto_names n); none_else = λ k h. beyond k h (upto_names n) }
   where
     once : (k : ℕ) → k < suc n → Dec (n ≡ k) → NamesOnce n (upto n) → count k (upto (suc n)) ≡ 1
-    once k h (yes e) r = upto_more k n ∙ rw (← e) (omega (arith, count_same n (upto n), r.none_else n (omega arith)))
+    once k h (yes e) r = upto_more k n ∙ subst (λ (j : ℕ). count j (n ∷ upto n) ≡ 1) e (count_same n (upto n) ∙ ap suc (r.none_else n (omega arith)))
     once k h (no e) r = upto_more k n ∙ count_other k n (upto n) e ∙ r.once_each k (omega arith)
 
     beyond : (k : ℕ) → suc n ≤ k → NamesOnce n (upto n) → count k (upto (suc n)) ≡ 0

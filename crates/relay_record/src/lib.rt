@@ -18,7 +18,7 @@ use relay_calls::Decoded;
 use relay_step::leg::{Leg, correction_weight};
 
 // What is kept between legs beside the lists: the least weight of a leg that converged, once there is one, and the counts.
-#[derive(Drop)]
+#[derive(Clone, Copy)]
 pub struct Tally {
     pub found: bool,
     pub weight: f64,

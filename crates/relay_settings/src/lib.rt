@@ -1,5 +1,7 @@
 // Relay's settings, for users: the published operating point, and their test, 9 to 19. Each number is decided by itself and the first
 // that refuses is answered, so that no test waits on another's branch. What they mean stands in specs/.
+#![tactic(auto)]
+
 ghost use Rattle.std.specs.Prelude.{◌≡◌, ◌||◌, ◌*◌, leb, eqb, length};
 ghost use Rattle.std.specs.Float.Ieee.{le};
 ghost use Rattle.refusals.specs.Tests.{first_of};
@@ -13,7 +15,7 @@ use refusals::{Answer, Refusal};
 use refusals_tests::{at_most, both, finite_positive, or_else, unless};
 
 // The order in which messages are passed within an iteration.
-#[derive(Drop)]
+#[derive(Clone, Copy)]
 pub enum Schedule {
     // Every check, then every variable.
     Flooding,
@@ -22,7 +24,7 @@ pub enum Schedule {
 }
 
 // How far a check's message goes.
-#[derive(Drop)]
+#[derive(Clone, Copy)]
 pub enum Clip {
     // As far as it comes out: the Rust's own.
     Off,
@@ -31,7 +33,7 @@ pub enum Clip {
 }
 
 // Where SplitMix64 starts for a leg that draws its gammas.
-#[derive(Drop)]
+#[derive(Clone, Copy)]
 pub enum DrawRule {
     // At the stream number of the shot and the leg: the seed is a shot number, below 2^48. No two legs of any shots have the same.
     ByShot,
@@ -40,7 +42,7 @@ pub enum DrawRule {
 }
 
 // Where the gammas of relayed legs come from.
-#[derive(Drop)]
+#[derive(Clone, Copy)]
 pub enum GammaSource {
     // The given number of sets, one after the other in the flat list that is lent beside the settings.
     Explicit(usize),
@@ -49,7 +51,7 @@ pub enum GammaSource {
 }
 
 // `RelayConfig`, with the clip, the interval's two ends and the gammas' source.
-#[derive(Drop)]
+#[derive(Clone, Copy)]
 pub struct Settings {
     pub schedule: Schedule,
     pub alpha: f64,

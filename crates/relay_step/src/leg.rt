@@ -118,7 +118,7 @@ pub fn correction_weight(priors: &[f64], bits: &[u8]) -> f64
 }
 
 // What a leg answers: whether its last iteration passed the test, and how many it took.
-#[derive(Drop)]
+#[derive(Clone, Copy)]
 pub struct Leg {
     pub converged: bool,
     pub iterations: usize,

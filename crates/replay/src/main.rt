@@ -2,7 +2,7 @@
 // standard input, which the file stdin holds.
 use replay_cases::{Counts, count, line_end, report, text_room, word_at};
 
-#[derive(Drop)]
+#[derive(Clone, Copy)]
 struct Totals {
     graphs: Counts,
     beliefs: Counts,

@@ -29,7 +29,7 @@ fn digit(b: u8) -> u64
 }
 
 // A number that was read, and where the next word begins: at the line's length after the last word, and nowhere after a missing one.
-#[derive(Drop)]
+#[derive(Clone, Copy)]
 pub struct Word {
     pub value: u64,
     pub next: usize,
@@ -110,7 +110,7 @@ pub fn read_bytes(line: &[u8], at: usize, list: &mut [u8]) -> usize {
 }
 
 // A model's sizes, and where its priors begin.
-#[derive(Drop)]
+#[derive(Clone, Copy)]
 pub struct Sizes {
     pub size: Size,
     pub next: usize,
@@ -133,7 +133,7 @@ pub fn read_sizes(line: &[u8], at: usize) -> Sizes {
 }
 
 // What building a graph answered, and where the next word begins.
-#[derive(Drop)]
+#[derive(Clone, Copy)]
 pub struct Built {
     pub answer: Answer,
     pub next: usize,
@@ -174,7 +174,7 @@ pub fn read_graph(
 }
 
 // Whether all was the same so far, and where the next word begins.
-#[derive(Drop)]
+#[derive(Clone, Copy)]
 pub struct Same {
     pub same: bool,
     pub next: usize,
@@ -204,7 +204,7 @@ pub fn same_float(a: f64, b: f64) -> bool {
 
 // What a call must have left in a list: the line's words in the first `written` elements, zeros up to `cleared`, and behind them what was
 // lent.
-#[derive(Drop)]
+#[derive(Clone, Copy)]
 pub struct Left {
     pub written: usize,
     pub cleared: usize,
@@ -324,7 +324,7 @@ pub fn line_end(text: &[u8], from: usize) -> usize
 }
 
 // How many cases came out the same, and how many not.
-#[derive(Drop)]
+#[derive(Clone, Copy)]
 pub struct Counts {
     pub same: u64,
     pub other: u64,

@@ -16,7 +16,7 @@ const LENT: u64 = 7;
 const LENT_FLOAT: u64 = 4619567317775286272;
 
 // A decode's answer, with zeros for what it does not tell.
-#[derive(Drop)]
+#[derive(Clone, Copy)]
 struct Outcome {
     answer: Answer,
     converged: u64,
@@ -71,7 +71,7 @@ fn product(a: usize, b: usize) -> usize {
 
 // Where the lists begin on the line, and how much of each must be written and cleared: of the leg lists, of the rows, of the other results,
 // and of the work lists of mechanisms and of edges.
-#[derive(Drop)]
+#[derive(Clone, Copy)]
 struct Expected {
     start: Same,
     legs: Left,

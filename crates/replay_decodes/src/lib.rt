@@ -34,7 +34,7 @@ fn source_of(number: u64, sets: usize) -> GammaSource {
 }
 
 // Settings that were read, with the number of sets of gammas, and where the first of these begins.
-#[derive(Drop)]
+#[derive(Clone, Copy)]
 struct Read {
     settings: Settings,
     sets: u64,

@@ -1,4 +1,6 @@
 // Inner: the lines that `shots` writes. Each is written at the front of a lent array, and its length is the answer.
+#![tactic(auto)]
+
 ghost use Rattle.std.specs.Prelude.{◌≡◌, [], ◌∷◌, map, ◌+◌, ◌<◌, ◌≤◌, length};
 ghost use Rattle.numbers.specs.Loops.{over};
 ghost use Rattle.stream_lines.specs.Writing.{Put};

@@ -15,7 +15,7 @@ use stream_grammar::{fields, rules};
 
 // What the bytes of a record have said so far: the record's offset in the stream, how many of its bytes were taken, its payload length and
 // kind, and of a model its counts and the sum of its degrees.
-#[derive(Drop)]
+#[derive(Clone, Copy)]
 pub struct Reader {
     pub offset: usize,
     pub taken: usize,

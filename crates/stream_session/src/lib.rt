@@ -15,7 +15,7 @@ use stream_reader::Reader;
 
 // What the stream has said of model and settings: how long the model's payload is, whether there is one, the settings, and whether there
 // are any.
-#[derive(Drop)]
+#[derive(Clone, Copy)]
 pub struct Known {
     pub model_length: usize,
     pub has_model: bool,
@@ -25,7 +25,7 @@ pub struct Known {
 
 // The reader, what is known, the number of the next shot, whether a refusal has ended the run, and how long the line is that is to be
 // written now.
-#[derive(Drop)]
+#[derive(Clone, Copy)]
 pub struct Session {
     pub reader: Reader,
     pub known: Known,

@@ -19,7 +19,7 @@ fn say(line: &[u8], n: usize) -> bool {
 }
 
 // A session after bytes of a piece: how many were taken, and whether every line was written.
-#[derive(Drop)]
+#[derive(Clone, Copy)]
 pub struct Progress {
     pub session: Session,
     pub taken: usize,

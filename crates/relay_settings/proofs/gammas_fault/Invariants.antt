@@ -1,0 +1,14 @@
+-- `relay_settings::gammas_fault` meets its contract. The invariant: none of the first i gammas is refused. Assumes nothing.
+use mathlib.Core.Path.{◌≡◌}
+use Prim.Native.Nat.{◌-◌, ◌≤◌}
+use lib.ListN.{length}
+use Rattle.refusals.specs.Tests.{first_of}
+use Rattle.refusals.specs.declared.Answer.TheVariants.{Done}
+use Rattle.relay_settings.specs.Settings.{gamma_fault}
+use Rattle.relay_settings.proofs.gammas_fault.Given as goal
+
+abbrev pub invariant-loop-i : goal.invariant-loop-i
+invariant-loop-i l = (l.i ≤ length l.gammas) × (first_of l.i (gamma_fault l.gammas) ≡ Done)
+
+abbrev pub decreases-loop-i : goal.decreases-loop-i
+decreases-loop-i l = length l.gammas - l.i
