@@ -174,7 +174,7 @@ passes_built g g' h ec em hc hm he fit =
 pub checked_built : (edges : ℕ) (priors : List Float) (g : Graph) → graph_fault edges priors g ≡ Done → build_sparse edges priors g.var_offset g.var_check g ≡ build_outcome Done g
 checked_built edges priors g h =
     let t = graph_told edges priors g h in
-    let n : length g.check_var ≡ edges = t.long.check_var_lem in
+    let n : length g.check_var ≡ edges = t.long.check_var in
     ap (λ (k : ℕ). build_sparse k priors g.var_offset g.var_check g) (sym n)
     ∙ built_from_lem g g (own_incidence g) priors (is_graph_told g t.is_graph_lem) t.few.checks_few t.few.mechanisms_few (omega (arith, n, t.few.edges_few))
     (record { many = t.priors_many; good = t.priors_good })

@@ -45,7 +45,7 @@ module _ (g : Graph) where
   pub fits_agrees : (edges : ℕ) → numbered_fits edges (with_numbers g) ≡ graph_fits edges g
   unfolding numbered_fits
   fits_agrees edges =
-      and_implied (graph_fits edges g) _ (λ h. eq-eqb _ _ (length_table (length g.check_var) (λ (i : ℕ). i) ∙ (long_told edges g h).check_var_lem))
+      and_implied (graph_fits edges g) _ (λ h. eq-eqb _ _ (length_table (length g.check_var) (λ (i : ℕ). i) ∙ (long_told edges g h).check_var))
 
   -- so 1, 2, 4 and 7
   pub tests_agree : (edges : ℕ) (priors : List Float) → numbered_fault edges priors (with_numbers g) ≡ graph_fault edges priors g
@@ -108,7 +108,7 @@ module _ (edges : ℕ) (priors : List Float) (o : Numbered) (sizes : sizes_good 
   unfolding numbered_fits
   entries_fit fit =
       let w = (and_both (eqb (length priors) o.mechanisms) (numbered_fits edges o) fit).1 in
-      (long_told edges (without_numbers o) (and_both (graph_fits edges (without_numbers o)) _ w).0).check_var_lem
+      (long_told edges (without_numbers o) (and_both (graph_fits edges (without_numbers o)) _ w).0).check_var
 
   -- past 2 and 4, another number is 7
   pub number_fault : (eqb (length priors) o.mechanisms && numbered_fits edges o) ≡ true → first_of o.mechanisms (prior_fault priors) ≡ Done

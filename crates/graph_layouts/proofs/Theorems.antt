@@ -130,7 +130,7 @@ module _ (edges : ℕ) (prior : List Float) (g : Graph) (schedule : Schedule) (a
       let d = or_done _ _ (or_done _ _ (or_done _ _ (or_done _ _ a.1).1).1).1 in
       let f = messages_fit (unless_done _ LentListLength d.0) in
       let t = graph_told edges prior g a.0 in
-      let many : length g.check_var ≡ edges = t.long.check_var_lem in (
+      let many : length g.check_var ≡ edges = t.long.check_var in (
         sound_of edges prior g a.0,
         record { out = f.0 ∙ sym many; back = f.1 ∙ sym many },
         names_told g.checks order (or_done _ _ d.1).0,

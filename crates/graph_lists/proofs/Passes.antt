@@ -46,7 +46,7 @@ pub record Passes (edges : ℕ) (g : Graph) : Type 0 where
 module _ (edges : ℕ) (g : Graph) (f : Long edges g) (t : Passes edges g) where
   -- the check offsets cut the check entries
   cut : Offsets g.checks (length g.check_var) g.check_offset
-  cut = rw f.check_var_lem t.check_cut
+  cut = rw f.check_var t.check_cut
 
   -- the entries of a check are the mechanisms that they tell
   pub check_row : (c : ℕ) → c < g.checks → row g.check_offset c g.check_var ≡ mechanisms_of g.mechanisms (own_incidence g) c
@@ -71,8 +71,8 @@ module _ (edges : ℕ) (g : Graph) (f : Long edges g) (t : Passes edges g) where
   -- a variable has as many messages as checks
   pub lengths_agree : (v : ℕ) → v < g.mechanisms → length (row g.var_offset v g.var_message) ≡ length (row g.var_offset v g.var_check)
   lengths_agree v h =
-      row_length g.mechanisms edges g.var_offset g.var_message t.var_cut f.var_message_lem v h ∙ sym (row_length g.mechanisms edges g.var_offset
-      g.var_check t.var_cut f.var_check_lem v h)
+      row_length g.mechanisms edges g.var_offset g.var_message t.var_cut f.var_message v h ∙ sym (row_length g.mechanisms edges g.var_offset
+      g.var_check t.var_cut f.var_check v h)
 
   -- the messages of a variable rise, and it stands at each
   pub messages_rise : (v : ℕ) → v < g.mechanisms → Rising (length g.check_var) (row g.var_offset v g.var_message)
@@ -105,7 +105,7 @@ module _ (edges : ℕ) (g : Graph) (f : Long edges g) (t : Passes edges g) where
   degree v h =
       omega (
         arith,
-        row_length g.mechanisms edges g.var_offset g.var_message t.var_cut f.var_message_lem v h,
+        row_length g.mechanisms edges g.var_offset g.var_message t.var_cut f.var_message v h,
         few (stands g.check_var v) (length g.check_var) (row g.var_offset v g.var_message) (messages_rise v h) (messages_stand v h),
       )
 
@@ -116,7 +116,7 @@ module _ (edges : ℕ) (g : Graph) (f : Long edges g) (t : Passes edges g) where
 
   -- nor more
   under : (d v : ℕ) → v + d ≡ g.mechanisms → first_of_key g.check_var v ≤ get_or g.var_offset v 0
-  under zero v e = let w : v ≡ g.mechanisms = omega arith in rw w (omega (arith, t.var_cut.ends, first_last g.mechanisms g.check_var keys, f.check_var_lem))
+  under zero v e = let w : v ≡ g.mechanisms = omega arith in rw w (omega (arith, t.var_cut.ends, first_last g.mechanisms g.check_var keys, f.check_var))
   under (suc d) v e = omega (arith, under d (suc v) (omega arith), degree v (omega arith), first_suc g.check_var v)
 
   -- so its part begins where its places do
@@ -128,11 +128,11 @@ module _ (edges : ℕ) (g : Graph) (f : Long edges g) (t : Passes edges g) where
   unfolding places count_before
   messages_row v h =
       full (stands g.check_var v) (length g.check_var) (row g.var_offset v g.var_message) (messages_rise v h) (messages_stand v h)
-      (omega (arith, row_length g.mechanisms edges g.var_offset g.var_message t.var_cut f.var_message_lem v h, starts_at v (omega arith), starts_at (suc v) h, first_suc g.check_var v))
+      (omega (arith, row_length g.mechanisms edges g.var_offset g.var_message t.var_cut f.var_message v h, starts_at v (omega arith), starts_at (suc v) h, first_suc g.check_var v))
 
   -- the variable offsets cut the messages
   message_cut : Offsets g.mechanisms (length g.var_message) g.var_offset
-  message_cut = rw f.var_message_lem t.var_cut
+  message_cut = rw f.var_message t.var_cut
 
   -- so are all messages
   messages_are : g.var_message ≡ joined g.mechanisms (places g.check_var)
@@ -144,11 +144,11 @@ module _ (edges : ℕ) (g : Graph) (f : Long edges g) (t : Passes edges g) where
 
   -- the check of each variable entry is the one that its message lies in
   checks_are : g.var_check ≡ map (row_of g.check_offset g.checks) g.var_message
-  checks_are = ext_get_or 0 g.var_check _ (f.var_check_lem ∙ sym f.var_message_lem ∙ sym (length-map g.var_message (row_of g.check_offset g.checks))) at
+  checks_are = ext_get_or 0 g.var_check _ (f.var_check ∙ sym f.var_message ∙ sym (length-map g.var_message (row_of g.check_offset g.checks))) at
     where
       at : (i : ℕ) → i < length g.var_check → get_or g.var_check i 0 ≡ get_or (map (row_of g.check_offset g.checks) g.var_message) i 0
       at i l =
-          let r = row_is g.mechanisms edges g.var_offset t.var_cut i (omega (arith, f.var_check_lem)) in
+          let r = row_is g.mechanisms edges g.var_offset t.var_cut i (omega (arith, f.var_check)) in
           let v : ℕ = row_of g.var_offset g.mechanisms i in
           let q : ℕ = i - get_or g.var_offset v 0 in
           let e : get_or g.var_offset v 0 + q ≡ i = omega (arith, r.from) in
@@ -157,18 +157,18 @@ module _ (edges : ℕ) (g : Graph) (f : Long edges g) (t : Passes edges g) where
             r.from,
             r.to,
             row_length g.mechanisms edges g.var_offset g.var_check
-                t.var_cut f.var_check_lem v r.below,
+                t.var_cut f.var_check v r.below,
           ) in
           let a : get_or (row g.var_offset v g.var_check) q 0 ≡ get_or g.var_check i 0 =
-          row_at g.mechanisms edges g.var_offset g.var_check t.var_cut f.var_check_lem v q r.below k ∙ ap (λ (x : ℕ). get_or g.var_check x 0) e in
+          row_at g.mechanisms edges g.var_offset g.var_check t.var_cut f.var_check v q r.below k ∙ ap (λ (x : ℕ). get_or g.var_check x 0) e in
           let b : get_or (row g.var_offset v g.var_message) q 0 ≡ get_or g.var_message i 0 =
-          row_at g.mechanisms edges g.var_offset g.var_message t.var_cut f.var_message_lem v q r.below (rw (lengths_agree v r.below) k) ∙ ap (λ (x : ℕ). get_or g.var_message x 0) e in
+          row_at g.mechanisms edges g.var_offset g.var_message t.var_cut f.var_message v q r.below (rw (lengths_agree v r.below) k) ∙ ap (λ (x : ℕ). get_or g.var_message x 0) e in
           let w = t.var_meets v q r.below k in
           sym a
           ∙ sym (row_of_lem g.checks _ g.check_offset cut (get_or (row
           g.var_offset v g.var_check) q 0) (get_or (row g.var_offset v g.var_message) q 0) ((t.var_rises v r.below).below q k) w.from w.to)
           ∙ ap (row_of g.check_offset g.checks) b
-          ∙ sym (map_at (row_of g.check_offset g.checks) g.var_message i (omega (arith, f.var_check_lem, f.var_message_lem)))
+          ∙ sym (map_at (row_of g.check_offset g.checks) g.var_message i (omega (arith, f.var_check, f.var_message)))
 
   -- so the lists are the graph of what they tell
   pub passes_graph : g ≡ graph_of g.checks g.mechanisms (own_incidence g)
@@ -231,11 +231,11 @@ module _ (checks mechanisms : ℕ) (inc : ℕ → ℕ → Bool) where
   unfolding graph_of
   graph_long =
       record {
-        check_var_lem = refl;
-        check_offset_lem = length_offsets checks _;
-        var_check_lem = sym graph_length;
-        var_message_lem = length_bucket mechanisms (entries checks mechanisms inc) (graph_keys checks mechanisms inc);
-        var_offset_lem = length_offsets mechanisms _;
+        check_var = refl;
+        check_offset = length_offsets checks _;
+        var_check = sym graph_length;
+        var_message = length_bucket mechanisms (entries checks mechanisms inc) (graph_keys checks mechanisms inc);
+        var_offset = length_offsets mechanisms _;
       }
 
 module _ (checks mechanisms : ℕ) (inc : ℕ → ℕ → Bool) where

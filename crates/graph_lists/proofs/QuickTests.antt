@@ -85,9 +85,9 @@ test_told edges g f h =
     let b = and_both _ _ a.1 in
     let c = and_both _ _ b.1 in
     record {
-      check_cut = offsets_told g.checks edges g.check_offset f.check_offset_lem a.0;
+      check_cut = offsets_told g.checks edges g.check_offset f.check_offset a.0;
       check_rises = λ k l. rises_told g.mechanisms _ (every_at g.checks (check_good g.mechanisms g.check_offset g.check_var) b.0 k l);
-      var_cut = offsets_told g.mechanisms edges g.var_offset f.var_offset_lem c.0;
+      var_cut = offsets_told g.mechanisms edges g.var_offset f.var_offset c.0;
       var_rises = λ v l. (var_told g v (every_at g.mechanisms (var_good g) c.1 v l)).0;
       var_meets = λ v i l m. (var_told g v (every_at g.mechanisms (var_good g) c.1 v l)).1 i m;
     }
@@ -157,4 +157,4 @@ test_is edges g f =
     (either (graph_test edges g))
   where
     passes : g ≡ graph_of g.checks g.mechanisms (own_incidence g) → Passes edges g
-    passes e = all_pass g.checks g.mechanisms edges g (own_incidence g) f.check_var_lem e
+    passes e = all_pass g.checks g.mechanisms edges g (own_incidence g) f.check_var e

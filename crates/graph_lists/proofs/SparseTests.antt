@@ -101,11 +101,11 @@ long_told edges g h =
     let c = and_both _ _ b.1 in
     let d = and_both _ _ c.1 in
     record {
-      check_var_lem = eqb-true _ _ a.0;
-      check_offset_lem = eqb-true _ _ b.0;
-      var_check_lem = eqb-true _ _ c.0;
-      var_message_lem = eqb-true _ _ d.0;
-      var_offset_lem = eqb-true _ _ d.1;
+      check_var = eqb-true _ _ a.0;
+      check_offset = eqb-true _ _ b.0;
+      var_check = eqb-true _ _ c.0;
+      var_message = eqb-true _ _ d.0;
+      var_offset = eqb-true _ _ d.1;
     }
 
 -- and the other way
@@ -113,11 +113,11 @@ pub long_fits : (edges : ℕ) (g : Graph) → Long edges g → graph_fits edges 
 unfolding graph_fits
 long_fits edges g f =
     rw (
-      eq-eqb (length g.check_var) edges f.check_var_lem,
-      eq-eqb (length g.check_offset) (suc g.checks) f.check_offset_lem,
-      eq-eqb (length g.var_check) edges f.var_check_lem,
-      eq-eqb (length g.var_message) edges f.var_message_lem,
-      eq-eqb (length g.var_offset) (suc g.mechanisms) f.var_offset_lem,
+      eq-eqb (length g.check_var) edges f.check_var,
+      eq-eqb (length g.check_offset) (suc g.checks) f.check_offset,
+      eq-eqb (length g.var_check) edges f.var_check,
+      eq-eqb (length g.var_message) edges f.var_message,
+      eq-eqb (length g.var_offset) (suc g.mechanisms) f.var_offset,
     )
 
 -- a call that answers a: what it builds where it refuses nothing

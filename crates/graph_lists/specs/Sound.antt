@@ -13,11 +13,11 @@ pub record Offsets (rows n : ℕ) (off : List ℕ) : Type 0 where
 
 -- the five lists have the lengths of a graph with this many edges
 pub record Long (edges : ℕ) (g : Graph) : Type 0 where
-  pub check_var_lem : length g.check_var ≡ edges
-  pub check_offset_lem : length g.check_offset ≡ suc g.checks
-  pub var_check_lem : length g.var_check ≡ edges
-  pub var_message_lem : length g.var_message ≡ edges
-  pub var_offset_lem : length g.var_offset ≡ suc g.mechanisms
+  pub check_var : length g.check_var ≡ edges
+  pub check_offset : length g.check_offset ≡ suc g.checks
+  pub var_check : length g.var_check ≡ edges
+  pub var_message : length g.var_message ≡ edges
+  pub var_offset : length g.var_offset ≡ suc g.mechanisms
 
 -- all below n
 pub record Keys (n : ℕ) (ks : List ℕ) : Type 0 where

@@ -38,4 +38,4 @@ pub graph_walks : (g : Graph) → is_graph g ≡ true
     → Walks g.checks g.mechanisms g.check_var g.check_offset × Walks g.mechanisms (length g.check_var) g.var_message g.var_offset
 graph_walks g h =
     let s = passes_sound g h in
-    (walk _ _ _ _ s.check_parts s.check_rises, walk _ _ _ _ (rw s.long.var_message_lem s.var_parts) s.messages_rise)
+    (walk _ _ _ _ s.check_parts s.check_rises, walk _ _ _ _ (rw s.long.var_message s.var_parts) s.messages_rise)

@@ -156,7 +156,7 @@ module _ (edges checks mechanisms : ℕ) (cv co vc vm vo : List ℕ) (prior : Li
       let f4 = and_both _ _ f3.1 in
       let w = graph_walks (graph checks mechanisms cv co vc vm vo) g.is_graph_lem in
       record {
-        edges_many = g.long.check_var_lem;
+        edges_many = g.long.check_var;
         checks_many = many;
         mechanisms_many = g.priors_many;
         check_walks = walks_both _ _ _ _ _ _ (sym many) (sym g.priors_many) w.0;
@@ -165,8 +165,8 @@ module _ (edges checks mechanisms : ℕ) (cv co vc vm vo : List ℕ) (prior : Li
         gamma_many = eqb-true _ _ f1.0 ∙ sym g.priors_many;
         bias_many = eqb-true _ _ f4.1 ∙ sym g.priors_many;
         posterior_many = eqb-true _ _ f4.0 ∙ sym g.priors_many;
-        c_many = eqb-true _ _ f2.0 ∙ sym g.long.check_var_lem;
-        v_many = eqb-true _ _ f3.0 ∙ sym g.long.check_var_lem;
+        c_many = eqb-true _ _ f2.0 ∙ sym g.long.check_var;
+        v_many = eqb-true _ _ f3.0 ∙ sym g.long.check_var;
       }
 
   module _ (schedule : Schedule) where

@@ -2,6 +2,8 @@
 // total sign and the two least magnitudes (`graph_messages`; it knows the least by its place, and a check has a variable at one place
 // alone), and a second sends. What a check sends has three values at most, the least minimum's for either sign and the next one's. With
 // a clip each is clipped once; without one the update has a function of its own, in which no message waits for a clip.
+#![tactic(auto)]
+
 ghost use Rattle.std.specs.Prelude.{◌≡◌, cond, ◌≤◌, length};
 ghost use Rattle.std.specs.Float.Ieee.{lt, neg};
 ghost use Rattle.numbers.specs.Floats.{◌*ᶠ◌, zero⁺};

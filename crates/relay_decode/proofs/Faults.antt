@@ -178,14 +178,14 @@ module _ (edges checks mechanisms : ℕ) (t : Settings) (flat : List Float) (see
               };
           messages_fit =
               record {
-                to_variables = eqb-true _ _ f9.0 ∙ sym g.long.check_var_lem;
-                to_checks = eqb-true _ _ f9.1 ∙ sym g.long.check_var_lem;
+                to_variables = eqb-true _ _ f9.0 ∙ sym g.long.check_var;
+                to_checks = eqb-true _ _ f9.1 ∙ sym g.long.check_var;
               };
-          edges_many = g.long.check_var_lem;
+          edges_many = g.long.check_var;
           checks_many = many;
           mechanisms_many = p;
           checks_few = g.few.checks_few;
-          edges_few = (omega (arith, g.long.check_var_lem, g.few.edges_few), omega (arith, g.long.var_message_lem, g.few.edges_few));
+          edges_few = (omega (arith, g.long.check_var, g.few.edges_few), omega (arith, g.long.var_message, g.few.edges_few));
         }
 
     -- ---- 23 and 24

@@ -1,4 +1,6 @@
 // Inner: tests 23 and 24: which orders of checks are taken, in O(checks + edges), over local arrays, since a refusal writes nothing.
+#![tactic(auto)]
+
 ghost use Rattle.std.specs.Prelude.{◌≡◌, true, [], ◌≤◌, length};
 ghost use Rattle.numbers.specs.Limits.{max_checks, max_mechanisms};
 ghost use Rattle.numbers.specs.Loops.{row, upto};

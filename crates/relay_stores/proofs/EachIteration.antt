@@ -137,7 +137,7 @@ module _ (g : Graph) (sound : Sound g) where
   -- the degrees make the edges
   degrees_sum : sum_below g.mechanisms (degree g) ≡ length g.check_var
   unfolding degree
-  degrees_sum = rows_length g.mechanisms g.var_offset g.var_message (rw sound.long.var_message_lem sound.var_parts) ∙ sound.long.var_message_lem
+  degrees_sum = rows_length g.mechanisms g.var_offset g.var_message (rw sound.long.var_message sound.var_parts) ∙ sound.long.var_message
 
   -- the degree of each check entry: all squared degrees
   squares_sum : sum_over (degree g) g.check_var ≡ squared_degrees g

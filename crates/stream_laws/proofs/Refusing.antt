@@ -184,7 +184,7 @@ each_few : (schedule : Schedule) (g : Graph) → Sound g → length g.check_var 
 unfolding squared_degrees degree
 each_few Flooding g sound e = omega arith
 each_few CheckSerial g sound e =
-    let many = sound.long.var_message_lem in
+    let many = sound.long.var_message in
     omega (arith, squares_few g.mechanisms g.var_message g.var_offset (rw many sound.var_parts) 512 (omega (arith, many)) g.mechanisms (omega arith))
 
 -- so no decode within the room is refused with 29
@@ -211,7 +211,7 @@ module _ (edges : ℕ) (x : Shot) (l : DecodeLists) (few : edges ≤ 512) (legs_
       (none_of _
       (sym (or_joined _ _ _)
       ∙ or_second _ _ (index_passes x.settings.schedule x.graph)
-      ∙ stores_done x.settings x.graph.mechanisms x.gammas x.graph s (passes_sound x.graph told.is_graph_lem) (omega (arith, told.long.check_var_lem)) legs_few))))))
+      ∙ stores_done x.settings x.graph.mechanisms x.gammas x.graph s (passes_sound x.graph told.is_graph_lem) (omega (arith, told.long.check_var)) legs_few))))))
     where
       told : GraphTold edges x.prior x.graph
       told = graph_told edges x.prior x.graph g

@@ -1,5 +1,7 @@
 // Inner: the record stream, judged record by record. It is read byte by byte, in pieces of any size: what a record says is kept in a small
 // struct, its payload in a lent list, and no record's length makes the reading fail or stop. Every call takes every input.
+#![tactic(auto)]
+
 mod step;
 
 ghost use Rattle.std.specs.Prelude.{◌≡◌};

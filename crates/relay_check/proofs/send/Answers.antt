@@ -1,9 +1,8 @@
 -- `relay_check::send` meets its contract. The invariant: the messages passed are those chosen. Assumes nothing.
-use mathlib.Core.Path.{◌≡◌, refl, sym, ◌∙◌}
-use Prim.Native.Nat.{◌≤◌, ◌<◌, ◌-◌}
+use mathlib.Core.Path.{refl}
+use Prim.Native.Nat.{◌<◌}
 use native.Mathlib.Omega.{arith}
-use lib.ListN.{length, take, length-set}
-use lib.Seq.{take_all}
+use lib.ListN.{length, length-set}
 use Rattle.numbers.proofs.Turns.{table_turn}
 use Rattle.relay_check.specs.Places.{by_signs}
 use Rattle.relay_check.proofs.send.Goals as goal

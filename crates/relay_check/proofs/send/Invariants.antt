@@ -1,10 +1,7 @@
 -- `relay_check::send` meets its contract. The invariant: the messages passed are those chosen. Assumes nothing.
-use mathlib.Core.Path.{◌≡◌, refl, sym, ◌∙◌}
-use Prim.Native.Nat.{◌≤◌, ◌<◌, ◌-◌}
-use native.Mathlib.Omega.{arith}
-use lib.ListN.{length, take, length-set}
-use lib.Seq.{take_all}
-use Rattle.numbers.proofs.Turns.{table_turn}
+use mathlib.Core.Path.{◌≡◌}
+use Prim.Native.Nat.{◌≤◌, ◌-◌}
+use lib.ListN.{length, take}
 use Rattle.relay_check.specs.Places.{by_signs}
 use Rattle.relay_check.proofs.send.Given as goal
 

@@ -1,11 +1,7 @@
 -- `relay_orders::is_index_order` meets its contract. The invariant: each place so far holds its own number. Assumes nothing.
-use mathlib.Core.Path.{◌≡◌, sym, ◌∙◌}
-use mathlib.Core.Bool.{false≢true}
+use mathlib.Core.Path.{◌≡◌}
 use Prim.Native.Nat.{ℕ, ◌≤◌, ◌<◌, ◌-◌}
-use native.Mathlib.Omega.{arith}
 use lib.ListN.{get_or}
-use borrow.Author.Count.{below_more}
-use Rattle.numbers.proofs.Loops.{is_table}
 use Rattle.relay_orders.proofs.is_index_order.Given as goal
 
 abbrev pub invariant-loop-i : goal.invariant-loop-i

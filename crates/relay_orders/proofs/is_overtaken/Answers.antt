@@ -1,10 +1,6 @@
 -- `relay_orders::is_overtaken` meets its contract. The invariant: no entry so far holds more than c. Assumes nothing.
-use mathlib.Core.Path.{◌≡◌, refl, sym, ◌∙◌, ap}
-use mathlib.Core.Bool.{false}
-use Prim.Native.Nat.{◌≤◌, ◌<◌, ◌-◌}
+use mathlib.Core.Path.{refl}
 use native.Mathlib.Omega.{arith}
-use lib.ListN.{length, take}
-use lib.Seq.{take_all}
 use Rattle.relay_orders.specs.Marks.{overtaken}
 use Rattle.relay_orders.proofs.OrderTests.{overtaken_turn, overtaken_found}
 use Rattle.relay_orders.proofs.is_overtaken.Goals as goal

@@ -1,12 +1,9 @@
 -- `relay_orders::is_overtaken` meets its contract. The invariant: no entry so far holds more than c. Assumes nothing.
-use mathlib.Core.Path.{◌≡◌, refl, sym, ◌∙◌, ap}
+use mathlib.Core.Path.{◌≡◌}
 use mathlib.Core.Bool.{false}
-use Prim.Native.Nat.{◌≤◌, ◌<◌, ◌-◌}
-use native.Mathlib.Omega.{arith}
+use Prim.Native.Nat.{◌≤◌, ◌-◌}
 use lib.ListN.{length, take}
-use lib.Seq.{take_all}
 use Rattle.relay_orders.specs.Marks.{overtaken}
-use Rattle.relay_orders.proofs.OrderTests.{overtaken_turn, overtaken_found}
 use Rattle.relay_orders.proofs.is_overtaken.Given as goal
 
 abbrev pub invariant-loop-i : goal.invariant-loop-i

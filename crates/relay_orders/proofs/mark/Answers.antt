@@ -1,9 +1,6 @@
 -- `relay_orders::mark` meets its contract. The invariant: the places that the entries so far name hold c. Assumes nothing.
-use mathlib.Core.Path.{◌≡◌, refl, ◌∙◌, ap}
-use Prim.Native.Nat.{◌≤◌, ◌<◌, ◌-◌}
+use mathlib.Core.Path.{refl}
 use native.Mathlib.Omega.{arith}
-use lib.ListN.{length, take}
-use lib.Seq.{take_all}
 use Rattle.relay_orders.specs.Marks.{marked_at}
 use Rattle.relay_orders.proofs.OrderTests.{marked_turn}
 use Rattle.relay_orders.proofs.mark.Goals as goal

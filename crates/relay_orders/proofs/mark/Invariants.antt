@@ -1,11 +1,8 @@
 -- `relay_orders::mark` meets its contract. The invariant: the places that the entries so far name hold c. Assumes nothing.
-use mathlib.Core.Path.{◌≡◌, refl, ◌∙◌, ap}
-use Prim.Native.Nat.{◌≤◌, ◌<◌, ◌-◌}
-use native.Mathlib.Omega.{arith}
+use mathlib.Core.Path.{◌≡◌}
+use Prim.Native.Nat.{◌≤◌, ◌-◌}
 use lib.ListN.{length, take}
-use lib.Seq.{take_all}
 use Rattle.relay_orders.specs.Marks.{marked_at}
-use Rattle.relay_orders.proofs.OrderTests.{marked_turn}
 use Rattle.relay_orders.proofs.mark.Given as goal
 
 abbrev pub invariant-loop-i : goal.invariant-loop-i

@@ -1,10 +1,10 @@
 -- `relay_orders::names_each_once` meets its contract. The invariant: of the names so far none is beyond the checks and none stands twice, and `seen` counts
 -- them. Each way out says what the test says: another length, a name that is no check, a name twice, or each once. Assumes nothing.
-use mathlib.Core.Path.{◌≡◌, sym}
-use Prim.Native.Nat.{ℕ, ◌≤◌, ◌-◌}
+use mathlib.Core.Path.{sym}
+use Prim.Native.Nat.{ℕ}
 use native.Mathlib.Omega.{arith}
-use lib.ListN.{length, length-set, length-replicate}
-use Rattle.relay_orders.proofs.OrderTests.{Seen, seen_start, seen_turn, seen_done, name_length, name_beyond, name_twice}
+use lib.ListN.{length-set, length-replicate}
+use Rattle.relay_orders.proofs.OrderTests.{seen_start, seen_turn, seen_done, name_length, name_beyond, name_twice}
 use Rattle.relay_orders.proofs.names_each_once.Goals as goal
 
 pub returns-then-order-checks : goal.returns-then-order-checks

@@ -8,11 +8,11 @@ use Rattle.relay_stores.proofs.squared_degrees.Statement.{statement}
 use Rattle.relay_stores.proofs.squared_degrees.Tie as tie
 
 abbrev invariant-loop : tie.invariant-loop
-invariant-loop mechanisms var_message_lem var_offset_lem sum₀ v₀ sum v =
-    (v ≤ mechanisms) × (sum ≡ squares_to (of_variables mechanisms var_message_lem var_offset_lem) v)
+invariant-loop mechanisms var_message var_offset sum₀ v₀ sum v =
+    (v ≤ mechanisms) × (sum ≡ squares_to (of_variables mechanisms var_message var_offset) v)
 
 abbrev decreases-loop : tie.decreases-loop
-decreases-loop mechanisms var_message_lem var_offset_lem sum₀ v₀ sum v = mechanisms - v
+decreases-loop mechanisms var_message var_offset sum₀ v₀ sum v = mechanisms - v
 
 loop-holds : tie.Need-loop-init invariant-loop decreases-loop
 loop-holds c = (omega arith, refl)

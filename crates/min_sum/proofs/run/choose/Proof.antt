@@ -13,12 +13,12 @@ use Rattle.min_sum.proofs.run.choose.Statement.{statement}
 use Rattle.min_sum.proofs.run.choose.Tie as tie
 
 abbrev invariant-loop : tie.invariant-loop
-invariant-loop priors var_message_lem var_offset_lem c-to-v ewa-posterior posterior₀ v₀ posterior v =
+invariant-loop priors var_message var_offset c-to-v ewa-posterior posterior₀ v₀ posterior v =
     (v ≤ length priors) × (length posterior ≡ length priors)
-    × (take v posterior ≡ chosen_to (of_variables (length priors) var_message_lem var_offset_lem) priors (belief (messages c-to-v []) ewa-posterior) v)
+    × (take v posterior ≡ chosen_to (of_variables (length priors) var_message var_offset) priors (belief (messages c-to-v []) ewa-posterior) v)
 
 abbrev decreases-loop : tie.decreases-loop
-decreases-loop priors var_message_lem var_offset_lem c-to-v ewa-posterior posterior₀ v₀ posterior v = length priors - v
+decreases-loop priors var_message var_offset c-to-v ewa-posterior posterior₀ v₀ posterior v = length priors - v
 
 loop-holds : tie.Need-loop-init invariant-loop decreases-loop
 unfolding chosen_to

@@ -15,13 +15,13 @@ use Rattle.min_sum.proofs.run.outer_round.Statement.{statement}
 use Rattle.min_sum.proofs.run.outer_round.Tie as tie
 
 abbrev invariant-loop : tie.invariant-loop
-invariant-loop inner outer serial scale syndrome priors check_var_lem check_offset_lem var_message_lem var_offset_lem c-to-v₀ v-to-c₀ ewa-posterior₀ i₀ c-to-v v-to-c ewa-posterior i =
-    (i ≤ inner) × (length c-to-v ≡ length check_var_lem) × (length v-to-c ≡ length check_var_lem) × (length ewa-posterior ≡ length priors)
+invariant-loop inner outer serial scale syndrome priors check_var check_offset var_message var_offset c-to-v₀ v-to-c₀ ewa-posterior₀ i₀ c-to-v v-to-c ewa-posterior i =
+    (i ≤ inner) × (length c-to-v ≡ length check_var) × (length v-to-c ≡ length check_var) × (length ewa-posterior ≡ length priors)
     × (belief (messages c-to-v v-to-c) ewa-posterior
-    ≡ outer_round_to by_place (walked (length syndrome) (length priors) check_var_lem check_offset_lem var_message_lem var_offset_lem) serial scale syndrome priors outer (belief (messages [] []) ewa-posterior₀) i)
+    ≡ outer_round_to by_place (walked (length syndrome) (length priors) check_var check_offset var_message var_offset) serial scale syndrome priors outer (belief (messages [] []) ewa-posterior₀) i)
 
 abbrev decreases-loop : tie.decreases-loop
-decreases-loop inner outer serial scale syndrome priors check_var_lem check_offset_lem var_message_lem var_offset_lem c-to-v₀ v-to-c₀ ewa-posterior₀ i₀ c-to-v v-to-c ewa-posterior i = inner - i
+decreases-loop inner outer serial scale syndrome priors check_var check_offset var_message var_offset c-to-v₀ v-to-c₀ ewa-posterior₀ i₀ c-to-v v-to-c ewa-posterior i = inner - i
 
 clear-requires : tie.Need-clear-requires invariant-loop decreases-loop
 clear-requires c κs = search rules

@@ -1,11 +1,9 @@
 -- `min_sum_pass::check::send` meets its contract. The invariant: the messages passed are those sent. Assumes nothing.
-use mathlib.Core.Path.{◌≡◌, refl, sym, ◌∙◌}
-use Prim.Native.Nat.{◌≤◌, ◌<◌, ◌-◌}
+use mathlib.Core.Path.{refl, ◌∙◌}
+use Prim.Native.Nat.{◌<◌}
 use native.Mathlib.Omega.{arith}
-use lib.ListN.{length, take, length-set}
-use lib.Seq.{take_all}
+use lib.ListN.{length, length-set}
 use Rattle.numbers.proofs.Turns.{table_turn}
-use Rattle.graph_lists.specs.Messages.{scan_of}
 use Rattle.min_sum_pass.specs.MinSum.{sent_to}
 use Rattle.min_sum_pass.proofs.Sends.{one_minimum}
 use Rattle.min_sum_pass.proofs.check.send.Goals as goal

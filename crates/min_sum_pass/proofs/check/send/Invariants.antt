@@ -1,13 +1,9 @@
 -- `min_sum_pass::check::send` meets its contract. The invariant: the messages passed are those sent. Assumes nothing.
-use mathlib.Core.Path.{◌≡◌, refl, sym, ◌∙◌}
-use Prim.Native.Nat.{◌≤◌, ◌<◌, ◌-◌}
-use native.Mathlib.Omega.{arith}
-use lib.ListN.{length, take, length-set}
-use lib.Seq.{take_all}
-use Rattle.numbers.proofs.Turns.{table_turn}
+use mathlib.Core.Path.{◌≡◌}
+use Prim.Native.Nat.{◌≤◌, ◌-◌}
+use lib.ListN.{length, take}
 use Rattle.graph_lists.specs.Messages.{scan_of}
 use Rattle.min_sum_pass.specs.MinSum.{sent_to}
-use Rattle.min_sum_pass.proofs.Sends.{one_minimum}
 use Rattle.min_sum_pass.proofs.check.send.Given as goal
 
 abbrev pub invariant-loop-i : goal.invariant-loop-i

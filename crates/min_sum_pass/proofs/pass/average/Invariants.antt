@@ -1,12 +1,10 @@
 -- `min_sum_pass::pass::average` meets its contract. The invariant: the elements passed are new, and the others are old. Assumes nothing.
-use mathlib.Core.Path.{◌≡◌, refl}
+use mathlib.Core.Path.{◌≡◌}
 use mathlib.Core.List.{[]}
 use Prim.Native.Nat.{◌≤◌, ◌-◌}
-use native.Mathlib.Omega.{arith}
-use lib.ListN.{length, take, drop, length-set}
+use lib.ListN.{length, take, drop}
 use Rattle.graph_messages.specs.Needs.{of_variables}
 use Rattle.min_sum_pass.specs.MinSum.{messages, averaged_to}
-use Rattle.min_sum_pass.proofs.Average.{same_after, average_turn, average_done}
 use Rattle.min_sum_pass.proofs.pass.average.Given as goal
 
 abbrev pub invariant-loop-v : goal.invariant-loop-v

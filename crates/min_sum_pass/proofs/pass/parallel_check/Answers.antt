@@ -12,7 +12,7 @@ within c =
     cut_bounds _ _ _ c.args.c _ _ c.requires.offsets c.requires.c_in_bounds c.at-start.ensures c.at-end.ensures
 
 pub update_part-requires : goal.update_part-requires
-update_part-requires c = 
+update_part-requires c =
     record { start_le_end = within (goal.at.update_part-requires c).After-at-end; per_edge = c.requires.per_edge }
 
 pub returns : goal.returns

@@ -1,11 +1,7 @@
 -- `min_sum_pass::pass::parallel_checks` meets its contract. The invariant: the checks passed have sent. Assumes nothing.
-use mathlib.Core.Path.{◌≡◌, refl, ap, ◌∙◌}
-use Prim.Native.Nat.{◌≤◌, ◌-◌}
+use mathlib.Core.Path.{refl, ◌∙◌}
 use native.Mathlib.Omega.{arith}
-use lib.ListN.{length}
-use Rattle.graph_lists.specs.Messages.{by_place}
-use Rattle.graph_messages.specs.Needs.{of_checks}
-use Rattle.min_sum_pass.specs.MinSum.{messages, checks_to}
+use Rattle.min_sum_pass.specs.MinSum.{checks_to}
 use Rattle.min_sum_pass.proofs.Checks.{checks_turn}
 use Rattle.min_sum_pass.proofs.pass.parallel_checks.Goals as goal
 

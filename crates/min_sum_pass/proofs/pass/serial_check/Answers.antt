@@ -2,7 +2,6 @@
 -- variables updated. Assumes nothing.
 use mathlib.Core.Path.{sym, ◌∙◌}
 use Prim.Native.Nat.{◌≤◌}
-use native.Mathlib.Omega.{arith}
 use lib.ListN.{length}
 use Rattle.graph_lists.proofs.Cuts.{cut_bounds}
 use Rattle.graph_messages.proofs.Parts.{part_names, walks_along}
@@ -17,7 +16,7 @@ within c =
     cut_bounds _ _ _ c.args.c _ _ c.requires.walks.parts c.requires.c_in_bounds c.at-start.ensures c.at-end.ensures
 
 pub update_part-requires : goal.update_part-requires
-update_part-requires c = 
+update_part-requires c =
     record { start_le_end = within (goal.at.update_part-requires c).After-at-end; per_edge = c.requires.per_edge }
 
 pub returns-then-update_part : goal.returns-then-update_part
@@ -30,7 +29,6 @@ slice_bounds-update_variables-end c = (within (goal.at.slice_bounds-update_varia
 
 pub update_variables-requires : goal.update_variables-requires
 update_variables-requires c =
-    
     record { keys = part_names _ _ _ _ c.requires.walks.named (within (goal.at.update_variables-requires c).After-at-end).1; walks = walks_along _ _ _ _ _ (sym (c.update_part.auto.c_to_v ∙ c.requires.per_edge.to_variables)) c.requires.walks_2; v_to_c_len = c.requires.per_edge.to_checks ∙ sym (c.update_part.auto.c_to_v ∙ c.requires.per_edge.to_variables) }
 
 pub returns : goal.returns

@@ -1,11 +1,7 @@
 -- `min_sum_pass::pass::serial_checks` meets its contract. The invariant: the checks passed have sent, and their variables are updated. Assumes nothing.
-use mathlib.Core.Path.{◌≡◌, refl, ap, ◌∙◌}
-use Prim.Native.Nat.{◌≤◌, ◌-◌}
+use mathlib.Core.Path.{refl, ◌∙◌}
 use native.Mathlib.Omega.{arith}
-use lib.ListN.{length}
-use Rattle.graph_lists.specs.Messages.{by_place}
-use Rattle.graph_messages.specs.Needs.{walked}
-use Rattle.min_sum_pass.specs.MinSum.{messages, serial_to}
+use Rattle.min_sum_pass.specs.MinSum.{serial_to}
 use Rattle.min_sum_pass.proofs.Checks.{serial_turn}
 use Rattle.min_sum_pass.proofs.pass.serial_checks.Goals as goal
 

@@ -1,13 +1,11 @@
 -- `min_sum_pass::pass::update_and_average` meets its contract. The invariant: the variables passed are updated, their elements of the running posterior are
 -- new, and the others are old. Assumes nothing.
-use mathlib.Core.Path.{◌≡◌, refl, ap, ◌∙◌}
+use mathlib.Core.Path.{◌≡◌}
 use mathlib.Core.List.{[]}
 use Prim.Native.Nat.{◌≤◌, ◌-◌}
-use native.Mathlib.Omega.{arith}
-use lib.ListN.{length, take, drop, length-set}
+use lib.ListN.{length, take, drop}
 use Rattle.graph_messages.specs.Needs.{of_variables}
 use Rattle.min_sum_pass.specs.MinSum.{messages, variables_to, averaged_to}
-use Rattle.min_sum_pass.proofs.Average.{variables_further, same_after, average_turn, average_done}
 use Rattle.min_sum_pass.proofs.pass.update_and_average.Given as goal
 
 abbrev pub invariant-loop-v : goal.invariant-loop-v

@@ -1,6 +1,5 @@
 -- `min_sum_pass::variable::raw_posterior` meets its contract. The variable's part lies within the entries, and its sum is the definition's. Assumes nothing.
 use Prim.Native.Nat.{◌≤◌}
-use native.Mathlib.Omega.{arith}
 use lib.ListN.{length}
 use Rattle.graph_lists.proofs.Cuts.{cut_bounds}
 use Rattle.graph_messages.proofs.Parts.{part_names}

@@ -1,6 +1,5 @@
 -- `min_sum_pass::variable::update_variable` meets its contract. The variable's part lies within the entries, and its update is the definition's. Assumes nothing.
 use Prim.Native.Nat.{◌≤◌}
-use native.Mathlib.Omega.{arith}
 use lib.ListN.{length}
 use Rattle.graph_lists.proofs.Cuts.{cut_bounds}
 use Rattle.graph_messages.proofs.Parts.{part_names}
@@ -18,11 +17,9 @@ pub slice_bounds-update_entries-end : goal.slice_bounds-update_entries-end
 slice_bounds-update_entries-end c = (within (goal.at.slice_bounds-update_entries-end c).After-at-end).1
 
 pub update_entries-requires : goal.update_entries-requires
-update_entries-requires c = 
-    record { keys = part_names _ _ _ _ c.requires.walks.named (within
-      c.before.before.before).1; v_to_c_len = c.requires.v_to_c_len }
+update_entries-requires c =
+    record { keys = part_names _ _ _ _ c.requires.walks.named (within (goal.at.update_entries-requires c).After-at-end).1; v_to_c_len = c.requires.v_to_c_len }
 
 pub returns : goal.returns
 returns c =
-    
     record { sum = sum_is _ _ _ _ _ _ c.args.v _ _ _ c.at-start.ensures c.at-end.ensures c.update_entries.ensures.sum; messages = update_is _ _ _ _ _ _ _ c.args.v _ _ _ c.at-start.ensures c.at-end.ensures c.update_entries.ensures.sum c.update_entries.ensures.messages }

@@ -15,11 +15,11 @@ use Rattle.relay_calls.proofs.iterate.step_end.Statement.{statement}
 use Rattle.relay_calls.proofs.iterate.step_end.Tie as tie
 
 abbrev invariant-loop : tie.invariant-loop
-invariant-loop var_message_lem var_offset_lem c-to-v v-to-c posterior v₀ v =
-    (v ≤ length posterior) × (first_of v (finite_fault (of_variables (length posterior) var_message_lem var_offset_lem) (state c-to-v v-to-c posterior)) ≡ Done)
+invariant-loop var_message var_offset c-to-v v-to-c posterior v₀ v =
+    (v ≤ length posterior) × (first_of v (finite_fault (of_variables (length posterior) var_message var_offset) (state c-to-v v-to-c posterior)) ≡ Done)
 
 abbrev decreases-loop : tie.decreases-loop
-decreases-loop var_message_lem var_offset_lem c-to-v v-to-c posterior v₀ v = length posterior - v
+decreases-loop var_message var_offset c-to-v v-to-c posterior v₀ v = length posterior - v
 
 loop-holds : tie.Need-loop-init invariant-loop decreases-loop
 unfolding first_of

@@ -13,19 +13,19 @@ use Rattle.relay_decode.proofs.all_legs.run_legs.Statement.{statement}
 use Rattle.relay_decode.proofs.all_legs.run_legs.Tie as tie
 
 abbrev invariant-loop : tie.invariant-loop
-invariant-loop t gammas seed syndrome priors check_var_lem check_offset_lem var_message_lem var_offset_lem order leg-state₀ leg-iterations₀ leg-weight₀ rows₀ correction₀ posterior₀
+invariant-loop t gammas seed syndrome priors check_var check_offset var_message var_offset order leg-state₀ leg-iterations₀ leg-weight₀ rows₀ correction₀ posterior₀
     gamma₀ bias₀ c-to-v₀ v-to-c₀ each num-legs stop tally₀ leg₀ leg_state_lem leg-iterations leg-weight rows correction posterior gamma bias c-to-v v-to-c tally leg
     =
     (leg ≤ suc t.num_legs) × (length leg_state_lem ≡ length leg-state₀) ×
     (length leg-iterations ≡ length leg-iterations₀) × (length leg-weight ≡ length leg-weight₀) ×
     (length rows ≡ length rows₀) × (length correction ≡ length correction₀) × (length posterior ≡ length posterior₀) × (length gamma ≡ length gamma₀) ×
     (length bias ≡ length bias₀) × (length c-to-v ≡ length c-to-v₀) × (length v-to-c ≡ length v-to-c₀)
-    × Reached (shot_of t gammas seed syndrome priors check_var_lem check_offset_lem var_message_lem var_offset_lem order) leg (kept (best_of tally.found tally.weight)
+    × Reached (shot_of t gammas seed syndrome priors check_var check_offset var_message var_offset order) leg (kept (best_of tally.found tally.weight)
     tally.num_converged tally.total_iterations leg leg_state_lem leg-iterations leg-weight rows correction posterior)
     × Blank (leg * length priors) rows × (tally.num_converged ≤ leg) × (tally.total_iterations ≤ leg * 65535)
 
 abbrev decreases-loop : tie.decreases-loop
-decreases-loop t gammas seed syndrome priors check_var_lem check_offset_lem var_message_lem var_offset_lem order leg-state₀ leg-iterations₀ leg-weight₀ rows₀ correction₀ posterior₀
+decreases-loop t gammas seed syndrome priors check_var check_offset var_message var_offset order leg-state₀ leg-iterations₀ leg-weight₀ rows₀ correction₀ posterior₀
     gamma₀ bias₀ c-to-v₀ v-to-c₀ each num-legs stop tally₀ leg₀ leg_state_lem leg-iterations leg-weight rows correction posterior gamma bias c-to-v v-to-c tally leg
     =
     suc t.num_legs - leg

@@ -13,10 +13,10 @@ use Rattle.relay_step.proofs.leg.all_match.Statement.{statement}
 use Rattle.relay_step.proofs.leg.all_match.Tie as tie
 
 abbrev invariant-loop : tie.invariant-loop
-invariant-loop syndrome check_var_lem check_offset_lem bits c₀ c = (c ≤ length syndrome) × (every c (matches (of_checks (length syndrome) check_var_lem check_offset_lem) bits syndrome) ≡ true)
+invariant-loop syndrome check_var check_offset bits c₀ c = (c ≤ length syndrome) × (every c (matches (of_checks (length syndrome) check_var check_offset) bits syndrome) ≡ true)
 
 abbrev decreases-loop : tie.decreases-loop
-decreases-loop syndrome check_var_lem check_offset_lem bits c₀ c = length syndrome - c
+decreases-loop syndrome check_var check_offset bits c₀ c = length syndrome - c
 
 loop-holds : tie.Need-loop-init invariant-loop decreases-loop
 loop-holds c = (omega arith, refl)

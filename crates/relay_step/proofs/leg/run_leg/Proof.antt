@@ -17,16 +17,16 @@ use Rattle.relay_step.proofs.leg.run_leg.Statement.{statement}
 use Rattle.relay_step.proofs.leg.run_leg.Tie as tie
 
 abbrev invariant-loop : tie.invariant-loop
-invariant-loop limit schedule alpha clip syndrome priors gamma check_var_lem check_offset_lem var_message_lem var_offset_lem order bias₀ c-to-v₀ v-to-c₀ posterior₀ bits₀ k₀ bias c-to-v v-to-c posterior bits k =
+invariant-loop limit schedule alpha clip syndrome priors gamma check_var check_offset var_message var_offset order bias₀ c-to-v₀ v-to-c₀ posterior₀ bits₀ k₀ bias c-to-v v-to-c posterior bits k =
     (k ≤ limit) × (length bias ≡ length bias₀) × (length c-to-v ≡ length c-to-v₀) × (length v-to-c ≡ length v-to-c₀) × (length posterior ≡ length posterior₀) × (length bits ≡ length bits₀)
-    × (run_leg (iteration schedule by_place (walked (length syndrome) (length priors) check_var_lem check_offset_lem var_message_lem var_offset_lem) alpha clip syndrome priors gamma order)
-    (satisfied (of_checks (length syndrome) check_var_lem check_offset_lem) syndrome) (limit - k) false k (state c-to-v v-to-c posterior)
-    ≡ run_leg (iteration schedule by_place (walked (length syndrome) (length priors) check_var_lem check_offset_lem var_message_lem var_offset_lem) alpha clip syndrome priors gamma order)
-    (satisfied (of_checks (length syndrome) check_var_lem check_offset_lem) syndrome) limit false 0 (state c-to-v₀ v-to-c₀ posterior₀))
+    × (run_leg (iteration schedule by_place (walked (length syndrome) (length priors) check_var check_offset var_message var_offset) alpha clip syndrome priors gamma order)
+    (satisfied (of_checks (length syndrome) check_var check_offset) syndrome) (limit - k) false k (state c-to-v v-to-c posterior)
+    ≡ run_leg (iteration schedule by_place (walked (length syndrome) (length priors) check_var check_offset var_message var_offset) alpha clip syndrome priors gamma order)
+    (satisfied (of_checks (length syndrome) check_var check_offset) syndrome) limit false 0 (state c-to-v₀ v-to-c₀ posterior₀))
     × (0 < k → bits ≡ hard_decision posterior)
 
 abbrev decreases-loop : tie.decreases-loop
-decreases-loop limit schedule alpha clip syndrome priors gamma check_var_lem check_offset_lem var_message_lem var_offset_lem order bias₀ c-to-v₀ v-to-c₀ posterior₀ bits₀ k₀ bias c-to-v v-to-c posterior bits k = limit - k
+decreases-loop limit schedule alpha clip syndrome priors gamma check_var check_offset var_message var_offset order bias₀ c-to-v₀ v-to-c₀ posterior₀ bits₀ k₀ bias c-to-v v-to-c posterior bits k = limit - k
 
 -- one iteration, and the test, as they stand at the start
 abbrev Step : tie.Start invariant-loop decreases-loop → State → State

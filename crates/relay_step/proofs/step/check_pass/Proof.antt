@@ -13,12 +13,12 @@ use Rattle.relay_step.proofs.step.check_pass.Statement.{statement}
 use Rattle.relay_step.proofs.step.check_pass.Tie as tie
 
 abbrev invariant-loop : tie.invariant-loop
-invariant-loop alpha clip syndrome check_var_lem check_offset_lem order v-to-c c-to-v₀ i₀ c-to-v i =
+invariant-loop alpha clip syndrome check_var check_offset order v-to-c c-to-v₀ i₀ c-to-v i =
     (i ≤ length order) × (length c-to-v ≡ length c-to-v₀)
-    × (state c-to-v v-to-c [] ≡ check_pass by_place (of_checks (length syndrome) check_var_lem check_offset_lem) alpha clip syndrome (take i order) (state c-to-v₀ v-to-c []))
+    × (state c-to-v v-to-c [] ≡ check_pass by_place (of_checks (length syndrome) check_var check_offset) alpha clip syndrome (take i order) (state c-to-v₀ v-to-c []))
 
 abbrev decreases-loop : tie.decreases-loop
-decreases-loop alpha clip syndrome check_var_lem check_offset_lem order v-to-c c-to-v₀ i₀ c-to-v i = length order - i
+decreases-loop alpha clip syndrome check_var check_offset order v-to-c c-to-v₀ i₀ c-to-v i = length order - i
 
 loop-holds : tie.Need-loop-init invariant-loop decreases-loop
 unfolding check_pass

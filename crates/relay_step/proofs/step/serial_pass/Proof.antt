@@ -12,13 +12,13 @@ use Rattle.relay_step.proofs.step.serial_pass.Statement.{statement}
 use Rattle.relay_step.proofs.step.serial_pass.Tie as tie
 
 abbrev invariant-loop : tie.invariant-loop
-invariant-loop alpha clip syndrome bias check_var_lem check_offset_lem var_message_lem var_offset_lem order c-to-v₀ v-to-c₀ posterior₀ i₀ c-to-v v-to-c posterior i =
+invariant-loop alpha clip syndrome bias check_var check_offset var_message var_offset order c-to-v₀ v-to-c₀ posterior₀ i₀ c-to-v v-to-c posterior i =
     (i ≤ length order) × (length c-to-v ≡ length c-to-v₀) × (length v-to-c ≡ length v-to-c₀) × (length posterior ≡ length posterior₀)
     × (state c-to-v v-to-c posterior
-    ≡ serial_pass by_place (walked (length syndrome) (length bias) check_var_lem check_offset_lem var_message_lem var_offset_lem) alpha clip syndrome bias (take i order) (state c-to-v₀ v-to-c₀ posterior₀))
+    ≡ serial_pass by_place (walked (length syndrome) (length bias) check_var check_offset var_message var_offset) alpha clip syndrome bias (take i order) (state c-to-v₀ v-to-c₀ posterior₀))
 
 abbrev decreases-loop : tie.decreases-loop
-decreases-loop alpha clip syndrome bias check_var_lem check_offset_lem var_message_lem var_offset_lem order c-to-v₀ v-to-c₀ posterior₀ i₀ c-to-v v-to-c posterior i =
+decreases-loop alpha clip syndrome bias check_var check_offset var_message var_offset order c-to-v₀ v-to-c₀ posterior₀ i₀ c-to-v v-to-c posterior i =
     length order - i
 
 loop-holds : tie.Need-loop-init invariant-loop decreases-loop

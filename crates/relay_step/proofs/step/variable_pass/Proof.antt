@@ -11,12 +11,12 @@ use Rattle.relay_step.proofs.step.variable_pass.Statement.{statement}
 use Rattle.relay_step.proofs.step.variable_pass.Tie as tie
 
 abbrev invariant-loop : tie.invariant-loop
-invariant-loop bias var_message_lem var_offset_lem c-to-v v-to-c₀ posterior₀ v₀ v-to-c posterior v =
+invariant-loop bias var_message var_offset c-to-v v-to-c₀ posterior₀ v₀ v-to-c posterior v =
     (v ≤ length bias) × (length v-to-c ≡ length v-to-c₀) × (length posterior ≡ length posterior₀)
-    × (state c-to-v v-to-c posterior ≡ variable_pass (of_variables (length bias) var_message_lem var_offset_lem) bias (state c-to-v v-to-c₀ posterior₀) v)
+    × (state c-to-v v-to-c posterior ≡ variable_pass (of_variables (length bias) var_message var_offset) bias (state c-to-v v-to-c₀ posterior₀) v)
 
 abbrev decreases-loop : tie.decreases-loop
-decreases-loop bias var_message_lem var_offset_lem c-to-v v-to-c₀ posterior₀ v₀ v-to-c posterior v = length bias - v
+decreases-loop bias var_message var_offset c-to-v v-to-c₀ posterior₀ v₀ v-to-c posterior v = length bias - v
 
 loop-holds : tie.Need-loop-init invariant-loop decreases-loop
 unfolding variable_pass

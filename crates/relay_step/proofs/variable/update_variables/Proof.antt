@@ -13,12 +13,12 @@ use Rattle.relay_step.proofs.variable.update_variables.Statement.{statement}
 use Rattle.relay_step.proofs.variable.update_variables.Tie as tie
 
 abbrev invariant-loop : tie.invariant-loop
-invariant-loop variables bias var_message_lem var_offset_lem c-to-v v-to-c₀ posterior₀ i₀ v-to-c posterior i =
+invariant-loop variables bias var_message var_offset c-to-v v-to-c₀ posterior₀ i₀ v-to-c posterior i =
     (i ≤ length variables) × (length v-to-c ≡ length v-to-c₀) × (length posterior ≡ length posterior₀)
-    × (state c-to-v v-to-c posterior ≡ foldl (update_variable (of_variables (length bias) var_message_lem var_offset_lem) bias) (state c-to-v v-to-c₀ posterior₀) (take i variables))
+    × (state c-to-v v-to-c posterior ≡ foldl (update_variable (of_variables (length bias) var_message var_offset) bias) (state c-to-v v-to-c₀ posterior₀) (take i variables))
 
 abbrev decreases-loop : tie.decreases-loop
-decreases-loop variables bias var_message_lem var_offset_lem c-to-v v-to-c₀ posterior₀ i₀ v-to-c posterior i = length variables - i
+decreases-loop variables bias var_message var_offset c-to-v v-to-c₀ posterior₀ i₀ v-to-c posterior i = length variables - i
 
 loop-holds : tie.Need-loop-init invariant-loop decreases-loop
 loop-holds c = (omega arith, refl, refl, refl)

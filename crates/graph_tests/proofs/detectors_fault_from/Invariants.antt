@@ -1,0 +1,17 @@
+-- `graph_tests::detectors_fault_from` meets its contract. The invariant: none from `from` up to i refuses. Assumes nothing.
+use mathlib.Core.Path.{◌≡◌, refl, sym, ap, ◌∙◌}
+use Prim.Native.Nat.{ℕ, ◌+◌, ◌-◌, ◌≤◌}
+use native.Mathlib.Omega.{arith}
+use lib.ListN.{length}
+use Rattle.refusals.proofs.Tests.{first_refuse, first_go}
+use Rattle.refusals.specs.Tests.{first_of}
+use Rattle.refusals.specs.declared.Answer.TheVariants.{Done}
+use Rattle.graph_lists.specs.Model.{detector_fault}
+use mathlib.Core.Bool.{not}
+use Rattle.graph_tests.proofs.detectors_fault_from.Given as goal
+
+abbrev pub invariant-loop-i : goal.invariant-loop-i
+invariant-loop-i l = (l.from ≤ l.i) × (l.i - l.from ≤ length l.ds - l.from) × (first_of (l.i - l.from) (λ j. detector_fault l.checks l.m l.ds (l.from + j)) ≡ Done)
+
+abbrev pub decreases-loop-i : goal.decreases-loop-i
+decreases-loop-i l = length l.ds - l.i
