@@ -1,6 +1,7 @@
 // Replays the oracle's three lists of cases: runs each case on the proved code and compares with the Rust's answer. It reads them from
 // standard input, which the file stdin holds.
-use replay_cases::{Counts, count, line_end, report, text_room, word_at};
+use replay_cases::{Counts, count, line_end, read_whole, report, text_room, word_at};
+use std::io;
 
 #[derive(Clone, Copy)]
 struct Totals {
@@ -65,14 +66,14 @@ fn replay(text: &[u8]) -> Totals {
     totals
 }
 
-fn main() {
+fn main(rt: HostRuntime) -> io::Result<()> {
     let mut text = text_room();
-    let n = io::read_full(0, &mut text);
+    let n = read_whole(&rt, &mut text)?;
     let totals = replay(&text[..n]);
     let graphs = totals.graphs;
     let beliefs = totals.beliefs;
     let decodes = totals.decodes;
-    report(b"graphs", graphs);
-    report(b"beliefs", beliefs);
-    report(b"decodes", decodes);
+    report(&rt, b"graphs", graphs)?;
+    report(&rt, b"beliefs", beliefs)?;
+    report(&rt, b"decodes", decodes)
 }

@@ -1,12 +1,13 @@
 // Inner: reads the oracle's lists of cases: a case a line, words of hexadecimal digits, one space between. For `replay`, the crates of its
 // three lists and `replay_shots` alone.
-ghost use Rattle.std.specs.Prelude.{◌≤◌, length};
+ghost use Rattle.std.specs.Prelude.{◌≤◌, length, IfOk};
 
 use graph::Size;
-use libc::STDOUT_FILENO;
 use numbers::is_negative;
 use refusals::{Answer, Place, number_of, place_of};
 use refusals_tests::both;
+use std::io;
+use std::io::Read;
 use std::num::wrapping_add_u64;
 
 // What a byte is worth as a digit; 16 where it is none.
@@ -349,12 +350,26 @@ pub fn text_room() -> [u8; 1048576] {
     [0u8; 1048576]
 }
 
+// Reads standard input to its end, or until the room is full, and answers how many bytes that were.
+pub fn read_whole(rt: &impl Input, room: &mut [u8]) -> io::Result<usize>
+    ensures { IfOk result (λ n. n ≤ length room.new) }
+{
+    let mut input = rt.reader();
+    let mut done = 0;
+    while done < room.len() {
+        let n = input.read(&mut room[done..])?;
+        if n == 0 {
+            break;
+        }
+        done += n;
+    }
+    Ok(done)
+}
+
 // What `replay` writes of a list.
-pub fn report(name: &[u8], counts: Counts) {
-    io::write_all(STDOUT_FILENO, name);
-    io::write_all(STDOUT_FILENO, b" ");
-    io::print_decimal(STDOUT_FILENO, counts.same);
-    io::write_all(STDOUT_FILENO, b" same, ");
-    io::print_decimal(STDOUT_FILENO, counts.other);
-    io::write_all(STDOUT_FILENO, b" other\n");
+pub fn report(rt: &impl Print, name: &[u8], counts: Counts) -> io::Result<()> {
+    rt.write_all(name)?;
+    let same = counts.same;
+    let other = counts.other;
+    println!(rt; " {same} same, {other} other")
 }

@@ -2,19 +2,20 @@
 // fixed lines in `stdout` are what the published Rust and the stream's rules, written apart, say (`oracle/streams`).
 ghost use Rattle.std.specs.Prelude.{◌<◌};
 
-use replay_cases::text_room;
+use replay_cases::{read_whole, text_room};
+use std::io;
 use stream_session::Session;
 
 // A stream, whole.
-fn stream(bytes: &[u8]) {
+fn stream(rt: &impl Print, bytes: &[u8]) {
     // The longest payload within the room: 12 + 12 * 256 + 4 * 512 bytes.
     let mut payload = [0u8; 5132];
     let mut model = [0u8; 5132];
     let mut line = [0u8; 512];
-    let p = stream_writing::piece(Session::new(), bytes, &mut payload, &mut model, &mut line);
+    let p = stream_writing::piece(rt, Session::new(), bytes, &mut payload, &mut model, &mut line);
     if p.written {
         let s = p.session;
-        stream_writing::end(s, &mut line);
+        stream_writing::end(rt, s, &mut line);
     }
 }
 
@@ -38,7 +39,7 @@ fn length_at(text: &[u8], at: usize) -> usize {
 }
 
 // Every stream.
-fn replay(text: &[u8]) {
+fn replay(rt: &impl Print, text: &[u8]) {
     let mut at = 0;
     while at < text.len() {
         let n = length_at(text, at);
@@ -49,13 +50,14 @@ fn replay(text: &[u8]) {
         if text.len() - start < n {
             return;
         }
-        stream(&text[start..start + n]);
+        stream(rt, &text[start..start + n]);
         at = start + n;
     }
 }
 
-fn main() {
+fn main(rt: HostRuntime) -> io::Result<()> {
     let mut text = text_room();
-    let n = io::read_full(0, &mut text);
-    replay(&text[..n]);
+    let n = read_whole(&rt, &mut text)?;
+    replay(&rt, &text[..n]);
+    Ok(())
 }

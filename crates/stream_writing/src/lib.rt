@@ -6,14 +6,15 @@ ghost use Rattle.numbers.specs.Loops.{over};
 ghost use Rattle.stream_session.specs.Shots.{told, taken, left, end_text};
 ghost use Rattle.stream_writing.specs.Written.{PieceLeft};
 
-use libc::{STDIN_FILENO, STDOUT_FILENO};
 use numbers::limits::{ROOM_LINE, ROOM_PAYLOAD};
+use std::io;
+use std::io::Read;
 use stream_session::Session;
 
 // Writes a list's first n bytes. Answers whether it did.
-fn say(line: &[u8], n: usize) -> bool {
+fn say(rt: &impl Print, line: &[u8], n: usize) -> bool {
     if n <= line.len() {
-        return io::write_all(STDOUT_FILENO, &line[..n]);
+        return rt.write_all(&line[..n]).is_ok();
     }
     false
 }
@@ -28,6 +29,7 @@ pub struct Progress {
 
 // A piece of a stream, up to its end or to a line that was not written.
 pub fn piece(
+    rt: &impl Print,
     before: Session,
     bytes: &[u8],
     payload: &mut [u8],
@@ -42,7 +44,7 @@ pub fn piece(
     while i < bytes.len() {
         s = stream_session::take(s, bytes[i], payload, model, line);
         i += 1;
-        if !say(line, s.said) {
+        if !say(rt, line, s.said) {
             return Progress {
                 session: s,
                 taken: i,
@@ -58,15 +60,16 @@ pub fn piece(
 }
 
 // The end of the input. Answers whether the last line was written.
-pub fn end(s: Session, line: &mut [u8; ROOM_LINE]) -> bool
+pub fn end(rt: &impl Print, s: Session, line: &mut [u8; ROOM_LINE]) -> bool
     ensures { line.new ≡ over (end_text s) line.old }
 {
     let n = stream_session::finish(s, line);
-    say(line, n)
+    say(rt, line, n)
 }
 
 // A piece, with the session as the answer.
 fn heard(
+    rt: &impl Print,
     before: Session,
     bytes: &[u8],
     payload: &mut [u8],
@@ -74,37 +77,34 @@ fn heard(
     line: &mut [u8; ROOM_LINE],
     written: &mut bool,
 ) -> Session {
-    let p = piece(before, bytes, payload, model, line);
+    let p = piece(rt, before, bytes, payload, model, line);
     *written = p.written;
     let s = p.session;
     s
 }
 
 // A whole run: reads standard input piece by piece, to its end or to the refusal that ends the run. A read or a write that fails ends it
-// at once, without a last line, and standard error tells. A proved loop has to end, so it counts its turns down, from a number that no run
+// at once, without a last line, and is the answer. A proved loop has to end, so it counts its turns down, from a number that no run
 // uses up.
-pub fn run() {
+pub fn run(rt: &(impl Input + Print)) -> io::Result<()> {
     let mut payload = [0u8; ROOM_PAYLOAD];
     let mut model = [0u8; ROOM_PAYLOAD];
     let mut line = [0u8; ROOM_LINE];
-    let mut room = io::buffer();
+    let mut room = [0u8; 4096];
+    let mut input = rt.reader();
     let mut written = true;
     let mut s = Session::new();
     let mut turns = u64::MAX;
     while turns > 0 {
-        let got = libc::read(STDIN_FILENO, &mut room);
-        if got < 0 {
-            os::fail(b"standard input");
-            return;
-        }
-        let n = io::count(got, &room);
+        let n = input.read(&mut room)?;
         if n == 0 {
-            if !end(s, &mut line) {
-                os::fail(b"standard output");
+            if !end(rt, s, &mut line) {
+                return Err(io::Error::other("standard output"));
             }
-            return;
+            return Ok(());
         }
         s = heard(
+            rt,
             s,
             &room[..n],
             &mut payload,
@@ -113,12 +113,12 @@ pub fn run() {
             &mut written,
         );
         if !written {
-            os::fail(b"standard output");
-            return;
+            return Err(io::Error::other("standard output"));
         }
         if s.stopped {
-            return;
+            return Ok(());
         }
         turns -= 1;
     }
+    Ok(())
 }

@@ -1,0 +1,20 @@
+-- `relay_step::leg::all_match` meets its contract. The invariant: the checks passed match.
+-- Assumes nothing.
+use mathlib.Core.Path.{◌≡◌, refl, sym}
+use mathlib.Core.Bool.{true}
+use Prim.Native.Nat.{◌≤◌, ◌-◌}
+use native.Mathlib.Omega.{arith}
+use lib.ListN.{length}
+use Rattle.numbers.specs.Loops.{every}
+use Rattle.numbers.proofs.Cases.{every_refuse, every_go}
+use Rattle.graph_messages.specs.Needs.{of_checks}
+use Rattle.relay_step.specs.Leg.{matches}
+use mathlib.Core.Path.{ap}
+use mathlib.Core.Bool.{not}
+use Rattle.relay_step.proofs.leg.all_match.Given as goal
+
+abbrev pub invariant-loop-c : goal.invariant-loop-c
+invariant-loop-c l = (l.c ≤ length l.syndrome) × (every l.c (matches (of_checks (length l.syndrome) l.check_var l.check_offset) l.bits l.syndrome) ≡ true)
+
+abbrev pub decreases-loop-c : goal.decreases-loop-c
+decreases-loop-c l = length l.syndrome - l.c

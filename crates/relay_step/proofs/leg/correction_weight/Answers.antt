@@ -1,0 +1,17 @@
+-- `relay_step::leg::correction_weight` meets its contract. The invariant: the weight is that of the variables passed.
+-- Assumes nothing.
+use mathlib.Core.Path.{◌≡◌, refl, ap, ◌∙◌}
+use Prim.Native.Nat.{◌≤◌, ◌-◌}
+use native.Mathlib.Omega.{arith}
+use lib.Ieee.{of_bits, neg}
+use lib.ListN.{length}
+use Rattle.relay_step.specs.Leg.{correction_weight}
+use Rattle.relay_step.proofs.Legs.{weight_turn}
+use Rattle.relay_step.proofs.leg.correction_weight.Goals as goal
+
+pub loop-v-init : goal.loop-v-init
+unfolding correction_weight of_bits neg
+loop-v-init c = (omega arith, refl)
+
+pub loop-v-preserved : goal.loop-v-preserved
+loop-v-preserved c = (omega arith, weight_turn _ _ c.loop-v.v _ _ c.loop-v.invariant.1 c.cost-weight.ensures)

@@ -1,0 +1,16 @@
+-- `relay_step::leg::hard_decision` meets its contract. The invariant: the bits passed are decided.
+-- Assumes nothing.
+use mathlib.Core.Path.{◌≡◌, refl}
+use mathlib.Core.List.{map}
+use Prim.Native.Nat.{◌≤◌, ◌-◌}
+use native.Mathlib.Omega.{arith}
+use lib.ListN.{length, take, length-set}
+use Rattle.relay_step.specs.Leg.{hard_bit}
+use Rattle.relay_step.proofs.Legs.{hard_turn, hard_done}
+use Rattle.relay_step.proofs.leg.hard_decision.Given as goal
+
+abbrev pub invariant-loop-v : goal.invariant-loop-v
+invariant-loop-v l = (l.v ≤ length l.posterior) × (length l.bits ≡ length l.posterior) × (take l.v l.bits ≡ map hard_bit (take l.v l.posterior))
+
+abbrev pub decreases-loop-v : goal.decreases-loop-v
+decreases-loop-v l = length l.posterior - l.v

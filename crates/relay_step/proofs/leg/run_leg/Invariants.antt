@@ -1,0 +1,27 @@
+-- `relay_step::leg::run_leg` meets its contract. The invariant: what is left of the limit, from here, is the whole leg; and after an iteration the bits are the hard decision.
+-- Assumes nothing.
+use mathlib.Core.Path.{◌≡◌, refl, sym, ◌∙◌}
+use mathlib.Core.Bool.{Bool, false}
+use mathlib.Core.List.{List}
+use lib.Ieee.{Float}
+use Prim.Native.Nat.{◌+◌, ◌≤◌, ◌<◌, ◌-◌}
+use native.Mathlib.Omega.{arith}
+use lib.ListN.{length}
+use Rattle.graph_lists.specs.Messages.{by_place}
+use Rattle.graph_messages.specs.Needs.{walked, of_checks}
+use Rattle.graph_messages.proofs.Parts.{walks_along}
+use Rattle.relay_step.specs.Step.{State, state, iteration}
+use Rattle.relay_step.specs.Leg.{hard_decision, satisfied, run_leg}
+use Rattle.relay_step.proofs.Legs.{leg_turn, leg_start, leg_passed, leg_over}
+use Rattle.relay_step.proofs.leg.run_leg.Given as goal
+
+abbrev pub invariant-loop-k : goal.invariant-loop-k
+invariant-loop-k l = (l.k ≤ l.limit) × (length l.bias ≡ length l.initial.bias) × (length l.c_to_v ≡ length l.initial.c_to_v) × (length l.v_to_c ≡ length l.initial.v_to_c) × (length l.posterior ≡ length l.initial.posterior) × (length l.bits ≡ length l.initial.bits)
+    × (run_leg (iteration l.schedule by_place (walked (length l.syndrome) (length l.priors) l.check_var l.check_offset l.var_message l.var_offset) l.alpha l.clip l.syndrome l.priors l.gamma l.order)
+    (satisfied (of_checks (length l.syndrome) l.check_var l.check_offset) l.syndrome) (l.limit - l.k) false l.k (state l.c_to_v l.v_to_c l.posterior)
+    ≡ run_leg (iteration l.schedule by_place (walked (length l.syndrome) (length l.priors) l.check_var l.check_offset l.var_message l.var_offset) l.alpha l.clip l.syndrome l.priors l.gamma l.order)
+    (satisfied (of_checks (length l.syndrome) l.check_var l.check_offset) l.syndrome) l.limit false 0 (state l.initial.c_to_v l.initial.v_to_c l.initial.posterior))
+    × (0 < l.k → l.bits ≡ hard_decision l.posterior)
+
+abbrev pub decreases-loop-k : goal.decreases-loop-k
+decreases-loop-k l = l.limit - l.k
