@@ -1,5 +1,7 @@
 // Inner: tests 1 to 6 and 8, of sparse and of dense models: sizes, lengths, detector offsets, priors or probabilities, detectors; and 7, of
 // lent graph lists. `graph` and `graph_probabilities` alone call it.
+#![tactic(auto)]
+
 pub mod seven;
 
 ghost use Rattle.std.specs.Prelude.{◌≡◌, ◌&&◌, suc, ◌+◌, ◌-◌, ◌<◌, ◌≤◌, length, take};

@@ -2,13 +2,12 @@
 use mathlib.Core.Bool.{true, ◌&&◌}
 use mathlib.Core.Path.{◌≡◌}
 use Prim.Native.Nat.{◌*◌}
-use native.Mathlib.Omega.{arith}
 use lib.Dec.{eqb}
 use lib.ListN.{length}
 use borrow.Author.Tests.{not-true, not-false}
 use Rattle.numbers.proofs.Cases.{was_true, was_false}
 use Rattle.graph_lists.specs.Model.{counts_good}
-use Rattle.graph_lists.proofs.DenseTests.{product_small, dense_1, dense_2, dense_3, dense_4, dense_5}
+use Rattle.graph_lists.proofs.DenseTests.{dense_1, dense_2, dense_3, dense_4, dense_5}
 use mathlib.Core.Path.{ap}
 use mathlib.Core.Bool.{not}
 use Rattle.graph_tests.proofs.dense_fault.Goals as goal

@@ -1,13 +1,10 @@
 -- `graph_tests::detectors_fault_from` meets its contract. The invariant: none from `from` up to i refuses. Assumes nothing.
-use mathlib.Core.Path.{◌≡◌, refl, sym, ap, ◌∙◌}
-use Prim.Native.Nat.{ℕ, ◌+◌, ◌-◌, ◌≤◌}
-use native.Mathlib.Omega.{arith}
+use mathlib.Core.Path.{◌≡◌}
+use Prim.Native.Nat.{◌+◌, ◌-◌, ◌≤◌}
 use lib.ListN.{length}
-use Rattle.refusals.proofs.Tests.{first_refuse, first_go}
 use Rattle.refusals.specs.Tests.{first_of}
 use Rattle.refusals.specs.declared.Answer.TheVariants.{Done}
 use Rattle.graph_lists.specs.Model.{detector_fault}
-use mathlib.Core.Bool.{not}
 use Rattle.graph_tests.proofs.detectors_fault_from.Given as goal
 
 abbrev pub invariant-loop-i : goal.invariant-loop-i

@@ -1,11 +1,9 @@
 -- `graph_tests::repeated` meets its contract. The invariant: d is not among the first j. Assumes nothing.
 use mathlib.Core.Bool.{false}
-use mathlib.Core.Path.{◌≡◌, refl, sym}
+use mathlib.Core.Path.{◌≡◌}
 use Prim.Native.Nat.{◌-◌, ◌≤◌}
-use native.Mathlib.Omega.{arith}
 use lib.ListN.{take}
 use Rattle.graph_lists.specs.Lists.{has}
-use Rattle.graph_lists.proofs.ModelTests.{repeat_turn, repeat_found}
 use Rattle.graph_tests.proofs.repeated.Given as goal
 
 abbrev pub invariant-loop-j : goal.invariant-loop-j

@@ -1,8 +1,6 @@
 -- `graph_tests::rises_to` meets its contract. The invariant: ds rises up to r. Assumes nothing.
 use Prim.Native.Nat.{ℕ, suc, ◌-◌, ◌<◌}
-use native.Mathlib.Omega.{arith}
 use lib.ListN.{length, get_or}
-use Rattle.graph_lists.proofs.ModelTests.{front_turn, front_ends}
 use Rattle.graph_tests.proofs.rises_to.Given as goal
 
 abbrev pub invariant-loop-r : goal.invariant-loop-r

@@ -43,4 +43,4 @@ scaled_cut a p s v h e =
 
 pub magnitude-digits-requires : goal.magnitude-digits-requires
 magnitude-digits-requires g c =
-    scaled_cut c.prior_of-answer.result c.args.p c.answer-1.given.0.0 c.answer-1.given.0.1.0 c.prior_of-answer.ensures c.in-Prior.is
+    scaled_cut c.prior_of-answer.result c.args.p c.in-Prior.scaled c.in-Prior.field-1 c.prior_of-answer.ensures c.in-Prior.is

@@ -10,7 +10,7 @@ pub returns-then-not-rises_below : goal.returns-then-not-rises_below
 returns-then-not-rises_below c = entries_no _ _ _ _ _ _ (was_false _ _ c.rises_below.ensures (ap not c.if-not-rises_below.true))
 
 pub meets_good-requires : goal.meets_good-requires
-meets_good-requires c = 
+meets_good-requires c =
     record { offsets = c.requires.offsets; ms_len = c.requires.ms_len; rising = rises_told _ _ (was_true _ _ c.rises_below.ensures (ap not c.if-not-rises_below.false)) }
 
 pub returns : goal.returns

@@ -1,7 +1,7 @@
 -- `graph_tests::seven::is_graph` meets its contract. Each answer is the quick test at what its parts said, and the quick test is the plain one (`test_is`). Assumes nothing.
 use mathlib.Core.Path.{sym, ◌∙◌}
 use Rattle.numbers.proofs.Cases.{was_true, was_false}
-use Rattle.graph_lists.specs.Graph.{Graph, graph}
+use Rattle.graph_lists.specs.Graph.{graph}
 use Rattle.graph_lists.proofs.ModelTests.{offsets_told}
 use Rattle.graph_lists.proofs.QuickTurns.{whole_1, whole_2, whole_3, whole_4}
 use mathlib.Core.Path.{ap}
@@ -33,11 +33,11 @@ returns-then-not-offsets_good-2 c =
 
 pub vars_good-requires : goal.vars_good-requires
 vars_good-requires c = record {
-      offsets = rw c.requires.check_var (offsets_told _ _ _ c.requires.check_offset (was_true _ _ c.offsets_good.ensures
-          (ap not c.if-not-offsets_good.false)));
-      offsets_2 = rw c.requires.var_check (offsets_told _ _ _ c.requires.var_offset (was_true _ _ c.offsets_good-2.ensures (ap not c.if-not-offsets_good-2.false)));
-      var_message_len = c.requires.var_message ∙ sym c.requires.var_check;
-    }
+  offsets = rw c.requires.check_var (offsets_told _ _ _ c.requires.check_offset (was_true _ _ c.offsets_good.ensures
+      (ap not c.if-not-offsets_good.false)));
+  offsets_2 = rw c.requires.var_check (offsets_told _ _ _ c.requires.var_offset (was_true _ _ c.offsets_good-2.ensures (ap not c.if-not-offsets_good-2.false)));
+  var_message_len = c.requires.var_message ∙ sym c.requires.var_check;
+}
 
 pub returns : goal.returns
 returns c =

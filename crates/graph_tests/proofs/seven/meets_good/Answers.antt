@@ -1,11 +1,7 @@
 -- `graph_tests::seven::meets_good` meets its contract. The invariant: the first i entries are good. Assumes nothing.
-use mathlib.Core.Bool.{Bool, true}
-use mathlib.Core.Path.{◌≡◌, refl, sym}
-use Prim.Native.Nat.{ℕ, ◌-◌, ◌≤◌}
+use mathlib.Core.Path.{◌≡◌}
 use native.Mathlib.Omega.{arith}
-use lib.ListN.{length}
 use Rattle.numbers.proofs.Cases.{every_refuse, every_go}
-use Rattle.numbers.specs.Loops.{every}
 use Rattle.graph_lists.specs.QuickTest.{entry_good}
 use Rattle.graph_lists.proofs.QuickTurns.{entry_is}
 use mathlib.Core.Path.{ap}

@@ -1,15 +1,10 @@
 -- `graph_tests::seven::meets_good` meets its contract. The invariant: the first i entries are good. Assumes nothing.
-use mathlib.Core.Bool.{Bool, true}
-use mathlib.Core.Path.{◌≡◌, refl, sym}
-use Prim.Native.Nat.{ℕ, ◌-◌, ◌≤◌}
-use native.Mathlib.Omega.{arith}
+use mathlib.Core.Bool.{true}
+use mathlib.Core.Path.{◌≡◌}
+use Prim.Native.Nat.{◌-◌, ◌≤◌}
 use lib.ListN.{length}
-use Rattle.numbers.proofs.Cases.{every_refuse, every_go}
 use Rattle.numbers.specs.Loops.{every}
 use Rattle.graph_lists.specs.QuickTest.{entry_good}
-use Rattle.graph_lists.proofs.QuickTurns.{entry_is}
-use mathlib.Core.Path.{ap}
-use mathlib.Core.Bool.{not}
 use Rattle.graph_tests.proofs.seven.meets_good.Given as goal
 
 abbrev pub invariant-loop-i : goal.invariant-loop-i

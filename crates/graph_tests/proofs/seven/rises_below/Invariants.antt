@@ -1,13 +1,10 @@
 -- `graph_tests::seven::rises_below` meets its contract. The invariant: the first i rise, and `least` is one more than the last of them. Assumes nothing.
 use mathlib.Core.Bool.{true}
-use mathlib.Core.Path.{◌≡◌, refl, sym}
+use mathlib.Core.Path.{◌≡◌}
 use Prim.Native.Nat.{◌-◌, ◌≤◌}
-use native.Mathlib.Omega.{arith}
 use lib.ListN.{length}
-use Rattle.numbers.proofs.Cases.{every_turn, every_stop}
 use Rattle.numbers.specs.Loops.{every}
-use Rattle.graph_lists.specs.QuickTest.{low, step_good, rises_below}
-use Rattle.graph_lists.proofs.QuickTurns.{step_yes, step_low, step_high, low_next, low_first}
+use Rattle.graph_lists.specs.QuickTest.{low, step_good}
 use Rattle.graph_tests.proofs.seven.rises_below.Given as goal
 
 abbrev pub invariant-loop-i : goal.invariant-loop-i

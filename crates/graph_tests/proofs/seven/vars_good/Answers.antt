@@ -1,15 +1,13 @@
 -- `graph_tests::seven::vars_good` meets its contract. The invariant: the first v variables are good; a variable's part lies within the entries, which the offsets cut. Assumes nothing.
-use mathlib.Core.Bool.{Bool, true}
-use mathlib.Core.Path.{◌≡◌, refl, sym}
-use Prim.Native.Nat.{ℕ, ◌-◌, ◌≤◌}
+use mathlib.Core.Path.{◌≡◌}
+use Prim.Native.Nat.{◌≤◌}
 use native.Mathlib.Omega.{arith}
 use lib.ListN.{length}
 use Rattle.numbers.proofs.Cases.{every_refuse, every_go}
-use Rattle.numbers.specs.Loops.{every}
 use Rattle.graph_lists.specs.Graph.{graph}
 use Rattle.graph_lists.specs.QuickTest.{var_good}
 use Rattle.graph_lists.proofs.Cuts.{cut_bounds}
-use Rattle.graph_lists.proofs.QuickTurns.{var_is, parts_long}
+use Rattle.graph_lists.proofs.QuickTurns.{var_is}
 use mathlib.Core.Path.{ap}
 use mathlib.Core.Bool.{not}
 use Rattle.graph_tests.proofs.seven.vars_good.Goals as goal

@@ -1,17 +1,10 @@
 -- `graph_tests::seven::vars_good` meets its contract. The invariant: the first v variables are good; a variable's part lies within the entries, which the offsets cut. Assumes nothing.
-use mathlib.Core.Bool.{Bool, true}
-use mathlib.Core.Path.{◌≡◌, refl, sym}
-use Prim.Native.Nat.{ℕ, ◌-◌, ◌≤◌}
-use native.Mathlib.Omega.{arith}
-use lib.ListN.{length}
-use Rattle.numbers.proofs.Cases.{every_refuse, every_go}
+use mathlib.Core.Bool.{true}
+use mathlib.Core.Path.{◌≡◌}
+use Prim.Native.Nat.{◌-◌, ◌≤◌}
 use Rattle.numbers.specs.Loops.{every}
 use Rattle.graph_lists.specs.Graph.{graph}
 use Rattle.graph_lists.specs.QuickTest.{var_good}
-use Rattle.graph_lists.proofs.Cuts.{cut_bounds}
-use Rattle.graph_lists.proofs.QuickTurns.{var_is, parts_long}
-use mathlib.Core.Path.{ap}
-use mathlib.Core.Bool.{not}
 use Rattle.graph_tests.proofs.seven.vars_good.Given as goal
 
 abbrev pub invariant-loop-v : goal.invariant-loop-v
