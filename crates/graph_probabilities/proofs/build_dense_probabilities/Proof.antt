@@ -51,7 +51,7 @@ room : (c : tie.Else1) → let a = c.before.before.before.before.before.before.b
     (length a.priors.now ≡ a.mechanisms) × Long c.before.before.before.before.before.before.count-edges.result
     (lists c.before.before.before.before.before.before.before.before.before.before.before.before.before.before.before)
 room c = fits_told _ _ (lists c.before.before.before.before.before.before.before.before.before.before.before.before.before.before.before)
-    (sym (fit c.before.before.before) ∙ (told c).ranges)
+    (sym (fit c.before.before.before) ∙ (told c).fits)
 
 count-edges-requires : tie.Need-count-edges-requires
 count-edges-requires c κs = search rules

@@ -51,7 +51,7 @@ room : (c : tie.Else1) → let a = c.before.before.before.before.before.before.b
     (length a.priors.now ≡ a.size.mechanisms) × Long a.size.edges
     (lists c.before.before.before.before.before.before.before.before.before.before.before.before.before.before.before)
 room c = fits_told _ _ (lists c.before.before.before.before.before.before.before.before.before.before.before.before.before.before.before)
-    (sym (fit c.before.before.before) ∙ (told c).lengths.ranges)
+    (sym (fit c.before.before.before) ∙ (told c).lengths.fits)
 
 lists-fit-requires : tie.Need-lists-fit-requires
 lists-fit-requires c κs = search rules

@@ -14,7 +14,6 @@ use Rattle.probabilities.specs.Scaled.{scaled_of, prior_of}
 use Rattle.probabilities.specs.Calls.{is_probability, prior_answer}
 use Rattle.probabilities.proofs.Priors.{scaled_held}
 use Rattle.refusals.specs.declared.Refusal.TheVariants.{BadProbability}
-use borrow.Author.Rules.{rules}
 use Rattle.probabilities_vectors.proofs.write_prior.Goals as goal
 
 -- the whole number of an answer, 0 where it is refused

@@ -1,16 +1,12 @@
 -- `relay_step::leg::all_match` meets its contract. The invariant: the checks passed match.
 -- Assumes nothing.
-use mathlib.Core.Path.{◌≡◌, refl, sym}
+use mathlib.Core.Path.{◌≡◌}
 use mathlib.Core.Bool.{true}
 use Prim.Native.Nat.{◌≤◌, ◌-◌}
-use native.Mathlib.Omega.{arith}
 use lib.ListN.{length}
 use Rattle.numbers.specs.Loops.{every}
-use Rattle.numbers.proofs.Cases.{every_refuse, every_go}
 use Rattle.graph_messages.specs.Needs.{of_checks}
 use Rattle.relay_step.specs.Leg.{matches}
-use mathlib.Core.Path.{ap}
-use mathlib.Core.Bool.{not}
 use Rattle.relay_step.proofs.leg.all_match.Given as goal
 
 abbrev pub invariant-loop-c : goal.invariant-loop-c

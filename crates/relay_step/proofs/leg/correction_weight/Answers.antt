@@ -1,10 +1,8 @@
 -- `relay_step::leg::correction_weight` meets its contract. The invariant: the weight is that of the variables passed.
 -- Assumes nothing.
-use mathlib.Core.Path.{◌≡◌, refl, ap, ◌∙◌}
-use Prim.Native.Nat.{◌≤◌, ◌-◌}
+use mathlib.Core.Path.{refl}
 use native.Mathlib.Omega.{arith}
 use lib.Ieee.{of_bits, neg}
-use lib.ListN.{length}
 use Rattle.relay_step.specs.Leg.{correction_weight}
 use Rattle.relay_step.proofs.Legs.{weight_turn}
 use Rattle.relay_step.proofs.leg.correction_weight.Goals as goal

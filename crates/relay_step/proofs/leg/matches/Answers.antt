@@ -1,7 +1,6 @@
 -- `relay_step::leg::matches` meets its contract. The check's part lies within the entries, and its parity is the definition's.
 -- Assumes nothing.
 use Prim.Native.Nat.{◌≤◌}
-use native.Mathlib.Omega.{arith}
 use lib.ListN.{length}
 use Rattle.graph_lists.proofs.Cuts.{cut_bounds}
 use Rattle.graph_messages.proofs.Parts.{part_names}

@@ -1,11 +1,9 @@
 -- `relay_step::leg::parity` meets its contract. The invariant: the parity is that of the entries passed.
 -- Assumes nothing.
-use mathlib.Core.Path.{◌≡◌, refl}
-use Prim.Native.Nat.{◌≤◌, ◌-◌}
+use mathlib.Core.Path.{refl}
 use native.Mathlib.Omega.{arith}
-use lib.ListN.{length, take}
 use Rattle.relay_step.specs.Leg.{parity}
-use Rattle.relay_step.proofs.Legs.{parity_turn, parity_done}
+use Rattle.relay_step.proofs.Legs.{parity_turn}
 use Rattle.relay_step.proofs.leg.parity.Goals as goal
 
 pub loop-i-init : goal.loop-i-init

@@ -1,11 +1,9 @@
 -- `relay_step::leg::parity` meets its contract. The invariant: the parity is that of the entries passed.
 -- Assumes nothing.
-use mathlib.Core.Path.{◌≡◌, refl}
+use mathlib.Core.Path.{◌≡◌}
 use Prim.Native.Nat.{◌≤◌, ◌-◌}
-use native.Mathlib.Omega.{arith}
 use lib.ListN.{length, take}
 use Rattle.relay_step.specs.Leg.{parity}
-use Rattle.relay_step.proofs.Legs.{parity_turn, parity_done}
 use Rattle.relay_step.proofs.leg.parity.Given as goal
 
 abbrev pub invariant-loop-i : goal.invariant-loop-i

@@ -1,18 +1,13 @@
 -- `relay_step::leg::run_leg` meets its contract. The invariant: what is left of the limit, from here, is the whole leg; and after an iteration the bits are the hard decision.
 -- Assumes nothing.
-use mathlib.Core.Path.{◌≡◌, refl, sym, ◌∙◌}
-use mathlib.Core.Bool.{Bool, false}
-use mathlib.Core.List.{List}
-use lib.Ieee.{Float}
-use Prim.Native.Nat.{◌+◌, ◌≤◌, ◌<◌, ◌-◌}
-use native.Mathlib.Omega.{arith}
+use mathlib.Core.Path.{◌≡◌}
+use mathlib.Core.Bool.{false}
+use Prim.Native.Nat.{◌≤◌, ◌<◌, ◌-◌}
 use lib.ListN.{length}
 use Rattle.graph_lists.specs.Messages.{by_place}
 use Rattle.graph_messages.specs.Needs.{walked, of_checks}
-use Rattle.graph_messages.proofs.Parts.{walks_along}
-use Rattle.relay_step.specs.Step.{State, state, iteration}
+use Rattle.relay_step.specs.Step.{state, iteration}
 use Rattle.relay_step.specs.Leg.{hard_decision, satisfied, run_leg}
-use Rattle.relay_step.proofs.Legs.{leg_turn, leg_start, leg_passed, leg_over}
 use Rattle.relay_step.proofs.leg.run_leg.Given as goal
 
 abbrev pub invariant-loop-k : goal.invariant-loop-k

@@ -1,14 +1,12 @@
 -- `relay_step::step::check_pass` meets its contract. The invariant: the checks passed have sent.
 -- Assumes nothing.
-use mathlib.Core.Path.{◌≡◌, refl, ◌∙◌}
+use mathlib.Core.Path.{◌≡◌}
 use mathlib.Core.List.{[]}
 use Prim.Native.Nat.{◌≤◌, ◌-◌}
-use native.Mathlib.Omega.{arith}
 use lib.ListN.{length, take}
 use Rattle.graph_lists.specs.Messages.{by_place}
 use Rattle.graph_messages.specs.Needs.{of_checks}
 use Rattle.relay_step.specs.Step.{state, check_pass}
-use Rattle.relay_step.proofs.Passes.{checks_turn, checks_done}
 use Rattle.relay_step.proofs.step.check_pass.Given as goal
 
 abbrev pub invariant-loop-i : goal.invariant-loop-i

@@ -1,7 +1,6 @@
 -- `relay_step::step::check_serial_iteration` meets its contract. The biases, and then the pass over the checks, are the definition's.
 -- Assumes nothing.
-use mathlib.Core.Path.{refl, sym, ◌∙◌}
-use Rattle.graph_messages.proofs.Parts.{walks_both, walks_along}
+use mathlib.Core.Path.{◌∙◌}
 use Rattle.relay_step.proofs.Passes.{serial_iteration_is}
 use Rattle.relay_step.proofs.step.check_serial_iteration.Goals as goal
 

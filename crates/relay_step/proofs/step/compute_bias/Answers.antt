@@ -1,9 +1,8 @@
 -- `relay_step::step::compute_bias` meets its contract. The invariant: the biases passed are written.
 -- Assumes nothing.
-use mathlib.Core.Path.{◌≡◌, refl, sym, ◌∙◌, ap}
-use Prim.Native.Nat.{◌≤◌, ◌-◌}
+use mathlib.Core.Path.{refl, sym, ◌∙◌, ap}
 use native.Mathlib.Omega.{arith}
-use lib.ListN.{length, take, length-set}
+use lib.ListN.{length-set}
 use lib.Seq.{take_all}
 use Rattle.relay_step.specs.Step.{biases_to, compute_bias}
 use Rattle.relay_step.proofs.Passes.{bias_turn}

@@ -1,12 +1,9 @@
 -- `relay_step::step::compute_bias` meets its contract. The invariant: the biases passed are written.
 -- Assumes nothing.
-use mathlib.Core.Path.{◌≡◌, refl, sym, ◌∙◌, ap}
+use mathlib.Core.Path.{◌≡◌}
 use Prim.Native.Nat.{◌≤◌, ◌-◌}
-use native.Mathlib.Omega.{arith}
-use lib.ListN.{length, take, length-set}
-use lib.Seq.{take_all}
-use Rattle.relay_step.specs.Step.{biases_to, compute_bias}
-use Rattle.relay_step.proofs.Passes.{bias_turn}
+use lib.ListN.{length, take}
+use Rattle.relay_step.specs.Step.{biases_to}
 use Rattle.relay_step.proofs.step.compute_bias.Given as goal
 
 abbrev pub invariant-loop-v : goal.invariant-loop-v

@@ -1,7 +1,6 @@
 -- `relay_step::step::flooding_iteration` meets its contract. The three passes, one after the other, are the definition's.
 -- Assumes nothing.
-use mathlib.Core.Path.{sym, ◌∙◌}
-use Rattle.graph_messages.proofs.Parts.{walks_both}
+use mathlib.Core.Path.{◌∙◌}
 use Rattle.relay_step.proofs.Passes.{flooding_is}
 use Rattle.relay_step.proofs.step.flooding_iteration.Goals as goal
 

@@ -1,9 +1,8 @@
 -- `relay_step::step::serial_check` meets its contract. The check's part lies within the entries; it sends, and then its variables are updated.
 -- Assumes nothing.
-use mathlib.Core.Path.{◌≡◌, sym, ap, ◌∙◌}
+use mathlib.Core.Path.{◌≡◌, sym, ◌∙◌}
 use mathlib.Core.Bool.{not}
 use Prim.Native.Nat.{◌≤◌}
-use native.Mathlib.Omega.{arith}
 use lib.Dec.{eqb}
 use lib.ListN.{length, get_or}
 use Rattle.numbers.specs.Loops.{part, spliced}
@@ -40,17 +39,17 @@ as_many c = c.match-clip.auto.c_to_v
 
 pub update_part-requires : goal.update_part-requires
 update_part-requires c = record {
-      start_le_end = within (goal.at.update_part-requires c).After-at-end;
-      per_edge = c.requires.per_edge;
-      rises = rise (goal.at.update_part-requires c).After-at-end;
-    }
+  start_le_end = within (goal.at.update_part-requires c).After-at-end;
+  per_edge = c.requires.per_edge;
+  rises = rise (goal.at.update_part-requires c).After-at-end;
+}
 
 pub clipped_part-requires : goal.clipped_part-requires
 clipped_part-requires c = record {
-      start_le_end = within (goal.at.clipped_part-requires c).After-at-end;
-      per_edge = c.requires.per_edge;
-      rises = rise (goal.at.clipped_part-requires c).After-at-end;
-    }
+  start_le_end = within (goal.at.clipped_part-requires c).After-at-end;
+  per_edge = c.requires.per_edge;
+  rises = rise (goal.at.clipped_part-requires c).After-at-end;
+}
 
 pub slice_bounds-update_variables-end : goal.slice_bounds-update_variables-end
 slice_bounds-update_variables-end c = (within (goal.at.slice_bounds-update_variables-end c).After-at-end).1

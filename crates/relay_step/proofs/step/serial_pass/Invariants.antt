@@ -1,13 +1,11 @@
 -- `relay_step::step::serial_pass` meets its contract. The invariant: the checks passed have sent, and their variables are updated.
 -- Assumes nothing.
-use mathlib.Core.Path.{◌≡◌, refl, ◌∙◌}
+use mathlib.Core.Path.{◌≡◌}
 use Prim.Native.Nat.{◌≤◌, ◌-◌}
-use native.Mathlib.Omega.{arith}
 use lib.ListN.{length, take}
 use Rattle.graph_lists.specs.Messages.{by_place}
 use Rattle.graph_messages.specs.Needs.{walked}
 use Rattle.relay_step.specs.Step.{state, serial_pass}
-use Rattle.relay_step.proofs.Passes.{serial_turn, serial_done}
 use Rattle.relay_step.proofs.step.serial_pass.Given as goal
 
 abbrev pub invariant-loop-i : goal.invariant-loop-i

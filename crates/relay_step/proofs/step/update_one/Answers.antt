@@ -23,17 +23,17 @@ rise c =
 
 pub update_part-requires : goal.update_part-requires
 update_part-requires c = record {
-      start_le_end = within (goal.at.update_part-requires c).After-at-end;
-      per_edge = c.requires.per_edge;
-      rises = rise (goal.at.update_part-requires c).After-at-end;
-    }
+  start_le_end = within (goal.at.update_part-requires c).After-at-end;
+  per_edge = c.requires.per_edge;
+  rises = rise (goal.at.update_part-requires c).After-at-end;
+}
 
 pub clipped_part-requires : goal.clipped_part-requires
 clipped_part-requires c = record {
-      start_le_end = within (goal.at.clipped_part-requires c).After-at-end;
-      per_edge = c.requires.per_edge;
-      rises = rise (goal.at.clipped_part-requires c).After-at-end;
-    }
+  start_le_end = within (goal.at.clipped_part-requires c).After-at-end;
+  per_edge = c.requires.per_edge;
+  rises = rise (goal.at.clipped_part-requires c).After-at-end;
+}
 
 pub returns-in-Off : goal.returns-in-Off
 returns-in-Off c =

@@ -1,11 +1,8 @@
 -- `relay_step::step::variable_pass` meets its contract. The invariant: the variables passed are updated.
 -- Assumes nothing.
-use mathlib.Core.Path.{◌≡◌, refl, ap, ◌∙◌}
-use Prim.Native.Nat.{◌≤◌, ◌-◌}
+use mathlib.Core.Path.{refl, ◌∙◌}
 use native.Mathlib.Omega.{arith}
-use lib.ListN.{length}
-use Rattle.graph_messages.specs.Needs.{of_variables}
-use Rattle.relay_step.specs.Step.{state, variable_pass}
+use Rattle.relay_step.specs.Step.{variable_pass}
 use Rattle.relay_step.proofs.Passes.{variable_pass_turn}
 use Rattle.relay_step.proofs.step.variable_pass.Goals as goal
 

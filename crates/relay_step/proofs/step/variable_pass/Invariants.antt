@@ -1,12 +1,10 @@
 -- `relay_step::step::variable_pass` meets its contract. The invariant: the variables passed are updated.
 -- Assumes nothing.
-use mathlib.Core.Path.{◌≡◌, refl, ap, ◌∙◌}
+use mathlib.Core.Path.{◌≡◌}
 use Prim.Native.Nat.{◌≤◌, ◌-◌}
-use native.Mathlib.Omega.{arith}
 use lib.ListN.{length}
 use Rattle.graph_messages.specs.Needs.{of_variables}
 use Rattle.relay_step.specs.Step.{state, variable_pass}
-use Rattle.relay_step.proofs.Passes.{variable_pass_turn}
 use Rattle.relay_step.proofs.step.variable_pass.Given as goal
 
 abbrev pub invariant-loop-v : goal.invariant-loop-v

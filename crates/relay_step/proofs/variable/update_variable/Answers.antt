@@ -1,12 +1,10 @@
 -- `relay_step::variable::update_variable` meets its contract. The variable's part lies within the entries, and its update is the definition's.
 -- Assumes nothing.
 use Prim.Native.Nat.{◌≤◌}
-use native.Mathlib.Omega.{arith}
 use lib.ListN.{length}
 use Rattle.graph_lists.proofs.Cuts.{cut_bounds}
 use Rattle.graph_messages.proofs.Parts.{part_names}
 use Rattle.relay_step.proofs.Variables.{update_is}
-use borrow.Author.Rules.{rules}
 use Rattle.relay_step.proofs.variable.update_variable.Goals as goal
 use Rattle.relay_step.proofs.variable.update_variable.Goals.{After-at-end}
 
@@ -21,10 +19,10 @@ slice_bounds-update_entries-end c = (within (goal.at.slice_bounds-update_entries
 
 pub update_entries-p-requires : goal.update_entries-p-requires
 update_entries-p-requires c = record {
-      keys = part_names _ _ _ _ c.requires.walks.named
+  keys = part_names _ _ _ _ c.requires.walks.named
       (within (goal.at.update_entries-p-requires c).After-at-end).1;
-      v_to_c_len = c.requires.v_to_c_len;
-    }
+  v_to_c_len = c.requires.v_to_c_len;
+}
 
 pub returns : goal.returns
 returns c = update_is _ _ _ _ _ _ _ _ c.args.v _ _ _ c.at-start.ensures

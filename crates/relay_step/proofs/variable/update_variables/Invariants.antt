@@ -1,14 +1,11 @@
 -- `relay_step::variable::update_variables` meets its contract. The invariant: the variables passed are updated.
 -- Assumes nothing.
-use mathlib.Core.Path.{◌≡◌, refl, ap, ◌∙◌}
+use mathlib.Core.Path.{◌≡◌}
 use mathlib.Core.List.{foldl}
 use Prim.Native.Nat.{◌≤◌, ◌-◌}
-use native.Mathlib.Omega.{arith}
 use lib.ListN.{length, take}
-use lib.Seq.{take_all}
 use Rattle.graph_messages.specs.Needs.{of_variables}
 use Rattle.relay_step.specs.Step.{state, update_variable}
-use Rattle.numbers.proofs.Turns.{fold_turn}
 use Rattle.relay_step.proofs.variable.update_variables.Given as goal
 
 abbrev pub invariant-loop-i : goal.invariant-loop-i

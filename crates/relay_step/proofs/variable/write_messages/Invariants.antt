@@ -1,12 +1,9 @@
 -- `relay_step::variable::write_messages` meets its contract. The invariant: the messages that the entries passed name are written.
 -- Assumes nothing.
-use mathlib.Core.Path.{◌≡◌, refl, ap, ◌∙◌}
-use Prim.Native.Nat.{◌≤◌, ◌<◌, ◌-◌}
-use native.Mathlib.Omega.{arith}
-use lib.ListN.{length, take, length-set}
-use lib.Seq.{take_all}
+use mathlib.Core.Path.{◌≡◌}
+use Prim.Native.Nat.{◌≤◌, ◌-◌}
+use lib.ListN.{length, take}
 use Rattle.relay_step.specs.Step.{written}
-use Rattle.relay_step.proofs.Variables.{written_turn}
 use Rattle.relay_step.proofs.variable.write_messages.Given as goal
 
 abbrev pub invariant-loop-i : goal.invariant-loop-i
