@@ -1,5 +1,7 @@
 // The Tanner graph of a model, for users: its sizes, its five lists from a sparse or a dense model, and the test of lists that a caller
 // lends. Every call takes every input; a refusal writes nothing.
+#![tactic(auto)]
+
 ghost use Rattle.std.specs.Prelude.{◌≡◌};
 ghost use Rattle.graph_lists.specs.Graph.{graph};
 ghost use Rattle.graph_lists.specs.Model.{build_outcome, build_sparse, count_edges, build_dense, graph_fault};

@@ -1,5 +1,7 @@
 // Inner: how many messages the iterations of a decode write, by the formula, and test 29: `relay_decode` alone calls it, and for the
 // comparison `exports_compare`.
+#![tactic(auto)]
+
 ghost use Rattle.std.specs.Prelude.{◌≡◌, [], ◌*◌, ◌≤◌, leb, length};
 ghost use Rattle.numbers.specs.Limits.{max_edges, max_count};
 ghost use Rattle.graph_lists.specs.Sound.{Offsets};

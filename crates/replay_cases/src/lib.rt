@@ -1,5 +1,7 @@
 // Inner: reads the oracle's lists of cases: a case a line, words of hexadecimal digits, one space between. For `replay`, the crates of its
 // three lists and `replay_shots` alone.
+#![tactic(auto)]
+
 ghost use Rattle.std.specs.Prelude.{◌≤◌, length, IfOk};
 
 use graph::Size;

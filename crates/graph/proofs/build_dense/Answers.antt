@@ -2,10 +2,9 @@
 use mathlib.Core.Path.{sym, ◌∙◌}
 use native.Mathlib.Omega.{arith}
 use lib.ListN.{length}
-use borrow.Author.Rules.{rules}
 use Rattle.numbers.proofs.Cases.{was_true, was_false}
 use Rattle.refusals.proofs.Tests.{done_is}
-use Rattle.graph_lists.specs.Graph.{Graph, graph}
+use Rattle.graph_lists.specs.Graph.{graph}
 use Rattle.graph_lists.specs.Model.{graph_fits, prior_fault}
 use Rattle.graph_lists.specs.Sound.{Long}
 use Rattle.graph_lists.proofs.DenseTests.{DenseTold, dense_told, dense_done, dense_refused}

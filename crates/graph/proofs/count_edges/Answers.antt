@@ -1,11 +1,6 @@
 -- `graph::count_edges` meets its contract. The invariant: `edges` is how many of the first i are not zero. Assumes nothing.
-use mathlib.Core.Logic.{⊎_elim}
-use mathlib.Core.Path.{◌≡◌, sym, ap, ◌∙◌}
-use Prim.Native.Nat.{◌-◌, ◌≤◌}
+use mathlib.Core.Path.{sym, ◌∙◌}
 use native.Mathlib.Omega.{arith}
-use lib.ListN.{length, take}
-use lib.Seq.{take_all}
-use Rattle.graph_lists.specs.Model.{count_edges}
 use Rattle.graph_lists.proofs.Matrix.{count_none}
 use Rattle.graph_lists.proofs.MatrixTurns.{count_more, count_same_turn, count_place}
 use Rattle.graph.proofs.count_edges.Goals as goal
@@ -21,7 +16,7 @@ pub loop-i-preserved : goal.loop-i-preserved
 loop-i-preserved c = (
   omega arith,
   elim c.if-matrix-i-ne0.branch [
-    then-matrix-i-ne0 w ↦ w.edges-is ∙ count_more c.args.matrix.now c.loop-i.i c.loop-i.edges c.loop-i-test.true w.if-matrix-i-ne0.true c.loop-i.invariant.1
-  | else-matrix-i-ne0 w ↦ w.edges-is ∙ count_same_turn c.args.matrix.now c.loop-i.i c.loop-i.edges c.loop-i-test.true w.if-matrix-i-ne0.false c.loop-i.invariant.1
+    | then-matrix-i-ne0 w ↦ w.edges-is ∙ count_more c.args.matrix.now c.loop-i.i c.loop-i.edges c.loop-i-test.true w.if-matrix-i-ne0.true c.loop-i.invariant.1
+    | else-matrix-i-ne0 w ↦ w.edges-is ∙ count_same_turn c.args.matrix.now c.loop-i.i c.loop-i.edges c.loop-i-test.true w.if-matrix-i-ne0.false c.loop-i.invariant.1
   ],
 )

@@ -1,13 +1,8 @@
 -- `graph::count_edges` meets its contract. The invariant: `edges` is how many of the first i are not zero. Assumes nothing.
-use mathlib.Core.Logic.{⊎_elim}
-use mathlib.Core.Path.{◌≡◌, sym, ap, ◌∙◌}
+use mathlib.Core.Path.{◌≡◌}
 use Prim.Native.Nat.{◌-◌, ◌≤◌}
-use native.Mathlib.Omega.{arith}
 use lib.ListN.{length, take}
-use lib.Seq.{take_all}
 use Rattle.graph_lists.specs.Model.{count_edges}
-use Rattle.graph_lists.proofs.Matrix.{count_none}
-use Rattle.graph_lists.proofs.MatrixTurns.{count_more, count_same_turn, count_place}
 use Rattle.graph.proofs.count_edges.Given as goal
 
 abbrev pub invariant-loop-i : goal.invariant-loop-i

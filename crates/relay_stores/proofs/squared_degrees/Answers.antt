@@ -1,9 +1,6 @@
 -- `relay_stores::squared_degrees` meets its contract. The invariant: the sum is the definition's over the mechanisms passed. Assumes nothing.
-use Prim.Native.Nat.{◌≤◌, ◌-◌}
-use mathlib.Core.Path.{◌≡◌, refl}
 use native.Mathlib.Omega.{arith}
-use Rattle.graph_messages.specs.Needs.{of_variables}
-use Rattle.relay_stores.proofs.Squares.{squares_to, start_first, squares_turn, turn_few, squares_done}
+use Rattle.relay_stores.proofs.Squares.{squares_turn, turn_few, squares_done}
 use Rattle.relay_stores.proofs.squared_degrees.Goals as goal
 
 pub overflow_add-sum : goal.overflow_add-sum

@@ -1,9 +1,8 @@
 -- `relay_stores::squared_degrees` meets its contract. The invariant: the sum is the definition's over the mechanisms passed. Assumes nothing.
 use Prim.Native.Nat.{◌≤◌, ◌-◌}
-use mathlib.Core.Path.{◌≡◌, refl}
-use native.Mathlib.Omega.{arith}
+use mathlib.Core.Path.{◌≡◌}
 use Rattle.graph_messages.specs.Needs.{of_variables}
-use Rattle.relay_stores.proofs.Squares.{squares_to, start_first, squares_turn, turn_few, squares_done}
+use Rattle.relay_stores.proofs.Squares.{squares_to}
 use Rattle.relay_stores.proofs.squared_degrees.Given as goal
 
 abbrev pub invariant-loop-v : goal.invariant-loop-v

@@ -1,6 +1,5 @@
 -- `relay_stores::stores_each` meets its contract. Each schedule has its own formula. Assumes nothing.
-use borrow.Author.Rules.{rules}
-use Rattle.relay_stores.proofs.Squares.{each_flooding, each_serial}
+use Rattle.relay_stores.proofs.Squares.{each_serial}
 use Rattle.relay_stores.proofs.stores_each.Goals as goal
 
 pub returns-in-CheckSerial : goal.returns-in-CheckSerial

@@ -1,0 +1,20 @@
+-- `min_sum::run::choose` meets its contract. The invariant: the beliefs passed are chosen. Assumes nothing.
+use mathlib.Core.Path.{◌≡◌, refl, sym, ap, ◌∙◌}
+use mathlib.Core.List.{[]}
+use Prim.Native.Nat.{◌≤◌, ◌-◌}
+use native.Mathlib.Omega.{arith}
+use lib.ListN.{length, take, length-set}
+use lib.Seq.{take_all}
+use borrow.Author.Rules.{rules}
+use Rattle.graph_messages.specs.Needs.{of_variables}
+use Rattle.min_sum_pass.specs.MinSum.{messages, belief, chosen_to}
+use Rattle.min_sum.proofs.Rounds.{chosen_turn}
+use Rattle.min_sum.proofs.run.choose.Goals as goal
+
+pub loop-v-init : goal.loop-v-init
+unfolding chosen_to
+loop-v-init c = (omega arith, c.requires.ewa_posterior_len.1, refl)
+
+pub loop-v-preserved : goal.loop-v-preserved
+loop-v-preserved c =
+    (omega arith, simp length-set (omega arith), chosen_turn _ _ _ _ c.loop-v.posterior c.loop-v.v _ _ (omega arith) c.loop-v.invariant.2 c.raw_posterior-raw.ensures c.chosen.ensures)
