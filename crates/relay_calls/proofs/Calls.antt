@@ -29,7 +29,6 @@ use Rattle.relay_settings.specs.declared.Clip.{Clip}
 use Rattle.relay_settings.specs.declared.Schedule.{Schedule}
 use Rattle.relay_settings.specs.declared.Schedule.TheVariants.{Flooding, CheckSerial}
 use Rattle.relay_calls.specs.declared.LegRecord.{LegRecord}
-use Rattle.relay_calls.specs.declared.LegRecord.TheVariants as LegRecord
 use Rattle.relay_step.specs.Step.{State, state, update_check, update_variable, check_pass, variable_pass, flooding_iteration, serial_check, serial_pass, check_serial_iteration, iteration}
 use Rattle.relay_calls.specs.Decode.{Shot, Run, Ended, Progress, running, finished, after_leg, legs_from}
 use Rattle.relay_calls.specs.Records.{record_of, leg_record}

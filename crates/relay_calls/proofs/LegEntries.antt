@@ -11,7 +11,6 @@ use lib.Seq.{get_or-set_same, get_or-set_other}
 use Rattle.numbers.proofs.Cases.{last_or_before}
 use Rattle.relay_step.specs.Leg.{Leg, hard_decision, correction_weight}
 use Rattle.relay_calls.specs.declared.LegRecord.{LegRecord}
-use Rattle.relay_calls.specs.declared.LegRecord.TheVariants as LegRecord
 use Rattle.relay_calls.specs.Records.{values_of, record_of_leg}
 use Rattle.relay_calls.specs.Decode.{Shot, Run, start_run, recorded}
 

@@ -15,7 +15,6 @@ use Rattle.graph_lists.specs.Model.{graph_fault}
 use Rattle.relay_settings.specs.declared.Clip.{Clip}
 use Rattle.relay_settings.specs.declared.Schedule.{Schedule}
 use Rattle.relay_calls.specs.declared.Decoded.{Decoded}
-use Rattle.relay_calls.specs.declared.Decoded.TheVariants as Decoded
 use Rattle.relay_settings.specs.Settings.{clip_good, alpha_good, settings_fault}
 use Rattle.relay_gammas.specs.Gammas.{seed_fault}
 use Rattle.relay_step.specs.Step.{State, state, iteration}

@@ -3,7 +3,6 @@ use Rattle.std.specs.Prelude.{ℕ, zero, suc, Bool, true, false, ◌&&◌, cond,
 use Rattle.std.specs.Float.{nan}
 use Rattle.numbers.specs.Floats.{zero⁺}
 use Rattle.relay_calls.specs.declared.LegRecord.{LegRecord}
-use Rattle.relay_calls.specs.declared.LegRecord.TheVariants as LegRecord
 
 -- the values that stand for a record in the leg lists
 pub record LegValues : Type 0 where

@@ -1,5 +1,7 @@
 // Inner: what the calls of `relay` answer, the tests and the step of a single iteration, and the values of a leg's record: `relay` and its
 // inner crates alone call it. All definitions of the calls stand in specs/.
+#![tactic(auto)]
+
 pub mod iterate;
 pub mod tests;
 

@@ -15,7 +15,6 @@ use Rattle.graph_lists.specs.Model.{is_graph}
 use Rattle.relay_step.specs.Leg.{Leg, satisfied}
 use Rattle.relay_step.proofs.Weights.{hard_bits_lem, hard_many}
 use Rattle.relay_calls.specs.declared.LegRecord.{LegRecord}
-use Rattle.relay_calls.specs.declared.LegRecord.TheVariants as LegRecord
 use Rattle.relay_calls.specs.Records.{values_of, record_of_leg}
 use Rattle.relay_calls.specs.Decode.{Shot, Run, correction_of}
 use Rattle.relay_calls.specs.Calls.{DecodeLists, Summary, summary, summary_of, answered, left_by}

@@ -14,7 +14,6 @@ use Rattle.refusals.specs.declared.Answer.{Answer}
 use Rattle.refusals.specs.declared.Answer.TheVariants.{Done, Refused}
 use Rattle.graph_lists.specs.Messages.{by_place, posterior_fault}
 use Rattle.relay_calls.specs.declared.LegRecord.{LegRecord}
-use Rattle.relay_calls.specs.declared.LegRecord.TheVariants as LegRecord
 use Rattle.relay_calls.specs.Records.{values_of, record_of, leg_record}
 use Rattle.relay_calls.specs.Decode.{Shot, Run, Ended, decoded, refused, running, start_run, recorded, leg_judged, after_leg, legs_from, decode_legs, decode_stores}
 use Rattle.relay_calls.specs.Calls.{DecodeLists, decode_outcome, decode_fault, answered, left_by, after_legs, after_decode_tests, decode_in_order, summary_of}

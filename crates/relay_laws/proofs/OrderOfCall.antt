@@ -20,7 +20,6 @@ use Rattle.relay_settings.specs.declared.Schedule.TheVariants.{Flooding, CheckSe
 use Rattle.relay_orders.specs.Order.{NamesOnce, KeepsOrder, FirstLate, names_once, late, exchanged, names_fault, exchange_fault}
 use Rattle.relay_orders.proofs.OrderWords.{exchanged_is, none_exchanged_is}
 use Rattle.relay_calls.specs.declared.Decoded.{Decoded}
-use Rattle.relay_calls.specs.declared.Decoded.TheVariants as Decoded
 use Rattle.relay_calls.specs.Decode.{Shot, Run, Ended, decoded, refused, decode_legs, decode_stores}
 use Rattle.relay_calls.specs.Calls.{DecodeLists, decode_lists_fit, decode_fault, answered, after_legs, after_decode_tests, decode_in_order}
 use Rattle.relay_calls.proofs.Named.{names_told, names_taken}

@@ -39,9 +39,7 @@ use Rattle.relay_stores.specs.Stores.{Counted, counted_iteration, stores_each, s
 use Rattle.relay_stores.proofs.Counting.{counted_state}
 use Rattle.relay_stores.proofs.EachIteration.{by_place_full, iteration_stores}
 use Rattle.relay_calls.specs.declared.Decoded.{Decoded}
-use Rattle.relay_calls.specs.declared.Decoded.TheVariants as Decoded
 use Rattle.relay_calls.specs.declared.LegRecord.{LegRecord}
-use Rattle.relay_calls.specs.declared.LegRecord.TheVariants as LegRecord
 use Rattle.relay_calls.specs.Records.{values_of, record_of, leg_record}
 use Rattle.relay_calls.specs.Decode.{Shot, Run, executed_leg, decoded, decode_legs, counted_leg, decode_stores}
 use Rattle.relay_calls.specs.Calls.{StepLists, all_finite, step_fault, DecodeLists, DecodeOutcome, decode_outcome, decode_fault, answered, left_by, decode_in_order, decode, with_order, Summary, summary_of}

@@ -10,7 +10,6 @@ use Rattle.graph_lists.specs.Graph.{Graph, own_incidence}
 use Rattle.relay_step.specs.Leg.{correction_weight}
 use Rattle.relay_calls.specs.declared.Decoded.{Decoded}
 use Rattle.relay_calls.specs.declared.LegRecord.{LegRecord}
-use Rattle.relay_calls.specs.declared.LegRecord.TheVariants as LegRecord
 use Rattle.relay_calls.specs.Records.{leg_record}
 use Rattle.relay_calls.specs.Decode.{Shot}
 use Rattle.relay_calls.specs.Calls.{DecodeLists, Summary, summary_of}

@@ -16,7 +16,6 @@ use Rattle.graph_messages.specs.Needs.{Walks, walked}
 use Rattle.relay_settings.specs.declared.Settings.{Settings}
 use Rattle.relay_settings.specs.declared.GammaSource.TheVariants.{Explicit}
 use Rattle.relay_calls.specs.declared.Decoded.{Decoded}
-use Rattle.relay_calls.specs.declared.Decoded.TheVariants as Decoded
 use Rattle.relay_settings.specs.Settings.{settings_fault}
 use Rattle.relay_gammas.specs.Gammas.{seed_fault}
 use Rattle.relay_step.specs.Leg.{Leg, hard_decision, correction_weight}

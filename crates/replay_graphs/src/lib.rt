@@ -1,4 +1,6 @@
 // Inner: a graph case of the oracle's lists: builds the model and compares answer and lists with the Rust's. For `replay` alone.
+#![tactic(auto)]
+
 use graph::Size;
 use numbers::wrapping_mul;
 use refusals::Answer;
