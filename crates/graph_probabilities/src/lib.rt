@@ -1,5 +1,7 @@
 // The Tanner graph of a model that is given by probabilities, for users: as `graph` builds it, with the priors of the probabilities written
 // beside it. Every call takes every input; a refusal writes nothing.
+#![tactic(auto)]
+
 ghost use Rattle.std.specs.Prelude.{◌≡◌, true, map, length};
 ghost use Rattle.refusals.specs.Tests.{first_of};
 ghost use Rattle.refusals.specs.declared.Answer.TheVariants.{Done};

@@ -1,4 +1,6 @@
 // Min-sum beliefs over a Tanner graph, for users: `min_sum_bp_into` of min_sum.rs, with its tests before it.
+#![tactic(auto)]
+
 mod run;
 mod tests;
 

@@ -1,5 +1,7 @@
 // Inner: a belief case of the oracle's lists: builds the model's graph, runs min-sum on it and compares answer and posterior with the
 // Rust's. For `replay` alone. Room: 63 checks and mechanisms, 128 edges.
+#![tactic(auto)]
+
 use graph::Size;
 use refusals::Answer;
 use refusals_tests::{both, is_done};

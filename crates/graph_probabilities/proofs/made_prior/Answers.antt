@@ -2,7 +2,6 @@
 use mathlib.Core.Path.{◌≡◌, sym, ap, ◌∙◌}
 use mathlib.Core.Bool.{Bool, true, false, true≢false}
 use lib.Ieee.{Float, nan}
-use borrow.Author.Rules.{rules}
 use Rattle.probabilities.specs.declared.PriorAnswer.{PriorAnswer}
 use Rattle.probabilities.specs.declared.PriorAnswer.TheVariants.{Prior, Refused}
 use Rattle.probabilities.specs.Calls.{prior_answer}

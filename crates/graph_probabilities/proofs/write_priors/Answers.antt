@@ -1,16 +1,7 @@
 -- `graph_probabilities::write_priors` meets its contract. The invariant: the priors passed are those of the probabilities passed. Assumes nothing.
-use mathlib.Core.List.{map}
-use mathlib.Core.Path.{◌≡◌, refl, sym, ◌∙◌}
-use Prim.Native.Nat.{◌-◌, ◌≤◌, ◌<◌}
-use native.Mathlib.Omega.{arith}
-use lib.Ieee.{nan}
-use lib.ListN.{length, take, length-set}
-use lib.Seq.{take_all}
-use Rattle.numbers.proofs.Turns.{map_turn}
 use Rattle.refusals.proofs.Tests.{unless_done, first_all}
 use Rattle.refusals.specs.declared.Refusal.TheVariants.{BadProbability}
 use Rattle.probabilities.specs.Calls.{probability_fault}
-use Rattle.probabilities.specs.Scaled.{prior_of}
 use Rattle.graph_probabilities.proofs.write_priors.Goals as goal
 
 pub made_prior-x-requires : goal.made_prior-x-requires

@@ -1,15 +1,8 @@
 -- `graph_probabilities::write_priors` meets its contract. The invariant: the priors passed are those of the probabilities passed. Assumes nothing.
 use mathlib.Core.List.{map}
-use mathlib.Core.Path.{◌≡◌, refl, sym, ◌∙◌}
-use Prim.Native.Nat.{◌-◌, ◌≤◌, ◌<◌}
-use native.Mathlib.Omega.{arith}
-use lib.Ieee.{nan}
-use lib.ListN.{length, take, length-set}
-use lib.Seq.{take_all}
-use Rattle.numbers.proofs.Turns.{map_turn}
-use Rattle.refusals.proofs.Tests.{unless_done, first_all}
-use Rattle.refusals.specs.declared.Refusal.TheVariants.{BadProbability}
-use Rattle.probabilities.specs.Calls.{probability_fault}
+use mathlib.Core.Path.{◌≡◌}
+use Prim.Native.Nat.{◌-◌, ◌≤◌}
+use lib.ListN.{length, take}
 use Rattle.probabilities.specs.Scaled.{prior_of}
 use Rattle.graph_probabilities.proofs.write_priors.Given as goal
 

@@ -1,6 +1,5 @@
 -- `min_sum::beliefs` meets its contract. A refused call leaves the lists; else the tests told all that the run asks, and the run reads no more of the graph than the four lists. Assumes nothing.
-use borrow.Author.Rules.{rules}
-use Rattle.min_sum.specs.Beliefs.{BeliefsLists, beliefs_lists, beliefs_lists_fit, beliefs_fault}
+use Rattle.min_sum.specs.Beliefs.{beliefs_lists, beliefs_lists_fit, beliefs_fault}
 use Rattle.min_sum.proofs.Calls.{Told, told, beliefs_refused, beliefs_ran}
 use mathlib.Core.Path.{ap}
 use mathlib.Core.Bool.{not}

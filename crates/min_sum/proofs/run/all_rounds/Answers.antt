@@ -1,6 +1,4 @@
 -- `min_sum::run::all_rounds` meets its contract. One round or two, from the priors; a round reads nothing of the messages before it. Assumes nothing.
-use mathlib.Core.Path.{◌∙◌}
-use borrow.Author.Rules.{rules}
 use Rattle.min_sum.proofs.Rounds.{one_round, two_rounds}
 use Rattle.min_sum.proofs.run.all_rounds.Goals as goal
 

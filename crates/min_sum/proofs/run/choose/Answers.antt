@@ -1,13 +1,8 @@
 -- `min_sum::run::choose` meets its contract. The invariant: the beliefs passed are chosen. Assumes nothing.
-use mathlib.Core.Path.{◌≡◌, refl, sym, ap, ◌∙◌}
-use mathlib.Core.List.{[]}
-use Prim.Native.Nat.{◌≤◌, ◌-◌}
+use mathlib.Core.Path.{refl}
 use native.Mathlib.Omega.{arith}
-use lib.ListN.{length, take, length-set}
-use lib.Seq.{take_all}
-use borrow.Author.Rules.{rules}
-use Rattle.graph_messages.specs.Needs.{of_variables}
-use Rattle.min_sum_pass.specs.MinSum.{messages, belief, chosen_to}
+use lib.ListN.{length-set}
+use Rattle.min_sum_pass.specs.MinSum.{chosen_to}
 use Rattle.min_sum.proofs.Rounds.{chosen_turn}
 use Rattle.min_sum.proofs.run.choose.Goals as goal
 

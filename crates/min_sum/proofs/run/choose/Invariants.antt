@@ -1,14 +1,10 @@
 -- `min_sum::run::choose` meets its contract. The invariant: the beliefs passed are chosen. Assumes nothing.
-use mathlib.Core.Path.{◌≡◌, refl, sym, ap, ◌∙◌}
+use mathlib.Core.Path.{◌≡◌}
 use mathlib.Core.List.{[]}
 use Prim.Native.Nat.{◌≤◌, ◌-◌}
-use native.Mathlib.Omega.{arith}
-use lib.ListN.{length, take, length-set}
-use lib.Seq.{take_all}
-use borrow.Author.Rules.{rules}
+use lib.ListN.{length, take}
 use Rattle.graph_messages.specs.Needs.{of_variables}
 use Rattle.min_sum_pass.specs.MinSum.{messages, belief, chosen_to}
-use Rattle.min_sum.proofs.Rounds.{chosen_turn}
 use Rattle.min_sum.proofs.run.choose.Given as goal
 
 abbrev pub invariant-loop-v : goal.invariant-loop-v

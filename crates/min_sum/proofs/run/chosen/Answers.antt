@@ -1,6 +1,5 @@
 -- `min_sum::run::chosen` meets its contract. Each arm is one case of the two tests. Assumes nothing.
 use lib.Ieee.{of_bits}
-use borrow.Author.Rules.{rules}
 use Rattle.min_sum.proofs.Rounds.{chosen_apart, chosen_raw, chosen_old}
 use Rattle.min_sum.proofs.run.chosen.Goals as goal
 

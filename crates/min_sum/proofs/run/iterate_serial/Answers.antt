@@ -1,7 +1,4 @@
 -- `min_sum::run::iterate_serial` meets its contract. What its two passes leave is the iteration of the whole graph. Assumes nothing.
-use mathlib.Core.Path.{sym, ◌∙◌}
-use borrow.Author.Rules.{rules}
-use Rattle.graph_messages.proofs.Parts.{walks_along}
 use Rattle.min_sum.proofs.Rounds.{serial_turned}
 use Rattle.min_sum.proofs.run.iterate_serial.Goals as goal
 

@@ -1,7 +1,4 @@
 -- `min_sum::run::min_sum_bp` meets its contract. What the rounds and the end rule leave is the run of the whole graph. Assumes nothing.
-use mathlib.Core.Path.{sym, ◌∙◌}
-use borrow.Author.Rules.{rules}
-use Rattle.graph_messages.proofs.Parts.{walks_along}
 use Rattle.min_sum.proofs.Rounds.{run_is}
 use Rattle.min_sum.proofs.run.min_sum_bp.Goals as goal
 

@@ -1,38 +1,29 @@
 -- `min_sum::run::outer_round` meets its contract. The invariant: the iterations passed are those of the round, from the messages that the first two calls set. Assumes nothing.
-use mathlib.Core.Path.{◌≡◌, sym, ap, ◌∙◌}
-use mathlib.Core.List.{[]}
-use Prim.Native.Nat.{◌≤◌, ◌-◌}
+use mathlib.Core.Path.{ap, ◌∙◌}
 use native.Mathlib.Omega.{arith}
-use lib.ListN.{length, replicate}
-use borrow.Author.Rules.{rules}
-use Rattle.graph_lists.specs.Messages.{by_place}
+use lib.ListN.{replicate}
 use Rattle.numbers.specs.Floats.{zero⁺}
-use Rattle.graph_messages.specs.Needs.{walked}
-use Rattle.graph_messages.proofs.Parts.{entries_along}
-use Rattle.min_sum_pass.specs.MinSum.{messages, belief, outer_round_to}
 use Rattle.min_sum.proofs.Rounds.{round_starts, round_turn, round_done}
 use Rattle.min_sum.proofs.run.outer_round.Goals as goal
 
 pub loop-i-init : goal.loop-i-init
-loop-i-init c =
-    (
-      omega arith,
-      c.clear.auto.xs ∙ c.requires.run_lists.messages.to_variables,
-      c.from_variables.auto.v_to_c ∙ c.requires.run_lists.messages.to_checks,
-      c.requires.run_lists.averages,
-      round_starts _ _ _ _ _ _ _ _ _ _ (c.clear.ensures ∙ ap (λ n. replicate n zero⁺) c.requires.run_lists.messages.to_variables) c.from_variables.ensures,
-    )
+loop-i-init c = (
+  omega arith,
+  c.clear.auto.xs ∙ c.requires.run_lists.messages.to_variables,
+  c.from_variables.auto.v_to_c ∙ c.requires.run_lists.messages.to_checks,
+  c.requires.run_lists.averages,
+  round_starts _ _ _ _ _ _ _ _ _ _ (c.clear.ensures ∙ ap (λ n. replicate n zero⁺) c.requires.run_lists.messages.to_variables) c.from_variables.ensures,
+)
 
 pub loop-i-preserved : goal.loop-i-preserved
-loop-i-preserved c =
-    (
-      omega arith,
-      c.iterate.auto.c_to_v ∙ c.loop-i.invariant.1,
-      c.iterate.auto.v_to_c ∙ c.loop-i.invariant.2,
-      c.iterate.auto.ewa_posterior ∙ c.loop-i.invariant.3,
-      round_turn _ _ _ _ _ _
-          c.loop-i.i _ _ _ _ c.weight.ensures c.loop-i.invariant.4 c.iterate.ensures,
-    )
+loop-i-preserved c = (
+  omega arith,
+  c.iterate.auto.c_to_v ∙ c.loop-i.invariant.1,
+  c.iterate.auto.v_to_c ∙ c.loop-i.invariant.2,
+  c.iterate.auto.ewa_posterior ∙ c.loop-i.invariant.3,
+  round_turn _ _ _ _ _ _
+      c.loop-i.i _ _ _ _ c.weight.ensures c.loop-i.invariant.4 c.iterate.ensures,
+)
 
 pub returns : goal.returns
 returns c = round_done _ _ _ _ _ _ _ c.loop-i.i _ _ _ _ (omega arith) c.loop-i.invariant.4

@@ -1,16 +1,11 @@
 -- `min_sum::run::outer_round` meets its contract. The invariant: the iterations passed are those of the round, from the messages that the first two calls set. Assumes nothing.
-use mathlib.Core.Path.{◌≡◌, sym, ap, ◌∙◌}
+use mathlib.Core.Path.{◌≡◌}
 use mathlib.Core.List.{[]}
 use Prim.Native.Nat.{◌≤◌, ◌-◌}
-use native.Mathlib.Omega.{arith}
-use lib.ListN.{length, replicate}
-use borrow.Author.Rules.{rules}
+use lib.ListN.{length}
 use Rattle.graph_lists.specs.Messages.{by_place}
-use Rattle.numbers.specs.Floats.{zero⁺}
 use Rattle.graph_messages.specs.Needs.{walked}
-use Rattle.graph_messages.proofs.Parts.{entries_along}
 use Rattle.min_sum_pass.specs.MinSum.{messages, belief, outer_round_to}
-use Rattle.min_sum.proofs.Rounds.{round_starts, round_turn, round_done}
 use Rattle.min_sum.proofs.run.outer_round.Given as goal
 
 abbrev pub invariant-loop-i : goal.invariant-loop-i

@@ -3,7 +3,6 @@ use mathlib.Core.Path.{◌≡◌, sym, ◌∙◌}
 use mathlib.Core.Bool.{◌&&◌}
 use lib.Dec.{eqb}
 use lib.Ieee.{of_bits}
-use borrow.Author.Rules.{rules}
 use Rattle.min_sum_pass.specs.MinSum.{weight_of}
 use Rattle.min_sum.proofs.run.weight.Goals as goal
 use Rattle.min_sum.proofs.run.weight.Goals.{After-both}

@@ -1,5 +1,4 @@
 -- `min_sum::tests::fault` meets its contract. The graph's tests refuse, or those of the run answer. Assumes nothing.
-use borrow.Author.Rules.{rules}
 use Rattle.refusals.proofs.Tests.{or_refused, or_passed}
 use mathlib.Core.Path.{ap}
 use mathlib.Core.Bool.{not}

@@ -1,5 +1,4 @@
 -- `min_sum::tests::run_fault` meets its contract. Each answer is the definition at what the tests before it said. Assumes nothing.
-use borrow.Author.Rules.{rules}
 use Rattle.numbers.proofs.Cases.{was_true, was_false}
 use Rattle.refusals.specs.Tests.{unless, or_else}
 use mathlib.Core.Path.{ap}
