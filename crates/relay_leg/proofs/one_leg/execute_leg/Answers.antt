@@ -2,17 +2,15 @@
 -- Assumes nothing.
 use mathlib.Core.Path.{ap, ◌∙◌}
 use native.Mathlib.Omega.{arith}
-use Rattle.relay_step.specs.Leg.{leg}
 use Rattle.relay_gammas.specs.Gammas.{gamma_of}
 use Rattle.relay_leg.proofs.Records.{some_limit, limit_few, sets_along, executed_is}
-use borrow.Author.Rules.{rules}
 use Rattle.relay_leg.proofs.one_leg.execute_leg.Goals as goal
 
 pub prepare_gamma-requires : goal.prepare_gamma-requires
 prepare_gamma-requires c = record {
-      leg_le_max_count = omega (arith, c.requires.leg_bound, c.requires.reads.legs_few);
-      sets_nonzero = λ h sets e. sets_along _ _ _ _ _ _ _ _ _ c.requires.reads c.args.gamma.now _ c.requires.leg_lists.values.gammas c.requires.leg_bound h sets e;
-    }
+  leg_le_max_count = omega (arith, c.requires.leg_bound, c.requires.reads.legs_few);
+  sets_nonzero = λ h sets e. sets_along _ _ _ _ _ _ _ _ _ c.requires.reads c.args.gamma.now _ c.requires.leg_lists.values.gammas c.requires.leg_bound h sets e;
+}
 
 pub returns : goal.returns
 returns c =

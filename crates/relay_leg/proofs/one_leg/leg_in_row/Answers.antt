@@ -7,13 +7,13 @@ use Rattle.relay_leg.proofs.one_leg.leg_in_row.Goals as goal
 
 pub returns : goal.returns
 returns c = record {
-      turn = row_turn (shot_of c.args.t c.args.gammas.now c.args.seed c.args.syndrome.now
-          c.args.priors.now c.args.check_var.now c.args.check_offset.now
-          c.args.var_message.now c.args.var_offset.now c.args.order.now)
-          c.args.leg (best_of c.args.tally.found c.args.tally.weight) _
-          c.args.tally.num_converged _ c.args.tally.total_iterations _
-          c.args.leg_state.now _ c.args.leg_iterations.now _ c.args.leg_weight.now _ _ _
-          c.args.correction.now _ _ _ _ _ _ _ c.execute_leg-l.ensures.ran c.execute_leg-l.ensures.bits
-          (c.execute_leg-l.auto.bits ∙ c.requires.row_len) c.record_leg.ensures.best c.record_leg.ensures.counts c.record_leg.ensures.entries c.record_leg.ensures.row c.record_leg.ensures.correction;
-      few = counts_few c.execute_leg-l.result.converged c.execute_leg-l.result.iterations c.args.tally.num_converged _ c.args.tally.total_iterations _ c.record_leg.ensures.counts c.execute_leg-l.ensures.few;
-    }
+  turn = row_turn (shot_of c.args.t c.args.gammas.now c.args.seed c.args.syndrome.now
+      c.args.priors.now c.args.check_var.now c.args.check_offset.now
+      c.args.var_message.now c.args.var_offset.now c.args.order.now)
+      c.args.leg (best_of c.args.tally.found c.args.tally.weight) _
+      c.args.tally.num_converged _ c.args.tally.total_iterations _
+      c.args.leg_state.now _ c.args.leg_iterations.now _ c.args.leg_weight.now _ _ _
+      c.args.correction.now _ _ _ _ _ _ _ c.execute_leg-l.ensures.ran c.execute_leg-l.ensures.bits
+      (c.execute_leg-l.auto.bits ∙ c.requires.row_len) c.record_leg.ensures.best c.record_leg.ensures.counts c.record_leg.ensures.entries c.record_leg.ensures.row c.record_leg.ensures.correction;
+  few = counts_few c.execute_leg-l.result.converged c.execute_leg-l.result.iterations c.args.tally.num_converged _ c.args.tally.total_iterations _ c.record_leg.ensures.counts c.execute_leg-l.ensures.few;
+}

@@ -2,7 +2,6 @@
 -- Assumes nothing.
 use Rattle.graph_lists.specs.Messages.{from_variables, cleared}
 use Rattle.relay_step.specs.Leg.{start_leg}
-use borrow.Author.Rules.{rules}
 use Rattle.relay_leg.proofs.one_leg.start_leg.Goals as goal
 
 pub returns : goal.returns
