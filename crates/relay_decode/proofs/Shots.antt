@@ -22,7 +22,6 @@ use Rattle.graph_lists.specs.Messages.{by_place}
 use Rattle.relay_settings.specs.declared.Settings.{Settings}
 use Rattle.relay_stores.specs.Stores.{stores_each, most_iterations, max_stores, stores_fault}
 use Rattle.relay_calls.specs.declared.Decoded.{Decoded}
-use Rattle.relay_calls.specs.declared.Decoded.TheVariants as Decoded
 use Rattle.relay_calls.specs.Decode.{Shot, Run, Ended, decoded, refused, decode_legs, correction_of}
 use Rattle.relay_calls.specs.Calls.{DecodeLists, DecodeOutcome, decode_outcome, answered, left_by, zeroed, after_legs, after_decode_tests}
 use Rattle.relay_calls.specs.Formula.{stores_in, legs_leave, taken_leaves}
