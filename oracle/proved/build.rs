@@ -9,8 +9,17 @@ use std::process::{Command, Stdio};
 fn main() {
     println!("cargo::rerun-if-env-changed=CHOWDERKITE_COMPARE_ARCHIVE");
     let root = Path::new(env!("CARGO_MANIFEST_DIR")).join("../..");
-    for part in ["crates", "crates.txt", "tools/nativelib"] {
+    for part in ["crates.txt", "tools/nativelib"] {
         println!("cargo::rerun-if-changed={}", root.join(part).display());
+    }
+    // Not `out/`, which every run of `rt` writes.
+    for entry in fs::read_dir(root.join("crates")).expect("crates/ can be read") {
+        let folder = entry.expect("crates/ can be read").path();
+        for part in ["src", "specs", "proofs"].map(|part| folder.join(part)) {
+            if part.exists() {
+                println!("cargo::rerun-if-changed={}", part.display());
+            }
+        }
     }
     let made = Command::new(root.join("bindings/archive"))
         .arg("exports_compare")

@@ -44,12 +44,6 @@ impl Program {
     fn command(&self) -> Command {
         let mut command = Command::new(&self.words[0]);
         command.args(&self.words[1..]);
-        // As `rt` does, so that nothing of the caller's reaches the emulator.
-        for (name, _) in std::env::vars_os() {
-            if name.to_string_lossy().starts_with("QEMU_") {
-                command.env_remove(name);
-            }
-        }
         command.stdout(Stdio::piped()).stderr(Stdio::piped());
         command
     }
