@@ -40,21 +40,21 @@ pub record Sized (g : Graph) (s : State) : Type 0 where
 -- ---- lists of messages
 
 -- a store elsewhere may come before or after
-written_set : (p : Float) (c_to_v l : List Float) (m : ℕ) (x : Float) {ms : List ℕ} → All (λ k. m ≡ k → ⊥) ms
+written_set : (p : Float) (c_to_v : List Float) (m : ℕ) (l : List Float) (x : Float) {ms : List ℕ} → All (λ k. m ≡ k → ⊥) ms
     → written p c_to_v (set l m x) ms ≡ set (written p c_to_v l ms) m x
 unfolding written
-written_set p c_to_v l m x nil = refl
-written_set p c_to_v l m x (cons {x = k} {xs = ms} h t) =
-    ap (λ u. written p c_to_v u ms) (set_comm l m k x (p -ᶠ get_or c_to_v k nan) h) ∙ written_set p c_to_v (set l k (p -ᶠ get_or c_to_v k nan)) m x t
+written_set p c_to_v m l x nil = refl
+written_set p c_to_v m l x (cons {x = k} {xs = ms} h t) =
+    ap (λ u. written p c_to_v u ms) (set_comm l m k x (p -ᶠ get_or c_to_v k nan) h) ∙ written_set p c_to_v m (set l k (p -ᶠ get_or c_to_v k nan)) x t
 
 -- two writings at other places change places
-written_swap : (p q : Float) (c_to_v l : List Float) (ms : List ℕ) {ns : List ℕ} → All (λ n. All (λ m. n ≡ m → ⊥) ms) ns
+written_swap : (p q : Float) (c_to_v : List Float) (ms : List ℕ) (l : List Float) {ns : List ℕ} → All (λ n. All (λ m. n ≡ m → ⊥) ms) ns
     → written p c_to_v (written q c_to_v l ns) ms ≡ written q c_to_v (written p c_to_v l ms) ns
 unfolding written
-written_swap p q c_to_v l ms nil = refl
-written_swap p q c_to_v l ms (cons {x = n} {xs = ns} h t) =
+written_swap p q c_to_v ms l nil = refl
+written_swap p q c_to_v ms l (cons {x = n} {xs = ns} h t) =
     let x = q -ᶠ get_or c_to_v n nan in
-    written_swap p q c_to_v (set l n x) ms t ∙ ap (λ u. written q c_to_v u ns) (written_set p c_to_v l n x h)
+    written_swap p q c_to_v ms (set l n x) t ∙ ap (λ u. written q c_to_v u ns) (written_set p c_to_v n l x h)
 
 -- the message m is the same in both lists
 abbrev Same : List Float → List Float → ℕ → Type 0
@@ -226,7 +226,7 @@ module _ (g : Graph) (sound : Sound g) (alpha : Float) (clip : Clip) (syndrome :
   swap_variables v w h k q s =
       state_is
       refl
-      (written_swap _ _ s.c_to_v s.v_to_c (var_entries g w) (others v w h k q))
+      (written_swap _ _ s.c_to_v (var_entries g w) s.v_to_c (others v w h k q))
       (set_comm s.posterior v w _ _ q)
 
   -- ---- one check of a serial iteration

@@ -12,7 +12,7 @@ use Rattle.refusals.specs.declared.Answer.{Answer}
 use Rattle.refusals.specs.declared.Answer.TheVariants.{Done, Refused}
 use Rattle.refusals.specs.Tests.{is_done}
 use Rattle.relay_orders.specs.Order.{count, NamesOnce, shares, above, late, exchanged}
-use Rattle.relay_orders.proofs.All.{All, nil, cons, all_map, all_zip, all_always, all_left, all_right, all_without, all_head, any_none}
+use Rattle.relay_orders.proofs.All.{All, all_map, all_zip, all_always, all_left, all_right, all_without, all_head, any_none}
 use Rattle.relay_orders.proofs.Counts.{count_same, count_other, count_insert, found, names_below}
 use Rattle.relay.proofs.Rearrange.{Orders}
 

@@ -1,5 +1,7 @@
 // Relay-BP over a Tanner graph, for users: one iteration in any order, a decode in index order or another, and the reading of a leg's
 // record. What they mean stands in relay_calls/specs.
+#![tactic(auto)]
+
 ghost use Rattle.std.specs.Prelude.{◌≡◌, []};
 ghost use Rattle.graph_lists.specs.Graph.{graph};
 ghost use Rattle.relay_step.specs.Step.{state};
