@@ -1,5 +1,7 @@
 // Replays the oracle's three lists of cases: runs each case on the proved code and compares with the Rust's answer. It reads them from
 // standard input, which the file stdin holds.
+#![tactic(auto)]
+
 use replay_cases::{Counts, count, line_end, read_whole, report, text_room, word_at};
 use std::io;
 

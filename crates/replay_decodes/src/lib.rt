@@ -1,5 +1,7 @@
 // Inner: a decode of the oracle's lists: builds the model's graph, decodes the shot and compares the answer and every lent list with the
 // Rust's. For `replay` alone. Room: 63 checks and mechanisms, 128 edges, 128 gammas, 64 legs, 512 bytes of rows.
+#![tactic(auto)]
+
 mod compare;
 
 use compare::same_decode;

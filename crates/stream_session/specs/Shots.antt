@@ -10,7 +10,6 @@ use Rattle.refusals.specs.Refusal.{number_of}
 use Rattle.relay_settings.specs.declared.Settings.{Settings}
 use Rattle.relay_settings.specs.Settings.{published}
 use Rattle.relay_calls.specs.declared.Decoded.{Decoded}
-use Rattle.relay_calls.specs.declared.Decoded.TheVariants as Decoded
 use Rattle.stream_reader.specs.declared.Reader.{Reader}
 use Rattle.stream_grammar.specs.Stream.{mechanisms, is_settings, is_of_shot}
 use Rattle.stream_reader.specs.Reading.{fresh, held, pushed, is_whole, verdict, at_end, payload_kept}

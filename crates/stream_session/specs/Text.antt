@@ -10,7 +10,6 @@ use Rattle.refusals.specs.declared.Answer.TheVariants.{Done, Refused}
 use Rattle.refusals.specs.Refusal.{number_of}
 use Rattle.relay_settings.specs.declared.Settings.{Settings}
 use Rattle.relay_calls.specs.declared.Decoded.{Decoded}
-use Rattle.relay_calls.specs.declared.Decoded.TheVariants as Decoded
 use Rattle.stream_grammar.specs.Stream.{Rec, rec, mechanisms, is_settings, judge, left_over, is_of_shot}
 use Rattle.stream_grammar.specs.Fields.{settings_read}
 use Rattle.stream_lines.specs.Lines.{shot_line, refused_line, stopped_line, unless_too_long}

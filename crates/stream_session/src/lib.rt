@@ -1,6 +1,8 @@
 // A run of `shots`, for users: the session that its stream makes, one byte after the other. It decides nothing itself: `stream_reader`
 // reads and judges, `stream_table` tests and decodes with `graph`, `relay_settings` and `relay`, and `stream_lines` has the text. Room: 128
 // checks, 256 mechanisms, 512 edges, 16 relayed legs.
+#![tactic(auto)]
+
 mod taking;
 mod telling;
 

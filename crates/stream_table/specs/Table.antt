@@ -11,7 +11,6 @@ use Rattle.graph_lists.specs.Model.{BuildOutcome, build_sparse}
 use Rattle.relay_settings.specs.declared.Settings.{Settings}
 use Rattle.relay_settings.specs.Settings.{check_settings}
 use Rattle.relay_calls.specs.declared.Decoded.{Decoded}
-use Rattle.relay_calls.specs.declared.Decoded.TheVariants as Decoded
 use Rattle.relay_calls.specs.Calls as Calls
 use Rattle.stream_grammar.specs.declared.Counts.{Counts}
 use Rattle.stream_grammar.specs.Stream.{counts_within, seed, syndrome}

@@ -1,6 +1,8 @@
 // Inner: the table behind 45, for `stream_session` alone: a model by 1 to 6, settings by 10 to 16, a shot by 20, 21, 27 and 30, each out of
 // the payload of its record. Each call works in arrays of its own, filled with one value. Room: 128 checks, 256 mechanisms, 512 edges, 16
 // relayed legs.
+#![tactic(auto)]
+
 ghost use Rattle.std.specs.Prelude.{◌≡◌, ◌≤◌, length, take, drop};
 ghost use Rattle.numbers.specs.Limits.{room_checks, room_mechanisms, room_edges};
 ghost use Rattle.graph_lists.specs.Graph.{graph};
