@@ -1,5 +1,7 @@
 // Inner: how a session of `shots` passes through the C calling convention, for `exports_bodies` alone: as words and floats in lists of
 // fixed length.
+#![tactic(auto)]
+
 ghost use Rattle.std.specs.Prelude.{◌≡◌};
 ghost use Rattle.exports_session.specs.Words.{sets_word, session_of, session_words, session_floats};
 

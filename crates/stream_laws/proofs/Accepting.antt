@@ -16,13 +16,12 @@ use Rattle.refusals.specs.declared.Answer.TheVariants.{Done, Refused}
 use Rattle.refusals.specs.Refusal.{number_of}
 use Rattle.relay_settings.specs.declared.Settings.{Settings}
 use Rattle.relay_calls.specs.declared.Decoded.{Decoded}
-use Rattle.relay_calls.specs.declared.Decoded.TheVariants as Decoded
 use Rattle.stream_grammar.specs.Stream.{Rec, rec, Sayable, AllSayable, more, mechanisms, is_settings, is_of_shot, kind_said, kind_good, time_good, claims_of, judge, left_over}
 use Rattle.stream_lines.specs.Lines.{shot_line, refused_line, stopped_line, unless_too_long}
 use Rattle.stream_reader.specs.Reading.{holding, payload_kept}
 use Rattle.stream_table.specs.Table.{model_fault, settings_answer, Decoding, shot_decoded}
 use Rattle.stream_session.specs.declared.Session.{Session}
-use Rattle.stream_session.specs.Shots.{Told, Taken, taken, known, goes_on, stops, says, refuses, finds, answers, tells, shot_taken, settings_taken, model_taken, kind_taken, record_judged, reads, last_text, text_of}
+use Rattle.stream_session.specs.Shots.{Told, Taken, taken, goes_on, stops, says, refuses, finds, answers, tells, shot_taken, settings_taken, model_taken, kind_taken, record_judged, reads, last_text, text_of}
 use Rattle.stream_session.specs.Text.{Heard, is_there, the_payload, the_record, settings_of, Said, ends_run, model_said, settings_said, line_said, shot_said, decode_of, payload_said, judged_said, record_said, records_text}
 use Rattle.stream_session.proofs.Cases.{chosen, other}
 use Rattle.stream_laws.proofs.Accepted.{no_settings_kind, passed}

@@ -12,7 +12,6 @@ use Rattle.refusals.specs.declared.Answer.{Answer}
 use Rattle.refusals.specs.declared.Answer.TheVariants.{Done, Refused}
 use Rattle.refusals.specs.Refusal.{number_of}
 use Rattle.relay_calls.specs.declared.Decoded.{Decoded}
-use Rattle.relay_calls.specs.declared.Decoded.TheVariants as Decoded
 use Rattle.stream_grammar.specs.Stream.{Rec, rec, is_settings, is_of_shot, legs, judge}
 use Rattle.stream_table.specs.Table.{model_fault, settings_answer}
 use Rattle.stream_session.specs.Text.{Heard, heard, nothing_heard, is_there, the_one, the_payload, the_record, ends_run, model_said, settings_said, line_said, shot_said, decode_of, payload_said, judged_said, record_said}

@@ -17,7 +17,6 @@ use Rattle.graph.proofs.Theorems.{sparse_lists}
 use Rattle.relay_settings.specs.declared.Settings.{Settings}
 use Rattle.relay_stores.specs.Stores.{stores_at}
 use Rattle.relay_calls.specs.declared.Decoded.{Decoded}
-use Rattle.relay_calls.specs.declared.Decoded.TheVariants as Decoded
 use Rattle.relay_calls.specs.Decode.{Shot, shot}
 use Rattle.relay_calls.specs.Calls.{DecodeLists, DecodeOutcome, decode_outcome, decode, Summary, summary_of, summary}
 use Rattle.relay_laws.specs.BestOfLegs.{filed, BestOfLegs}

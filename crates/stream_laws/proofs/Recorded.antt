@@ -15,7 +15,6 @@ use Rattle.refusals.specs.declared.Answer.{Answer}
 use Rattle.refusals.specs.declared.Answer.TheVariants.{Done, Refused}
 use Rattle.refusals.specs.Refusal.{number_of}
 use Rattle.relay_calls.specs.declared.Decoded.{Decoded}
-use Rattle.relay_calls.specs.declared.Decoded.TheVariants as Decoded
 use Rattle.stream_reader.specs.declared.Reader.{Reader}
 use Rattle.stream_grammar.specs.Stream.{Rec, Sayable, length_said, mechanisms, is_settings, is_of_shot, length_good, room_good, judge}
 use Rattle.stream_reader.specs.Reading.{holding, payload_kept, verdict}

@@ -35,13 +35,12 @@ use Rattle.relay_stores.proofs.Squares.{squares_few}
 use Rattle.relay_settings.specs.Settings.{source_fault, settings_fault, check_settings}
 use Rattle.relay_gammas.specs.Gammas.{seed_fault}
 use Rattle.relay_calls.specs.declared.Decoded.{Decoded}
-use Rattle.relay_calls.specs.declared.Decoded.TheVariants as Decoded
 use Rattle.relay_calls.specs.Decode.{Shot, Run, Ended, decoded, refused, Progress, running, finished, leg_judged, after_leg, legs_from, decode_legs, decode_stores}
 use Rattle.relay_calls.specs.Calls.{byte_fault, syndrome_fault, DecodeLists, decode_lists_fit, decode_fault, answered, after_legs, after_decode_tests, decode_in_order, with_order, decode}
 use Rattle.relay_calls.proofs.Named.{index_passes}
 use Rattle.relay_calls.proofs.LastTests.{or_joined}
 use Rattle.stream_grammar.specs.declared.Counts.{Counts}
-use Rattle.stream_grammar.specs.Stream.{Rec, is_of_shot, legs, mechanisms, syndrome}
+use Rattle.stream_grammar.specs.Stream.{Rec, is_of_shot, legs, mechanisms}
 use Rattle.stream_grammar.specs.Fields.{counts_read, model_read, settings_read}
 use Rattle.stream_table.specs.Table.{lent_numbers, model_room, graph_room, shot_room, within, built_from, model_fault, settings_answer, decoded_from, found, shot_decoded}
 use Rattle.stream_table.proofs.Laws.{counts_fit_lem}

@@ -1,6 +1,8 @@
 // Inner: a session whose lines are written to standard output, for `shots` and for the programs that replay streams. The contracts say what
 // is left in the session and the lists; what is written is the front of the line, as `stream_session` says. A line that can't be written
 // ends the run at once.
+#![tactic(auto)]
+
 ghost use Rattle.std.specs.Prelude.{◌≡◌};
 ghost use Rattle.numbers.specs.Loops.{over};
 ghost use Rattle.stream_session.specs.Shots.{told, taken, left, end_text};
