@@ -1,6 +1,8 @@
 // The public calls with the C calling convention, for users: numbers and slices only, each one call with its contract. A slice passes as a
 // pointer and then a length, a list of fixed length as a pointer alone, a bool as 1 or 0, an answer as its code. No call has a proof of its
 // own, so an edit of must-fail/ can comment out those that it does not try.
+#![tactic(auto)]
+
 ghost use Rattle.std.specs.Prelude.{◌≡◌, not, [], ◌∷◌, eqb, length};
 ghost use Rattle.numbers.specs.Loops.{over};
 ghost use Rattle.graph_lists.specs.Graph.{graph};

@@ -1,5 +1,7 @@
 // Runs the session of `shots` over many streams, one after the other, each with its length before it, and writes what it says of each: the
 // fixed lines in `stdout` are what the published Rust and the stream's rules, written apart, say (`oracle/streams`).
+#![tactic(auto)]
+
 ghost use Rattle.std.specs.Prelude.{◌<◌};
 
 use replay_cases::{read_whole, text_room};
@@ -12,7 +14,14 @@ fn stream(rt: &impl Print, bytes: &[u8]) {
     let mut payload = [0u8; 5132];
     let mut model = [0u8; 5132];
     let mut line = [0u8; 512];
-    let p = stream_writing::piece(rt, Session::new(), bytes, &mut payload, &mut model, &mut line);
+    let p = stream_writing::piece(
+        rt,
+        Session::new(),
+        bytes,
+        &mut payload,
+        &mut model,
+        &mut line,
+    );
     if p.written {
         let s = p.session;
         stream_writing::end(rt, s, &mut line);
