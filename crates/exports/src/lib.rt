@@ -18,8 +18,9 @@ ghost use Rattle.stream_session.specs.Shots.{start_session, byte_taken, end_text
 ghost use Rattle.exports_values.specs.Codes.{code_of, number_in, place_in, schedule_given, settings_given, byte_of};
 ghost use Rattle.exports_values.specs.Codes.{clip_given, floats_in, counts_in, version};
 ghost use Rattle.exports_session.specs.Words.{session_of, session_words, session_floats};
-ghost use Rattle.exports_bodies.specs.Answers.{graph_left, graph_left_by, beliefs_left, beliefs_left_by, step_left, step_left_by, decode_left};
-ghost use Rattle.exports_bodies.specs.Answers.{decode_left_by, made_left, made_left_by, priors_left, priors_left_by, prior_left_by};
+ghost use Rattle.exports_bodies.specs.Answers.{graph_left, graph_left_by, beliefs_left, beliefs_left_by, step_left, step_left_by};
+ghost use Rattle.exports_bodies.specs.Answers.{decode_left, decode_left_by, made_left, made_left_by, priors_left, priors_left_by};
+ghost use Rattle.exports_bodies.specs.Answers.{prior_left_by};
 
 use exports_bodies::{beliefs, decodes, graphs, legs, point, priors, sessions, steps};
 use exports_values::answers;

@@ -2,8 +2,8 @@
 ghost use Rattle.std.specs.Prelude.{◌≡◌, true, false, [], length};
 ghost use Rattle.graph_lists.specs.Messages.{by_place};
 ghost use Rattle.graph_messages.specs.Needs.{Walks, walked, of_variables, RunLists};
-ghost use Rattle.min_sum_pass.specs.MinSum.{messages, belief, weight_of, iterated, outer_round as outer_round_of, all_rounds as all_rounds_of};
-ghost use Rattle.min_sum_pass.specs.MinSum.{chosen as chosen_of, chosen_to, min_sum_bp};
+ghost use Rattle.min_sum_pass.specs.MinSum.{messages, belief, weight_of, iterated, outer_round as outer_round_of};
+ghost use Rattle.min_sum_pass.specs.MinSum.{all_rounds as all_rounds_of, chosen as chosen_of, chosen_to, min_sum_bp};
 ghost use Rattle.min_sum.specs.Beliefs.{beliefs_lists, beliefs_outcome, ran as ran_of};
 
 use refusals::Answer;

@@ -117,7 +117,8 @@ fn relay_gamma(
 // The gammas of any leg: gamma0 in leg zero.
 pub fn prepare_gamma(t: Settings, flat: &[f64], seed: u64, leg: usize, gamma: &mut [f64])
     requires leg_le_max_count { leg ≤ max_count }
-    requires sets_nonzero { 0 < leg → (sets : ℕ) → t.gamma_source ≡ Explicit sets → (0 < sets) × (length flat.now ≡ sets * length gamma.old) }
+    requires sets_nonzero { 0 < leg → (sets : ℕ) → t.gamma_source ≡ Explicit sets
+        → (0 < sets) × (length flat.now ≡ sets * length gamma.old) }
     ensures { gamma.new ≡ gamma_of t flat.now (length gamma.old) seed leg }
 {
     let source = t.gamma_source;

@@ -5,7 +5,6 @@ use lib.Ieee.{of_bits, neg}
 use Rattle.graph_lists.specs.Messages.{total}
 use Rattle.graph_messages.proofs.Turns.{total_turn}
 use Rattle.graph_messages.proofs.total.Goals as goal
-use Rattle.graph_messages.proofs.total.Goals.{After-at-m}
 
 pub loop-i-init : goal.loop-i-init
 unfolding total of_bits neg

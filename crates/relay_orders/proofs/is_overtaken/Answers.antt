@@ -4,7 +4,6 @@ use native.Mathlib.Omega.{arith}
 use Rattle.relay_orders.specs.Marks.{overtaken}
 use Rattle.relay_orders.proofs.OrderTests.{overtaken_turn, overtaken_found}
 use Rattle.relay_orders.proofs.is_overtaken.Goals as goal
-use Rattle.relay_orders.proofs.is_overtaken.Goals.{After-at-v}
 
 pub loop-i-init : goal.loop-i-init
 unfolding overtaken

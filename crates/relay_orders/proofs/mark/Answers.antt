@@ -4,7 +4,6 @@ use native.Mathlib.Omega.{arith}
 use Rattle.relay_orders.specs.Marks.{marked_at}
 use Rattle.relay_orders.proofs.OrderTests.{marked_turn}
 use Rattle.relay_orders.proofs.mark.Goals as goal
-use Rattle.relay_orders.proofs.mark.Goals.{After-at-v}
 
 pub loop-i-init : goal.loop-i-init
 unfolding marked_at

@@ -7,7 +7,7 @@ use Rattle.stream_grammar.proofs.Fills.{lists_left, lists_read}
 use mathlib.Core.Path.{ap}
 use mathlib.Core.Bool.{not}
 use Rattle.stream_reader.proofs.read_model.Goals as goal
-use Rattle.stream_reader.proofs.read_model.Goals.{After-both-fit, Else-not-fit}
+use Rattle.stream_reader.proofs.read_model.Goals.{After-both-fit}
 
 -- the test is that of the definition
 tested : (c : After-both-fit) → c.both-fit.result ≡ within_room (model_lists c.args.priors.now c.args.detector_offsets.now c.args.detectors.now)

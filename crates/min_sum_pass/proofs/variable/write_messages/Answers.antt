@@ -5,7 +5,6 @@ use lib.ListN.{length-set}
 use Rattle.min_sum_pass.specs.MinSum.{damped_messages}
 use Rattle.min_sum_pass.proofs.Variables.{written_turn}
 use Rattle.min_sum_pass.proofs.variable.write_messages.Goals as goal
-use Rattle.min_sum_pass.proofs.variable.write_messages.Goals.{After-at-m}
 
 pub loop-i-init : goal.loop-i-init
 unfolding damped_messages

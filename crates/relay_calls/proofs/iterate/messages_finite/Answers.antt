@@ -6,7 +6,6 @@ use Rattle.relay_calls.proofs.Calls.{message_is}
 use mathlib.Core.Path.{ap}
 use mathlib.Core.Bool.{not}
 use Rattle.relay_calls.proofs.iterate.messages_finite.Goals as goal
-use Rattle.relay_calls.proofs.iterate.messages_finite.Goals.{After-at-m}
 
 pub returns-then-not-both : goal.returns-then-not-both
 returns-then-not-both c = every_refuse _ c.loop-i.i _ _

@@ -6,7 +6,6 @@ use lib.ListN.{length-set}
 use Rattle.relay_step.specs.Step.{written}
 use Rattle.relay_step.proofs.Variables.{written_turn}
 use Rattle.relay_step.proofs.variable.write_messages.Goals as goal
-use Rattle.relay_step.proofs.variable.write_messages.Goals.{After-at-m}
 
 pub loop-i-init : goal.loop-i-init
 unfolding written
