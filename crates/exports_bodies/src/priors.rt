@@ -5,7 +5,7 @@ ghost use Rattle.exports_bodies.specs.Answers.{priors_left, priors_left_by, prio
 
 use exports_values::answers::code;
 use probabilities::PriorAnswer;
-use refusals::Answer;
+use refusals::Refusal;
 
 // A prior into the lists, or the code of why there is none.
 fn tell_prior(answer: PriorAnswer, prior: &mut [f64; 1], scaled: &mut [i64; 1]) -> u64
@@ -17,7 +17,7 @@ fn tell_prior(answer: PriorAnswer, prior: &mut [f64; 1], scaled: &mut [i64; 1]) 
             *scaled = [s];
             0
         }
-        PriorAnswer::Refused(r) => code(Answer::Refused(r)),
+        PriorAnswer::Refused(r) => code(Err(r)),
     }
 }
 

@@ -6,10 +6,9 @@ use mathlib.Core.Bool.{true, false}
 use lib.Dec.{eqb}
 use borrow.Author.Tests.{eq-eqb, ne_eqb}
 use Rattle.refusals.specs.declared.Refusal.{Refusal}
-use Rattle.refusals.specs.declared.Answer.{Answer}
-use Rattle.refusals.specs.declared.Answer.TheVariants.{Refused}
-use Rattle.refusals.specs.declared.Place.{Place}
-use Rattle.refusals.specs.declared.Place.TheVariants.{Nowhere, At}
+use Rattle.refusals.specs.Refusal.{Answer}
+use Rattle.std.specs.Prelude.{Err}
+use Rattle.std.specs.Prelude.{Option, None, Some}
 use Rattle.refusals.specs.Refusal.{number_of, place_of}
 use Rattle.exports_values.specs.Codes.{place_code, code_of}
 
@@ -65,12 +64,12 @@ number_small Refusal.AlistNumber = omega arith
 number_small Refusal.AlistDisagrees = omega arith
 
 -- 65,536 times a place leaves room for it
-pub place_small : (p : Place) → place_code p < 281474976710656
-place_small Nowhere = omega arith
-place_small (At place) = omega arith
+pub place_small : (p : Option ℕ) → place_code p < 281474976710656
+place_small None = omega arith
+place_small (Some place) = omega arith
 
 -- a number and a place's code together are the code of the refusal
-pub code_as : (a : Answer) (r : Refusal) (p : Place) (n k : ℕ) → a ≡ Refused r → n ≡ number_of r → p ≡ place_of r → k ≡ place_code p → n + k ≡ code_of a
+pub code_as : (a : Answer) (r : Refusal) (p : Option ℕ) (n k : ℕ) → a ≡ Err r → n ≡ number_of r → p ≡ place_of r → k ≡ place_code p → n + k ≡ code_of a
 code_as a r p n k is-refused is_number is-place is_code =
     ap (λ x. x + k) is_number ∙ (ap (λ x. number_of r + x) (is_code ∙ ap place_code is-place) ∙ sym (ap code_of is-refused))
 

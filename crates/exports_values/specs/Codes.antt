@@ -1,10 +1,9 @@
 -- How answers and settings pass through the C calling convention, as numbers and lists of fixed length. Definitions only. Assumes nothing.
 use Rattle.std.specs.Prelude.{ℕ, zero, suc, ◌+◌, ◌*◌, ◌/◌, ◌%◌, Bool, true, false, cond, List, [], ◌∷◌, eqb, Float}
 use Rattle.numbers.specs.Floats.{zero⁺}
-use Rattle.refusals.specs.declared.Answer.{Answer}
-use Rattle.refusals.specs.declared.Answer.TheVariants.{Done, Refused}
-use Rattle.refusals.specs.declared.Place.{Place}
-use Rattle.refusals.specs.declared.Place.TheVariants.{Nowhere, At}
+use Rattle.refusals.specs.Refusal.{Answer}
+use Rattle.std.specs.Prelude.{Ok, Err}
+use Rattle.std.specs.Prelude.{Option, None, Some}
 use Rattle.refusals.specs.Refusal.{number_of, place_of}
 use Rattle.relay_settings.specs.declared.Schedule.{Schedule}
 use Rattle.relay_settings.specs.declared.Schedule.TheVariants.{Flooding, CheckSerial}
@@ -32,14 +31,14 @@ bit_of false = 0
 
 -- 65,536 times the place, 0 where there is none. The remainder keeps the code within 64 bits for every number. No place reaches 2^32 but the mechanism that
 -- a caller hands to `prior_of`, and the index of a list of as many probabilities: else the largest is an index of at most 65,535 times 65,536 gammas.
-abbrev pub place_code : Place → ℕ
-place_code Nowhere = 0
-place_code (At place) = 65536 * (place % 4294967296)
+abbrev pub place_code : Option ℕ → ℕ
+place_code None = 0
+place_code (Some place) = 65536 * (place % 4294967296)
 
 -- an answer as one number: the refusal's number plus 65,536 times its place, 0 for none
 abbrev pub code_of : Answer → ℕ
-code_of Done = 0
-code_of (Refused r) = number_of r + place_code (place_of r)
+code_of (Ok tt) = 0
+code_of (Err r) = number_of r + place_code (place_of r)
 
 -- a refusal's number, out of its code
 abbrev pub number_in : ℕ → ℕ
@@ -124,7 +123,7 @@ counts_in t =
 abbrev pub decoded_code : Decoded → ℕ
 decoded_code (Decoded.Converged n t m w) = 0
 decoded_code (Decoded.NotConverged n t m) = 0
-decoded_code (Decoded.Refused r) = code_of (Refused r)
+decoded_code (Decoded.Refused r) = code_of (Err r)
 
 -- beside it four counts: converged (1 or 0), executed legs, total iterations, message stores. Refusal 30 zeroes them, as it does all results, and any other
 -- writes nothing

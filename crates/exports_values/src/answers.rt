@@ -2,7 +2,7 @@
 ghost use Rattle.std.specs.Prelude.{◌≡◌};
 ghost use Rattle.exports_values.specs.Codes.{bit_of, place_code, code_of, number_in, place_in, version as version_of};
 
-use refusals::{Answer, Place, number_of, place_of};
+use refusals::{Refusal, number_of, place_of};
 
 // 1 for true, 0 for false.
 pub fn bit(b: bool) -> u8
@@ -15,22 +15,22 @@ pub fn bit(b: bool) -> u8
 }
 
 // 65,536 times the place, 0 where there is none.
-fn place_code(p: Place) -> usize
+fn place_code(p: Option<usize>) -> usize
     ensures { result ≡ place_code p }
 {
     match p {
-        Place::Nowhere => 0,
-        Place::At(place) => 65536 * (place % 4294967296),
+        None => 0,
+        Some(place) => 65536 * (place % 4294967296),
     }
 }
 
 // The refusal's number plus 65,536 times its place, 0 where nothing is refused.
-pub fn code(a: Answer) -> u64
+pub fn code(a: Result<(), Refusal>) -> u64
     ensures { result ≡ code_of a }
 {
     match a {
-        Answer::Done => 0,
-        Answer::Refused(r) => (number_of(r) + place_code(place_of(r))) as u64,
+        Ok(()) => 0,
+        Err(r) => (number_of(r) + place_code(place_of(r))) as u64,
     }
 }
 

@@ -2,13 +2,13 @@
 ghost use Rattle.std.specs.Prelude.{◌≡◌, cond, [], ◌∷◌, eqb};
 ghost use Rattle.numbers.specs.Floats.{zero⁺};
 ghost use Rattle.refusals.specs.Refusal.{number_of};
-ghost use Rattle.refusals.specs.declared.Answer.TheVariants.{Refused};
+ghost use Rattle.std.specs.Prelude.{Err};
 ghost use Rattle.relay_calls.specs.Records.{values_of};
 ghost use Rattle.exports_values.specs.Codes.{code_of, decoded_code, decoded_counts, decoded_weight, byte_of};
 ghost use Rattle.exports_values.specs.Codes.{clip_byte, clip_float, rule_byte, source_byte, floats_in, counts_in};
 
 use crate::answers::code;
-use refusals::{Answer, Refusal, number_of};
+use refusals::{Refusal, number_of};
 use relay_calls::{Decoded, LegRecord};
 use relay_settings::{Clip, DrawRule, GammaSource, Schedule, Settings};
 
@@ -21,9 +21,9 @@ fn tell_refusal(r: Refusal, counts: &mut [u64; 4], weight: &mut [f64; 1]) -> u64
     if number_of(r) == 30 {
         *counts = [0, 0, 0, 0];
         *weight = [0.0];
-        return code(Answer::Refused(r));
+        return code(Err(r));
     }
-    code(Answer::Refused(r))
+    code(Err(r))
 }
 
 // A decode's code, counts and weight.

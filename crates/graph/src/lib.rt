@@ -10,7 +10,7 @@ use graph_lists::build::from_detectors;
 use graph_lists::dense::from_matrix;
 use graph_tests::seven::is_graph;
 use graph_tests::{Given, dense_fault, lists_fit, numbers_fault, sizes_good, sparse_fault};
-use refusals::{Answer, Refusal};
+use refusals::Refusal;
 use refusals_tests::{both, is_done, same_number};
 
 // How many checks, mechanisms and edges a model has.
@@ -27,7 +27,7 @@ pub fn build_sparse(
     var_check: &mut [u32],
     var_message: &mut [u32],
     var_offset: &mut [u32],
-) -> Answer
+) -> Result<(), Refusal>
     ensures { let g = graph size.checks size.mechanisms check_var.old
         check_offset.old var_check.old var_message.old var_offset.old in
         let built = graph size.checks size.mechanisms check_var.new
@@ -94,7 +94,7 @@ pub fn build_dense(
     var_check: &mut [u32],
     var_message: &mut [u32],
     var_offset: &mut [u32],
-) -> Answer
+) -> Result<(), Refusal>
     ensures { let g = graph checks mechanisms check_var.old check_offset.old
         var_check.old var_message.old var_offset.old in
         let built = graph checks mechanisms check_var.new check_offset.new
@@ -140,13 +140,13 @@ pub fn check_graph(
     var_check: &[u32],
     var_message: &[u32],
     var_offset: &[u32],
-) -> Answer
+) -> Result<(), Refusal>
     ensures { let g = graph size.checks size.mechanisms check_var.now
         check_offset.now var_check.now var_message.now var_offset.now in
         result ≡ graph_fault size.edges priors.now g }
 {
     if !sizes_good(size) {
-        return Answer::Refused(Refusal::SizeAboveLimit);
+        return Err(Refusal::SizeAboveLimit);
     }
     let fit = lists_fit(
         size,
@@ -157,7 +157,7 @@ pub fn check_graph(
         var_offset.len(),
     );
     if !both(same_number(priors.len(), size.mechanisms), fit) {
-        return Answer::Refused(Refusal::ModelListLength);
+        return Err(Refusal::ModelListLength);
     }
     let a = numbers_fault(Given::Priors, priors);
     if !is_done(a) {
@@ -173,7 +173,7 @@ pub fn check_graph(
         var_message,
         var_offset,
     ) {
-        return Answer::Refused(Refusal::NoSuchGraph);
+        return Err(Refusal::NoSuchGraph);
     }
-    Answer::Done
+    Ok(())
 }

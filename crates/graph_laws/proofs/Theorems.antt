@@ -6,7 +6,7 @@ use mathlib.Core.List.{List}
 use mathlib.Core.Logic.{◌↔◌}
 use lib.Ieee.{Float}
 use lib.ListN.{length}
-use Rattle.refusals.specs.declared.Answer.TheVariants.{Done}
+use Rattle.std.specs.Prelude.{Ok}
 use Rattle.graph_lists.specs.Graph.{Graph, own_incidence}
 use Rattle.graph_lists.specs.Model.{graph_fits, is_graph, BuildOutcome, build_outcome, build_sparse}
 use Rattle.graph_lists.proofs.SparseTests.{long_fits}
@@ -22,7 +22,7 @@ pub record Builds (g : Graph) : Type 0 where
   pub offsets : List ℕ
   pub detectors : List ℕ
   pub lent : Graph
-  pub built : build_sparse edges priors offsets detectors lent ≡ build_outcome Done g
+  pub built : build_sparse edges priors offsets detectors lent ≡ build_outcome (Ok tt) g
 
 -- "7: graph lists that no model within the limits builds": within the limits of 1, lists pass 7 exactly when some model builds them
 pub seven_is_built : (g : Graph) → g.checks ≤ 65536 → g.mechanisms ≤ 65536 → length g.check_var ≤ 1048576 → (is_graph g ≡ true) ↔ Builds g

@@ -11,7 +11,7 @@ use borrow.Author.Tests.{eq-eqb, ne_eqb}
 use Rattle.numbers.specs.Loops.{upto}
 use Rattle.numbers.proofs.Cases.{either, and_both}
 use Rattle.numbers.proofs.Loops.{length_table, get_or_table, is_table}
-use Rattle.refusals.specs.declared.Answer.TheVariants.{Done, Refused}
+use Rattle.std.specs.Prelude.{Ok, Err}
 use Rattle.refusals.specs.declared.Refusal.TheVariants.{ModelListLength, NoSuchGraph}
 use Rattle.refusals.specs.Tests.{unless, or_else, first_of}
 use Rattle.graph_lists.specs.Lists.{same_list}
@@ -99,7 +99,7 @@ module _ (edges : ℕ) (priors : List Float) (o : Numbered) (sizes : sizes_good 
   length_unfit h = rw (ne_eqb _ _ h, and-false (graph_fits edges (without_numbers o))) (and-false (eqb (length priors) o.mechanisms))
 
   -- which is 2
-  pub length_fault : (length o.check_message ≡ edges → ⊥) → numbered_fault edges priors o ≡ Refused ModelListLength
+  pub length_fault : (length o.check_message ≡ edges → ⊥) → numbered_fault edges priors o ≡ Err ModelListLength
   unfolding numbered_fault or_else unless
   length_fault h = rw (sizes, length_unfit h)
 
@@ -111,8 +111,8 @@ module _ (edges : ℕ) (priors : List Float) (o : Numbered) (sizes : sizes_good 
       (long_told edges (without_numbers o) (and_both (graph_fits edges (without_numbers o)) _ w).0).check_var
 
   -- past 2 and 4, another number is 7
-  pub number_fault : (eqb (length priors) o.mechanisms && numbered_fits edges o) ≡ true → first_of o.mechanisms (prior_fault priors) ≡ Done
-      → (i : ℕ) → i < edges → (get_or o.check_message i 0 ≡ i → ⊥) → numbered_fault edges priors o ≡ Refused NoSuchGraph
+  pub number_fault : (eqb (length priors) o.mechanisms && numbered_fits edges o) ≡ true → first_of o.mechanisms (prior_fault priors) ≡ Ok tt
+      → (i : ℕ) → i < edges → (get_or o.check_message i 0 ≡ i → ⊥) → numbered_fault edges priors o ≡ Err NoSuchGraph
   unfolding numbered_fault or_else unless
   number_fault fit good i l h =
       let no : is_numbered o ≡ false = ⊎_elim (λ k. absurd (h (((seven_is o).0 k).1.own i (rw (entries_fit fit) l)))) (λ k. k) (either (is_numbered o)) in

@@ -13,8 +13,8 @@ use Rattle.numbers.specs.Loops.{upto}
 use Rattle.numbers.proofs.Cases.{and_both}
 use Rattle.refusals.specs.declared.Refusal.{Refusal}
 use Rattle.refusals.specs.declared.Refusal.TheVariants.{ModelListLength, NoSuchGraph, LentListLength}
-use Rattle.refusals.specs.declared.Answer.{Answer}
-use Rattle.refusals.specs.declared.Answer.TheVariants.{Done, Refused}
+use Rattle.refusals.specs.Refusal.{Answer}
+use Rattle.std.specs.Prelude.{Ok, Err}
 use Rattle.refusals.specs.Tests.{or_else, first_of}
 use Rattle.refusals.proofs.Tests.{or_done, unless_done}
 use Rattle.graph_lists.specs.Graph.{Graph, graph_of, own_incidence}
@@ -90,7 +90,7 @@ old_seven = seven_is
 -- ---- "beliefs, decode and the single iteration give equal results on both": for every input, the answer and every list, refusals included
 
 -- lists that pass are sound
-sound_of : (edges : ℕ) (priors : List Float) (g : Graph) → graph_fault edges priors g ≡ Done → Sound g
+sound_of : (edges : ℕ) (priors : List Float) (g : Graph) → graph_fault edges priors g ≡ Ok tt → Sound g
 sound_of edges priors g h = passes_sound g (graph_told edges priors g h).is_graph_lem
 
 -- 1, 2, 4 and 7, as `check_graph` answers them
@@ -102,8 +102,8 @@ module _ (edges : ℕ) (priors : List Float) (g : Graph) (syndrome : List ℕ) (
   beliefs_past : (a : Answer) → beliefs_fault edges priors g syndrome iterations l ≡ a
       → beliefs_by by_place a edges priors g syndrome iterations scale serial l ≡ beliefs_by (own g) a edges priors g syndrome iterations scale serial l
   unfolding beliefs_fault
-  beliefs_past (Refused r) h = refl
-  beliefs_past Done h = ap (ran edges g) (beliefs_agree g (sound_of edges priors g (or_done _ _ h).0) scale syndrome priors serial iterations)
+  beliefs_past (Err r) h = refl
+  beliefs_past (Ok tt) h = ap (ran edges g) (beliefs_agree g (sound_of edges priors g (or_done _ _ h).0) scale syndrome priors serial iterations)
 
   -- `beliefs`
   pub beliefs_equal : beliefs edges priors g syndrome iterations scale serial l ≡ numbered_beliefs edges priors (with_numbers g) syndrome iterations scale serial l
@@ -123,7 +123,7 @@ module _ (edges : ℕ) (prior : List Float) (g : Graph) (schedule : Schedule) (a
       (eqb-true _ _ b.0, eqb-true _ _ c.0)
 
   -- what the tests tell of the state and the order, where they refuse nothing
-  step_told : step_fault edges prior g alpha clip gamma syndrome order l ≡ Done → Sound g × Sized g l.now × NamesOnce g.checks order
+  step_told : step_fault edges prior g alpha clip gamma syndrome order l ≡ Ok tt → Sound g × Sized g l.now × NamesOnce g.checks order
   unfolding step_fault
   step_told h =
       let a = or_done _ _ h in
@@ -139,8 +139,8 @@ module _ (edges : ℕ) (prior : List Float) (g : Graph) (schedule : Schedule) (a
   -- whatever they answer
   iteration_past : (a : Answer) → step_fault edges prior g alpha clip gamma syndrome order l ≡ a
       → iteration_by by_place a edges prior g schedule alpha clip gamma syndrome order l ≡ iteration_by (own g) a edges prior g schedule alpha clip gamma syndrome order l
-  iteration_past (Refused r) h = refl
-  iteration_past Done h =
+  iteration_past (Err r) h = refl
+  iteration_past (Ok tt) h =
       let t = step_told h in
       ap (stepped edges g) (iteration_agrees g t.0 alpha clip syndrome prior gamma order (names_below t.2) l.now t.1 schedule)
 
@@ -156,8 +156,8 @@ module _ (edges : ℕ) (x : Shot) (l : DecodeLists) where
   -- whatever the tests answer
   decode_past : (a : Answer) → decode_fault edges x l ≡ a → decode_by by_place a edges x l ≡ decode_by (own x.graph) a edges x l
   unfolding decode_fault
-  decode_past (Refused r) h = refl
-  decode_past Done h =
+  decode_past (Err r) h = refl
+  decode_past (Ok tt) h =
       let a = or_done _ _ h in
       let d = or_done _ _ (or_done _ _ (or_done _ _ (or_done _ _ a.1).1).1).1 in
       let sound = sound_of edges x.prior x.graph a.0 in
@@ -211,16 +211,16 @@ module _ (o : Numbered) (passes : is_numbered o ≡ true) where
 
 -- every call over these lists is refused with r and writes nothing
 pub record AllRefuse (r : Refusal) (edges : ℕ) (priors : List Float) (o : Numbered) : Type 0 where
-  pub check_graph : numbered_fault edges priors o ≡ Refused r
+  pub check_graph : numbered_fault edges priors o ≡ Err r
   pub beliefs : (syndrome : List ℕ) (iterations : ℕ) (scale : Float) (serial : Bool) (l : BeliefsLists)
-      → numbered_beliefs edges priors o syndrome iterations scale serial l ≡ beliefs_outcome (Refused r) l
+      → numbered_beliefs edges priors o syndrome iterations scale serial l ≡ beliefs_outcome (Err r) l
   pub iteration : (schedule : Schedule) (alpha : Float) (clip : Clip) (gamma : List Float) (syndrome order : List ℕ) (l : StepLists)
-      → numbered_iteration edges priors o schedule alpha clip gamma syndrome order l ≡ step_outcome (Refused r) l
+      → numbered_iteration edges priors o schedule alpha clip gamma syndrome order l ≡ step_outcome (Err r) l
   pub decode_in_order_lem : (x : Shot) (l : DecodeLists) → x.prior ≡ priors → numbered_decode_in_order edges o x l ≡ decode_outcome (Decoded.Refused r) l
   pub decode : (x : Shot) (l : DecodeLists) → x.prior ≡ priors → numbered_decode edges o x l ≡ decode_outcome (Decoded.Refused r) l
 
 -- they are where the graph's own tests are
-all_refuse : (r : Refusal) (edges : ℕ) (priors : List Float) (o : Numbered) → numbered_fault edges priors o ≡ Refused r → AllRefuse r edges priors o
+all_refuse : (r : Refusal) (edges : ℕ) (priors : List Float) (o : Numbered) → numbered_fault edges priors o ≡ Err r → AllRefuse r edges priors o
 unfolding numbered_beliefs numbered_iteration numbered_decode_in_order numbered_decode or_else
 all_refuse r edges priors o h =
     record {
@@ -237,6 +237,6 @@ module _ (edges : ℕ) (priors : List Float) (o : Numbered) (sizes : sizes_good 
   wrong_length h = all_refuse ModelListLength edges priors o (length_fault edges priors o sizes h)
 
   -- past 1, 2 and 4, a number that is not its place: 7
-  pub another_number : (eqb (length priors) o.mechanisms && numbered_fits edges o) ≡ true → first_of o.mechanisms (prior_fault priors) ≡ Done
+  pub another_number : (eqb (length priors) o.mechanisms && numbered_fits edges o) ≡ true → first_of o.mechanisms (prior_fault priors) ≡ Ok tt
       → (i : ℕ) → i < edges → (get_or o.check_message i 0 ≡ i → ⊥) → AllRefuse NoSuchGraph edges priors o
   another_number fit good i l h = all_refuse NoSuchGraph edges priors o (number_fault edges priors o sizes fit good i l h)

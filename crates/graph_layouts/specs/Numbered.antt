@@ -4,7 +4,7 @@
 use Rattle.std.specs.Prelude.{ℕ, ◌<◌, ◌≡◌, Bool, ◌&&◌, List, map, eqb, Float, length, get_or, set}
 use Rattle.std.specs.Float.{nan}
 use Rattle.numbers.specs.Loops.{turns, row, upto}
-use Rattle.refusals.specs.declared.Answer.{Answer}
+use Rattle.refusals.specs.Refusal.{Answer}
 use Rattle.refusals.specs.Tests.{or_else}
 use Rattle.graph_lists.specs.Lists.{has, same_list}
 use Rattle.graph_lists.specs.Graph.{Graph, graph, entries, graph_of}

@@ -12,8 +12,8 @@ use borrow.Author.Tests.{leb-true, eqb-true}
 use Rattle.numbers.proofs.Cases.{and_both}
 use Rattle.refusals.proofs.Tests.{or_done, unless_done}
 use Rattle.refusals.specs.Tests.{is_done, unless, or_else, first_of}
-use Rattle.refusals.specs.declared.Answer.{Answer}
-use Rattle.refusals.specs.declared.Answer.TheVariants.{Done, Refused}
+use Rattle.refusals.specs.Refusal.{Answer}
+use Rattle.std.specs.Prelude.{Ok, Err}
 use Rattle.refusals.specs.declared.Refusal.TheVariants.{SizeAboveLimit, ModelListLength}
 use Rattle.graph_lists.specs.Graph.{Graph, graph_of, marked}
 use Rattle.graph_lists.specs.Model.{edges_good, graph_fits, dense_fits, prior_fault, build_outcome, count_edges, build_dense, counts_good, dense_fault}
@@ -28,25 +28,25 @@ product_small checks mechanisms h =
 
 module _ (checks mechanisms edges numbers : ℕ) (given : ℕ → Answer) (bytes : ℕ) (fit : Bool) where
   -- 1, for the counts
-  pub dense_1 : counts_good checks mechanisms ≡ false → Refused SizeAboveLimit ≡ dense_fault checks mechanisms edges numbers given bytes fit
+  pub dense_1 : counts_good checks mechanisms ≡ false → Err SizeAboveLimit ≡ dense_fault checks mechanisms edges numbers given bytes fit
   unfolding dense_fault or_else unless
   dense_1 h = rw h
 
   -- 2, for the matrix and the numbers
   pub dense_2 : counts_good checks mechanisms ≡ true → dense_fits checks mechanisms numbers bytes ≡ false
-      → Refused ModelListLength ≡ dense_fault checks mechanisms edges numbers given bytes fit
+      → Err ModelListLength ≡ dense_fault checks mechanisms edges numbers given bytes fit
   unfolding dense_fault or_else unless
   dense_2 h k = rw (h, k)
 
   -- 1, for the edges
   pub dense_3 : counts_good checks mechanisms ≡ true → dense_fits checks mechanisms numbers bytes ≡ true → edges_good edges ≡ false
-      → Refused SizeAboveLimit ≡ dense_fault checks mechanisms edges numbers given bytes fit
+      → Err SizeAboveLimit ≡ dense_fault checks mechanisms edges numbers given bytes fit
   unfolding dense_fault or_else unless
   dense_3 h k l = rw (h, k, l)
 
   -- 2, for the graph lists
   pub dense_4 : counts_good checks mechanisms ≡ true → dense_fits checks mechanisms numbers bytes ≡ true → edges_good edges ≡ true → fit ≡ false
-      → Refused ModelListLength ≡ dense_fault checks mechanisms edges numbers given bytes fit
+      → Err ModelListLength ≡ dense_fault checks mechanisms edges numbers given bytes fit
   unfolding dense_fault or_else unless
   dense_4 h k l m = rw (h, k, l, m)
 
@@ -63,10 +63,10 @@ module _ (checks mechanisms edges numbers : ℕ) (given : ℕ → Answer) (bytes
     pub bytes_many : bytes ≡ checks * mechanisms
     pub numbers_many : numbers ≡ mechanisms
     pub fits : fit ≡ true
-    pub given_none : first_of mechanisms given ≡ Done
+    pub given_none : first_of mechanisms given ≡ Ok tt
 
   -- and that they do
-  pub dense_told : dense_fault checks mechanisms edges numbers given bytes fit ≡ Done → DenseTold
+  pub dense_told : dense_fault checks mechanisms edges numbers given bytes fit ≡ Ok tt → DenseTold
   unfolding dense_fault
   dense_told h =
       let a = or_done _ _ h in

@@ -10,8 +10,8 @@ use borrow.Author.Tests.{eqb-true}
 use Rattle.numbers.proofs.Cases.{and_both}
 use Rattle.refusals.proofs.Tests.{or_done, unless_done, first_all}
 use Rattle.refusals.specs.Tests.{is_done, unless, or_else, first_of}
-use Rattle.refusals.specs.declared.Answer.{Answer}
-use Rattle.refusals.specs.declared.Answer.TheVariants.{Done, Refused}
+use Rattle.refusals.specs.Refusal.{Answer}
+use Rattle.std.specs.Prelude.{Ok, Err}
 use Rattle.refusals.specs.declared.Refusal.TheVariants.{SizeAboveLimit, ModelListLength, BadPrior, NoSuchGraph}
 use Rattle.graph_lists.specs.Graph.{Graph}
 use Rattle.graph_lists.specs.Model.{graph_fits, prior_good, prior_fault, is_graph, graph_fault, sizes_good}
@@ -20,12 +20,12 @@ use Rattle.graph_lists.proofs.SparseTests.{Few, few_told, long_told}
 
 module _ (edges : ℕ) (priors : List Float) (g : Graph) where
   -- 1
-  pub fault_1 : sizes_good g.checks g.mechanisms edges ≡ false → Refused SizeAboveLimit ≡ graph_fault edges priors g
+  pub fault_1 : sizes_good g.checks g.mechanisms edges ≡ false → Err SizeAboveLimit ≡ graph_fault edges priors g
   unfolding graph_fault or_else unless
   fault_1 a = rw a
 
   -- 2
-  pub fault_2 : sizes_good g.checks g.mechanisms edges ≡ true → (eqb (length priors) g.mechanisms && graph_fits edges g) ≡ false → Refused ModelListLength ≡ graph_fault edges priors g
+  pub fault_2 : sizes_good g.checks g.mechanisms edges ≡ true → (eqb (length priors) g.mechanisms && graph_fits edges g) ≡ false → Err ModelListLength ≡ graph_fault edges priors g
   unfolding graph_fault or_else unless
   fault_2 a b = rw (a, b)
 
@@ -37,13 +37,13 @@ module _ (edges : ℕ) (priors : List Float) (g : Graph) where
 
   -- 7
   pub fault_7 : (r : Answer) → sizes_good g.checks g.mechanisms edges ≡ true → (eqb (length priors) g.mechanisms && graph_fits edges g) ≡ true
-      → r ≡ first_of g.mechanisms (prior_fault priors) → is_done r ≡ true → is_graph g ≡ false → Refused NoSuchGraph ≡ graph_fault edges priors g
+      → r ≡ first_of g.mechanisms (prior_fault priors) → is_done r ≡ true → is_graph g ≡ false → Err NoSuchGraph ≡ graph_fault edges priors g
   unfolding graph_fault or_else unless
   fault_7 r a b e d h = rw (a, b, ← e, d, h)
 
   -- none
   pub fault_none : (r : Answer) → sizes_good g.checks g.mechanisms edges ≡ true → (eqb (length priors) g.mechanisms && graph_fits edges g) ≡ true
-      → r ≡ first_of g.mechanisms (prior_fault priors) → is_done r ≡ true → is_graph g ≡ true → Done ≡ graph_fault edges priors g
+      → r ≡ first_of g.mechanisms (prior_fault priors) → is_done r ≡ true → is_graph g ≡ true → (Ok tt) ≡ graph_fault edges priors g
   unfolding graph_fault or_else unless
   fault_none r a b e d h = rw (a, b, ← e, d, h)
 
@@ -57,7 +57,7 @@ module _ (edges : ℕ) (priors : List Float) (g : Graph) where
     pub is_graph_lem : is_graph g ≡ true
 
   -- and that it does
-  pub graph_told : graph_fault edges priors g ≡ Done → GraphTold
+  pub graph_told : graph_fault edges priors g ≡ Ok tt → GraphTold
   unfolding graph_fault prior_fault
   graph_told h =
       let a = or_done _ _ h in

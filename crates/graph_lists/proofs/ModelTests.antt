@@ -15,8 +15,8 @@ use Rattle.numbers.proofs.Loops.{every_at, length_part, get_d_part}
 use Rattle.numbers.specs.Loops.{part}
 use Rattle.refusals.proofs.Tests.{or_done, unless_done, first_all, first_none, first_stop, first_rest}
 use Rattle.refusals.specs.Tests.{is_done, unless, or_else, first_of}
-use Rattle.refusals.specs.declared.Answer.{Answer}
-use Rattle.refusals.specs.declared.Answer.TheVariants.{Done, Refused}
+use Rattle.refusals.specs.Refusal.{Answer}
+use Rattle.std.specs.Prelude.{Ok, Err}
 use Rattle.refusals.specs.declared.Refusal.TheVariants.{DetectorOutOfRange, DetectorRepeated}
 use Rattle.graph_lists.specs.Lists.{has}
 use Rattle.graph_lists.specs.Model.{rising, offsets_good, detector_fault, mechanism_fault, mechanism_test}
@@ -59,7 +59,7 @@ offsets_told rows n off l h =
     }
 
 -- a detector that passes 5 and 6 is in range and new
-detector_told : (checks m : ℕ) (ds : List ℕ) (i : ℕ) → detector_fault checks m ds i ≡ Done → (get_or ds i 0 < checks) × (has (take i ds) (get_or ds i 0) ≡ false)
+detector_told : (checks m : ℕ) (ds : List ℕ) (i : ℕ) → detector_fault checks m ds i ≡ Ok tt → (get_or ds i 0 < checks) × (has (take i ds) (get_or ds i 0) ≡ false)
 unfolding detector_fault
 detector_told checks m ds i h =
     let w = or_done _ _ h in
@@ -70,12 +70,12 @@ detector_told checks m ds i h =
     flip false e = refl
 
 -- so is each of a mechanism's
-mech_told : (checks m : ℕ) (given : Answer) (ds : List ℕ) → mechanism_test checks m given ds ≡ Done → (i : ℕ) → i < length ds → (get_or ds i 0 < checks) × (has (take i ds) (get_or ds i 0) ≡ false)
+mech_told : (checks m : ℕ) (given : Answer) (ds : List ℕ) → mechanism_test checks m given ds ≡ Ok tt → (i : ℕ) → i < length ds → (get_or ds i 0 < checks) × (has (take i ds) (get_or ds i 0) ≡ false)
 unfolding mechanism_test
 mech_told checks m given ds h i l = detector_told checks m ds i (first_all (detector_fault checks m ds) (length ds) (or_done _ _ h).1 i l)
 
 module _ (checks mechanisms : ℕ) (given : ℕ → Answer) (off dets : List ℕ) (o : Offsets mechanisms (length dets) off)
-    (h : first_of mechanisms (mechanism_fault checks given off dets) ≡ Done) where
+    (h : first_of mechanisms (mechanism_fault checks given off dets) ≡ Ok tt) where
   -- of the place i of m's part
   at_told : (m i : ℕ) → Row mechanisms (length dets) off o i m
       → (get_or dets i 0 < checks) × ((j : ℕ) → get_or off m 0 ≤ j → j < i → get_or dets j 0 ≡ get_or dets i 0 → ⊥)
@@ -105,7 +105,7 @@ module _ (checks mechanisms : ℕ) (given : ℕ → Answer) (off dets : List ℕ
       }
 
 -- nor is the number of any mechanism refused
-pub given_told : (checks mechanisms : ℕ) (given : ℕ → Answer) (off dets : List ℕ) → first_of mechanisms (mechanism_fault checks given off dets) ≡ Done → first_of mechanisms given ≡ Done
+pub given_told : (checks mechanisms : ℕ) (given : ℕ → Answer) (off dets : List ℕ) → first_of mechanisms (mechanism_fault checks given off dets) ≡ Ok tt → first_of mechanisms given ≡ Ok tt
 unfolding mechanism_fault mechanism_test
 given_told checks mechanisms given off dets h =
     first_none given mechanisms (λ m l. (or_done _ _ (first_all (mechanism_fault checks given off dets) mechanisms h m l)).0)
@@ -135,17 +135,17 @@ pub front_ends : (ds : List ℕ) (r last d : ℕ) → last ≡ get_or ds r 0 →
 front_ends ds r last d p q h l up = let w : d ≡ get_or ds (suc r) 0 = rw add-one at q in record { within = l; rises = up; stops = λ k. omega arith }
 
 -- a detector out of range
-pub detector_range : (checks m : ℕ) (ds : List ℕ) (i d : ℕ) → d ≡ get_or ds i 0 → checks ≤ d → Refused (DetectorOutOfRange m) ≡ detector_fault checks m ds i
+pub detector_range : (checks m : ℕ) (ds : List ℕ) (i d : ℕ) → d ≡ get_or ds i 0 → checks ≤ d → Err (DetectorOutOfRange m) ≡ detector_fault checks m ds i
 unfolding detector_fault or_else unless
 detector_range checks m ds i d p h = rw (le-ltb (get_or ds i 0) checks (omega arith))
 
 -- repeated
-pub detector_repeat : (checks m : ℕ) (ds : List ℕ) (i d : ℕ) → d ≡ get_or ds i 0 → d < checks → has (take i ds) d ≡ true → Refused (DetectorRepeated m) ≡ detector_fault checks m ds i
+pub detector_repeat : (checks m : ℕ) (ds : List ℕ) (i d : ℕ) → d ≡ get_or ds i 0 → d < checks → has (take i ds) d ≡ true → Err (DetectorRepeated m) ≡ detector_fault checks m ds i
 unfolding detector_fault or_else unless
 detector_repeat checks m ds i d p h t = rw (lt-ltb (get_or ds i 0) checks (omega arith), rw p at t)
 
 -- neither
-pub detector_fine : (checks m : ℕ) (ds : List ℕ) (i d : ℕ) → d ≡ get_or ds i 0 → d < checks → has (take i ds) d ≡ false → Done ≡ detector_fault checks m ds i
+pub detector_fine : (checks m : ℕ) (ds : List ℕ) (i d : ℕ) → d ≡ get_or ds i 0 → d < checks → has (take i ds) d ≡ false → (Ok tt) ≡ detector_fault checks m ds i
 unfolding detector_fault or_else unless
 detector_fine checks m ds i d p h t = rw (lt-ltb (get_or ds i 0) checks (omega arith), rw p at t)
 
@@ -165,7 +165,7 @@ module _ (checks m : ℕ) (ds : List ℕ) (r : ℕ) (f : RisesTo ds r) where
   front_new i h = above_new ds i (omega (arith, f.within)) (λ j l. front_above j i l h)
 
   -- and where one is in range, it and all before it are passed
-  front_passed : (i : ℕ) → i ≤ r → get_or ds i 0 < checks → first_of (suc i) Test ≡ Done
+  front_passed : (i : ℕ) → i ≤ r → get_or ds i 0 < checks → first_of (suc i) Test ≡ Ok tt
   front_passed i h l = first_none Test (suc i) (λ j k. sym (detector_fine checks m ds j _ refl (below j k) (front_new j (omega arith))))
     where
       below : (j : ℕ) → j < suc i → get_or ds j 0 < checks
@@ -179,11 +179,11 @@ module _ (checks m : ℕ) (ds : List ℕ) (r : ℕ) (f : RisesTo ds r) where
       ap (λ (x : ℕ). first_of x Test) n ∙ first_rest Test from (length ds - from) (rw e (front_passed r (omega arith) (omega arith)))
 
   -- the first of the front that is out of range is refused with 5
-  front_stop : (i : ℕ) → i ≤ r → checks ≤ get_or ds i 0 → first_of i Test ≡ Done → Refused (DetectorOutOfRange m) ≡ first_of (length ds) Test
+  front_stop : (i : ℕ) → i ≤ r → checks ≤ get_or ds i 0 → first_of i Test ≡ Ok tt → Err (DetectorOutOfRange m) ≡ first_of (length ds) Test
   front_stop i h l e = let x = detector_range checks m ds i _ refl l in x ∙ sym (first_stop Test i (length ds) (omega (arith, f.within)) e (ap is_done (sym x)))
 
   -- so where any of it is out of range, 5 is the first refusal
-  pub front_out : (i : ℕ) → i ≤ r → checks ≤ get_or ds i 0 → Refused (DetectorOutOfRange m) ≡ first_of (length ds) Test
+  pub front_out : (i : ℕ) → i ≤ r → checks ≤ get_or ds i 0 → Err (DetectorOutOfRange m) ≡ first_of (length ds) Test
   front_out zero h l = front_stop 0 h l (first_none Test 0 (λ j k. absurd (omega arith)))
   front_out (suc i) h l = ⊎_elim (λ k. front_stop (suc i) h l (front_passed i (omega arith) k)) (λ k. front_out i (omega arith) k) (less_or_not (get_or ds i 0) checks)
 

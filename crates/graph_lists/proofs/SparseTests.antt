@@ -9,8 +9,8 @@ use borrow.Author.Tests.{eq-eqb, leb-true, eqb-true}
 use Rattle.numbers.proofs.Cases.{and_both}
 use Rattle.refusals.proofs.Tests.{or_done, unless_done}
 use Rattle.refusals.specs.Tests.{is_done, unless, or_else, first_of, unless_refused}
-use Rattle.refusals.specs.declared.Answer.{Answer}
-use Rattle.refusals.specs.declared.Answer.TheVariants.{Done, Refused}
+use Rattle.refusals.specs.Refusal.{Answer}
+use Rattle.std.specs.Prelude.{Ok, Err}
 use Rattle.refusals.specs.declared.Refusal.TheVariants.{SizeAboveLimit, ModelListLength, BadDetectorOffsets}
 use Rattle.graph_lists.specs.Graph.{Graph, graph_of, among}
 use Rattle.graph_lists.specs.Model.{graph_fits, offsets_good, prior_fault, mechanism_fault, build_outcome, built, build_sparse, counts_good, edges_good, sizes_good, sparse_fits, sparse_fault}
@@ -32,19 +32,19 @@ few_told checks mechanisms edges h k =
 
 module _ (checks mechanisms edges numbers : ℕ) (given : ℕ → Answer) (off dets : List ℕ) (fit : Bool) where
   -- 1
-  pub sparse_1 : sizes_good checks mechanisms edges ≡ false → Refused SizeAboveLimit ≡ sparse_fault checks mechanisms edges numbers given off dets fit
+  pub sparse_1 : sizes_good checks mechanisms edges ≡ false → Err SizeAboveLimit ≡ sparse_fault checks mechanisms edges numbers given off dets fit
   unfolding sparse_fault or_else unless
   sparse_1 h = rw h
 
   -- 2
   pub sparse_2 : sizes_good checks mechanisms edges ≡ true → (sparse_fits mechanisms edges numbers (length off) (length dets) && fit) ≡ false
-      → Refused ModelListLength ≡ sparse_fault checks mechanisms edges numbers given off dets fit
+      → Err ModelListLength ≡ sparse_fault checks mechanisms edges numbers given off dets fit
   unfolding sparse_fault or_else unless
   sparse_2 h k = rw (h, k)
 
   -- 3
   pub sparse_3 : sizes_good checks mechanisms edges ≡ true → (sparse_fits mechanisms edges numbers (length off) (length dets) && fit) ≡ true
-      → offsets_good mechanisms (length dets) off ≡ false → Refused BadDetectorOffsets ≡ sparse_fault checks mechanisms edges numbers given off dets fit
+      → offsets_good mechanisms (length dets) off ≡ false → Err BadDetectorOffsets ≡ sparse_fault checks mechanisms edges numbers given off dets fit
   unfolding sparse_fault or_else unless
   sparse_3 h k l = rw (h, k, l)
 
@@ -74,10 +74,10 @@ module _ (checks mechanisms edges numbers : ℕ) (given : ℕ → Answer) (off d
     pub few : Few checks mechanisms edges
     pub lengths : Lengths
     pub valid : Valid checks mechanisms off dets
-    pub given_none : first_of mechanisms given ≡ Done
+    pub given_none : first_of mechanisms given ≡ Ok tt
 
   -- and that they do
-  pub sparse_told : sparse_fault checks mechanisms edges numbers given off dets fit ≡ Done → Told
+  pub sparse_told : sparse_fault checks mechanisms edges numbers given off dets fit ≡ Ok tt → Told
   unfolding sparse_fault
   sparse_told h =
       let a = or_done _ _ h in

@@ -8,7 +8,7 @@ use Rattle.std.specs.Float.Ieee.{lt, neg}
 use Rattle.numbers.specs.Floats.{◌+ᶠ◌, zero⁺, zero⁻, one⁺, one⁻, abs, is_finite}
 use Rattle.numbers.specs.Loops.{turns, row, spliced}
 use Rattle.refusals.specs.declared.Refusal.TheVariants.{NonFinite}
-use Rattle.refusals.specs.declared.Answer.{Answer}
+use Rattle.refusals.specs.Refusal.{Answer}
 use Rattle.refusals.specs.Tests.{unless, first_of}
 use Rattle.graph_lists.specs.Graph.{Graph}
 

@@ -7,7 +7,7 @@ use Rattle.numbers.specs.Limits.{max_checks, max_mechanisms, max_edges}
 use Rattle.numbers.specs.Floats.{saturation}
 use Rattle.numbers.specs.Loops.{every, row}
 use Rattle.refusals.specs.declared.Refusal.TheVariants.{SizeAboveLimit, ModelListLength, BadDetectorOffsets, BadPrior, DetectorOutOfRange, DetectorRepeated, NoSuchGraph}
-use Rattle.refusals.specs.declared.Answer.{Answer}
+use Rattle.refusals.specs.Refusal.{Answer}
 use Rattle.refusals.specs.Tests.{unless, or_else, first_of, unless_refused}
 use Rattle.graph_lists.specs.Lists.{has, same_list}
 use Rattle.graph_lists.specs.Graph.{Graph, graph_of, among, marked, own_incidence}

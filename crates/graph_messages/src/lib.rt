@@ -15,7 +15,7 @@ ghost use Rattle.graph_lists.specs.Sound.{Keys};
 ghost use Rattle.graph_messages.specs.Needs.{Ordered};
 
 use graph_lists::indices::at;
-use refusals::{Answer, Refusal};
+use refusals::Refusal;
 use refusals_tests::is_done;
 
 // What the first pass over a check's messages knows: the total sign, the least and the next magnitude, and whose the least is.
@@ -200,17 +200,17 @@ pub fn copy(from: &[f64], to: &mut [f64])
 }
 
 // 30 for one mechanism.
-fn value_fault(v: usize, value: f64) -> Answer
+fn value_fault(v: usize, value: f64) -> Result<(), Refusal>
     ensures { result ≡ unless (is_finite value) (NonFinite v) }
 {
     if numbers::is_finite(value) {
-        return Answer::Done;
+        return Ok(());
     }
-    Answer::Refused(Refusal::NonFinite(v))
+    Err(Refusal::NonFinite(v))
 }
 
 // 30: the first mechanism whose value is not finite.
-pub fn first_not_finite(values: &[f64]) -> Answer
+pub fn first_not_finite(values: &[f64]) -> Result<(), Refusal>
     ensures { result ≡ first_of (length values.now) (value_fault values.now) }
 {
     let mut v = 0;
@@ -221,5 +221,5 @@ pub fn first_not_finite(values: &[f64]) -> Answer
         }
         v += 1;
     }
-    Answer::Done
+    Ok(())
 }

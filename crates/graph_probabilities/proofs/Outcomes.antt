@@ -8,7 +8,7 @@ use lib.ListN.{length}
 use borrow.Author.Tests.{eqb-true}
 use Rattle.numbers.proofs.Cases.{and_both}
 use Rattle.refusals.specs.Tests.{is_done, unless_refused}
-use Rattle.refusals.specs.declared.Answer.{Answer}
+use Rattle.refusals.specs.Refusal.{Answer}
 use Rattle.probabilities.specs.Calls.{probability_fault}
 use Rattle.probabilities.specs.Scaled.{prior_of}
 use Rattle.graph_lists.specs.Graph.{Graph, graph_of, among, marked}

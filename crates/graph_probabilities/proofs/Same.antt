@@ -13,8 +13,8 @@ use Rattle.numbers.proofs.Cases.{either}
 use Rattle.numbers.specs.Loops.{row}
 use Rattle.refusals.proofs.Tests.{first_all}
 use Rattle.refusals.specs.Tests.{unless, or_else, first_of}
-use Rattle.refusals.specs.declared.Answer.{Answer}
-use Rattle.refusals.specs.declared.Answer.TheVariants.{Done}
+use Rattle.refusals.specs.Refusal.{Answer}
+use Rattle.std.specs.Prelude.{Ok}
 use Rattle.probabilities.specs.Calls.{probability_fault}
 use Rattle.probabilities.specs.Scaled.{prior_of}
 use Rattle.probabilities.proofs.Theorems.{prior_range}
@@ -77,6 +77,6 @@ unfolding prior_good
 prior_good_lem p = prior_range p
 
 -- of probabilities that pass 8 each prior passes 4
-pub made_passes : (ps : List Float) → first_of (length ps) (probability_fault ps) ≡ Done → (m : ℕ) → m < length ps → probability_fault ps m ≡ prior_fault (map prior_of ps) m
+pub made_passes : (ps : List Float) → first_of (length ps) (probability_fault ps) ≡ Ok tt → (m : ℕ) → m < length ps → probability_fault ps m ≡ prior_fault (map prior_of ps) m
 unfolding prior_fault unless
 made_passes ps h m l = first_all (probability_fault ps) (length ps) h m l ∙ sym (rw (get_or_made prior_of ps m l, prior_good_lem (get_or ps m nan)))

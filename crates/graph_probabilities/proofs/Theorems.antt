@@ -12,8 +12,8 @@ use Rattle.numbers.proofs.Cases.{and_both}
 use Rattle.refusals.proofs.Tests.{or_done, unless_done}
 use Rattle.refusals.specs.Refusal.{number_of}
 use Rattle.refusals.specs.Tests.{is_done, unless, or_else, first_of, unless_refused}
-use Rattle.refusals.specs.declared.Answer.{Answer}
-use Rattle.refusals.specs.declared.Answer.TheVariants.{Done, Refused}
+use Rattle.refusals.specs.Refusal.{Answer}
+use Rattle.std.specs.Prelude.{Ok, Err}
 use Rattle.refusals.specs.declared.Refusal.TheVariants.{ModelListLength, BadProbability}
 use Rattle.probabilities.specs.Calls.{probability_fault, priors_fault, priors_of}
 use Rattle.probabilities.specs.Scaled.{prior_of}
@@ -29,11 +29,11 @@ use Rattle.graph_probabilities.proofs.Same.{sparse_same, dense_same, made_passes
 -- what `priors_of` tells where it refuses nothing
 record PriorsTold (ps priors : List Float) (scaled : List ℤ) : Type 0 where
   many : length priors ≡ length ps
-  none : first_of (length ps) (probability_fault ps) ≡ Done
+  none : first_of (length ps) (probability_fault ps) ≡ Ok tt
   priors_are : (priors_of ps priors scaled).priors ≡ map prior_of ps
 
 -- and that it does
-priors_told : (ps priors : List Float) (scaled : List ℤ) → (priors_of ps priors scaled).answer ≡ Done → PriorsTold ps priors scaled
+priors_told : (ps priors : List Float) (scaled : List ℤ) → (priors_of ps priors scaled).answer ≡ Ok tt → PriorsTold ps priors scaled
 unfolding priors_of priors_fault unless_refused
 priors_told ps priors scaled h =
     let w = or_done _ _ h in
@@ -48,7 +48,7 @@ room_for edges priors g e = rw (eq-eqb (length priors) g.mechanisms e)
 abbrev beside : Answer → List Float → List Float → Graph → ProbabilityOutcome
 beside a new priors g = probability_outcome a (unless_refused a new priors) g
 
-module _ (ps priors : List Float) (scaled : List ℤ) (h : (priors_of ps priors scaled).answer ≡ Done) (g : Graph) where
+module _ (ps priors : List Float) (scaled : List ℤ) (h : (priors_of ps priors scaled).answer ≡ Ok tt) (g : Graph) where
   -- the tests of a sparse model by 8, and those of its priors by 4
   sparse_answers : (edges : ℕ) (off dets : List ℕ)
       → sparse_fault g.checks g.mechanisms edges (length ps) (probability_fault ps) off dets (made_fits edges priors g)
@@ -95,28 +95,28 @@ module _ (ps priors : List Float) (scaled : List ℤ) (h : (priors_of ps priors 
 
 -- an answer's number, and 0 for none
 abbrev number : Answer → ℕ
-number Done = 0
-number (Refused r) = number_of r
+number (Ok tt) = 0
+number (Err r) = number_of r
 
 -- 8 behind 2 is no answer of tests behind 2 that are passed
-eight_behind : (b : Bool) (m : ℕ) → or_else (unless b ModelListLength) Done ≡ Refused (BadProbability m) → ⊥
+eight_behind : (b : Bool) (m : ℕ) → or_else (unless b ModelListLength) (Ok tt) ≡ Err (BadProbability m) → ⊥
 unfolding or_else unless
 eight_behind true m h = absurd (false≢true (ap (λ (a : Answer). eqb (number a) 8) h))
 eight_behind false m h = absurd (false≢true (ap (λ (a : Answer). eqb (number a) 8) h))
 
 -- so `priors_of` does not answer 8 where all are probabilities
-no_eight : (ps priors : List Float) (scaled : List ℤ) (m : ℕ) → first_of (length ps) (probability_fault ps) ≡ Done → (priors_of ps priors scaled).answer ≡ Refused (BadProbability m) → ⊥
+no_eight : (ps priors : List Float) (scaled : List ℤ) (m : ℕ) → first_of (length ps) (probability_fault ps) ≡ Ok tt → (priors_of ps priors scaled).answer ≡ Err (BadProbability m) → ⊥
 unfolding priors_of priors_fault
 no_eight ps priors scaled m n h = eight_behind (eqb (length priors) (length ps) && eqb (length scaled) (length ps)) m (rw n at h)
 
 -- an answer that is not `Done` refuses
-not_done : (a : Answer) → (a ≡ Done → ⊥) → is_done a ≡ false
-not_done Done h = absurd (h refl)
-not_done (Refused r) h = refl
+not_done : (a : Answer) → (a ≡ Ok tt → ⊥) → is_done a ≡ false
+not_done (Ok tt) h = absurd (h refl)
+not_done (Err r) h = refl
 
 -- Where `priors_of` refuses probabilities with 8, at whatever place, building from them is refused too.
 pub sparse_eight : (edges : ℕ) (ps : List Float) (off dets : List ℕ) (priors : List Float) (scaled : List ℤ) (g : Graph) (m : ℕ)
-    → (priors_of ps priors scaled).answer ≡ Refused (BadProbability m) → is_done (build_sparse_probabilities edges ps off dets priors g).answer ≡ false
+    → (priors_of ps priors scaled).answer ≡ Err (BadProbability m) → is_done (build_sparse_probabilities edges ps off dets priors g).answer ≡ false
 unfolding build_sparse_probabilities made
 sparse_eight edges ps off dets priors scaled g m h =
     not_done _ (λ d.
@@ -125,7 +125,7 @@ sparse_eight edges ps off dets priors scaled g m h =
 
 -- So is building from a dense model.
 pub dense_eight : (ps : List Float) (matrix : List ℕ) (priors : List Float) (scaled : List ℤ) (g : Graph) (m : ℕ)
-    → (priors_of ps priors scaled).answer ≡ Refused (BadProbability m) → is_done (build_dense_probabilities ps matrix priors g).answer ≡ false
+    → (priors_of ps priors scaled).answer ≡ Err (BadProbability m) → is_done (build_dense_probabilities ps matrix priors g).answer ≡ false
 unfolding build_dense_probabilities made
 dense_eight ps matrix priors scaled g m h =
     not_done _ (λ d.

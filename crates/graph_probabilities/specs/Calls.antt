@@ -1,7 +1,7 @@
 -- Models that are given by probabilities: what each call answers and leaves in its lists. 8 stands where building from priors has 4, and the list of priors
 -- that is written counts as a model list. Definitions only. Assumes nothing.
 use Rattle.std.specs.Prelude.{ℕ, Bool, ◌&&◌, List, map, eqb, Float, length}
-use Rattle.refusals.specs.declared.Answer.{Answer}
+use Rattle.refusals.specs.Refusal.{Answer}
 use Rattle.refusals.specs.Tests.{unless_refused}
 use Rattle.probabilities.specs.Calls.{probability_fault}
 use Rattle.probabilities.specs.Scaled.{prior_of}

@@ -4,7 +4,7 @@
 
 ghost use Rattle.std.specs.Prelude.{◌≡◌, true, map, length};
 ghost use Rattle.refusals.specs.Tests.{first_of};
-ghost use Rattle.refusals.specs.declared.Answer.TheVariants.{Done};
+ghost use Rattle.std.specs.Prelude.{Ok};
 ghost use Rattle.probabilities.specs.Calls.{is_probability, probability_fault};
 ghost use Rattle.probabilities.specs.Scaled.{prior_of};
 ghost use Rattle.graph_lists.specs.Graph.{graph};
@@ -15,7 +15,7 @@ use graph_lists::build::from_detectors;
 use graph_lists::dense::from_matrix;
 use graph_tests::{Given, dense_fault, lists_fit, sparse_fault};
 use probabilities::{PriorAnswer, prior_of};
-use refusals::Answer;
+use refusals::Refusal;
 use refusals_tests::{both, is_done, same_number};
 
 // How many checks, mechanisms and edges a model has.
@@ -35,7 +35,7 @@ fn made_prior(p: f64) -> f64
 // The priors of probabilities that pass 8, in their list.
 fn write_priors(probabilities: &[f64], priors: &mut [f64])
     requires priors_len { length priors.old ≡ length probabilities.now }
-    requires probabilities_value { first_of (length probabilities.now) (probability_fault probabilities.now) ≡ Done }
+    requires probabilities_value { first_of (length probabilities.now) (probability_fault probabilities.now) ≡ Ok tt }
     ensures { priors.new ≡ map prior_of probabilities.now }
 {
     let mut m = 0;
@@ -59,7 +59,7 @@ pub fn build_sparse_probabilities(
     var_check: &mut [u32],
     var_message: &mut [u32],
     var_offset: &mut [u32],
-) -> Answer
+) -> Result<(), Refusal>
     ensures { let g = graph size.checks size.mechanisms check_var.old
         check_offset.old var_check.old var_message.old var_offset.old in
         let built = graph size.checks size.mechanisms check_var.new
@@ -117,7 +117,7 @@ pub fn build_dense_probabilities(
     var_check: &mut [u32],
     var_message: &mut [u32],
     var_offset: &mut [u32],
-) -> Answer
+) -> Result<(), Refusal>
     ensures { let g = graph checks mechanisms check_var.old check_offset.old
         var_check.old var_message.old var_offset.old in
         let built = graph checks mechanisms check_var.new check_offset.new

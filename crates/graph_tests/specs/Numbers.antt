@@ -5,7 +5,7 @@ use Rattle.std.specs.Float.Ieee.{neg}
 use Rattle.numbers.specs.Floats.{zero⁺, one⁺, saturation}
 use Rattle.refusals.specs.declared.Refusal.{Refusal}
 use Rattle.refusals.specs.declared.Refusal.TheVariants.{BadPrior, BadProbability}
-use Rattle.refusals.specs.declared.Answer.{Answer}
+use Rattle.refusals.specs.Refusal.{Answer}
 use Rattle.probabilities.specs.Calls.{probability_fault}
 use Rattle.graph_lists.specs.Model.{prior_fault}
 use Rattle.graph_tests.specs.declared.Given.{Given}

@@ -17,7 +17,7 @@ ghost use Rattle.graph_tests.specs.Numbers.{lowest_of, highest_of, bad_number, g
 use graph_lists::Size;
 use graph_lists::indices::at;
 use numbers::limits::{MAX_CHECKS, MAX_EDGES, MAX_MECHANISMS};
-use refusals::{Answer, Refusal};
+use refusals::Refusal;
 use refusals_tests::{at_most, both, is_done, one_more, same_number, unless};
 
 // What the numbers are that a model gives for its mechanisms.
@@ -160,7 +160,7 @@ fn bad_number(given: Given, m: usize) -> Refusal
 
 // The number that is given for m: 4 of a prior, 8 of a probability. Both are asked for two bounds, so that no mechanism's test waits for
 // which of the two it is.
-fn given_fault(given: Given, numbers: &[f64], m: usize) -> Answer
+fn given_fault(given: Given, numbers: &[f64], m: usize) -> Result<(), Refusal>
     requires { m < length numbers.now }
     ensures { result ≡ given_fault given numbers.now m }
 {
@@ -184,22 +184,22 @@ fn repeated(ds: &[u32], i: usize, d: usize) -> bool
 }
 
 // The i-th of m's detectors: range before repeat.
-fn detector_fault(checks: usize, m: usize, ds: &[u32], i: usize) -> Answer
+fn detector_fault(checks: usize, m: usize, ds: &[u32], i: usize) -> Result<(), Refusal>
     requires { i < length ds.now }
     ensures { result ≡ detector_fault checks m ds.now i }
 {
     let d = at(ds, i);
     if checks <= d {
-        return Answer::Refused(Refusal::DetectorOutOfRange(m));
+        return Err(Refusal::DetectorOutOfRange(m));
     }
     if repeated(ds, i, d) {
-        return Answer::Refused(Refusal::DetectorRepeated(m));
+        return Err(Refusal::DetectorRepeated(m));
     }
-    Answer::Done
+    Ok(())
 }
 
 // Those of m's detectors from a place on, each against all before it: the long way.
-fn detectors_fault_from(checks: usize, m: usize, ds: &[u32], from: usize) -> Answer
+fn detectors_fault_from(checks: usize, m: usize, ds: &[u32], from: usize) -> Result<(), Refusal>
     ensures { result ≡ first_of (length ds.now - from) (λ j. detector_fault checks m ds.now (from + j)) }
 {
     let mut i = from;
@@ -210,7 +210,7 @@ fn detectors_fault_from(checks: usize, m: usize, ds: &[u32], from: usize) -> Ans
         }
         i += 1;
     }
-    Answer::Done
+    Ok(())
 }
 
 // The place where the rising front of ds ends: each up to it is above the last one.
@@ -231,23 +231,23 @@ fn rises_to(ds: &[u32]) -> usize
 }
 
 // All of m's detectors, in list order. Of those that rise none is a repeat, and the last is the highest.
-fn detectors_fault(checks: usize, m: usize, ds: &[u32]) -> Answer
+fn detectors_fault(checks: usize, m: usize, ds: &[u32]) -> Result<(), Refusal>
     ensures { result ≡ first_of (length ds.now) (detector_fault checks m ds.now) }
 {
     if ds.len() == 0 {
-        return Answer::Done;
+        return Ok(());
     }
     let r = rises_to(ds);
     let last = at(ds, r);
     if checks <= last {
-        return Answer::Refused(Refusal::DetectorOutOfRange(m));
+        return Err(Refusal::DetectorOutOfRange(m));
     }
     let from = r + 1;
     detectors_fault_from(checks, m, ds, from)
 }
 
 // The mechanism m: its number, then its detectors.
-fn mechanism_fault(checks: usize, given: Given, numbers: &[f64], m: usize, ds: &[u32]) -> Answer
+fn mechanism_fault(checks: usize, given: Given, numbers: &[f64], m: usize, ds: &[u32]) -> Result<(), Refusal>
     requires { m < length numbers.now }
     ensures { result ≡ mechanism_test checks m (given_fault given numbers.now m) ds.now }
 {
@@ -266,7 +266,7 @@ fn mechanisms_fault(
     numbers: &[f64],
     off: &[u32],
     dets: &[u32],
-) -> Answer
+) -> Result<(), Refusal>
     requires offsets { Offsets mechanisms (length dets.now) off.now }
     requires numbers_len { length numbers.now ≡ mechanisms }
     ensures { result
@@ -283,11 +283,11 @@ fn mechanisms_fault(
         }
         m += 1;
     }
-    Answer::Done
+    Ok(())
 }
 
 // The numbers alone.
-pub fn numbers_fault(given: Given, numbers: &[f64]) -> Answer
+pub fn numbers_fault(given: Given, numbers: &[f64]) -> Result<(), Refusal>
     ensures { result ≡ first_of (length numbers.now) (given_fault given numbers.now) }
 {
     let mut m = 0;
@@ -298,7 +298,7 @@ pub fn numbers_fault(given: Given, numbers: &[f64]) -> Answer
         }
         m += 1;
     }
-    Answer::Done
+    Ok(())
 }
 
 // ---- the tests of a sparse model
@@ -311,20 +311,20 @@ pub fn sparse_fault(
     off: &[u32],
     dets: &[u32],
     fit: bool,
-) -> Answer
+) -> Result<(), Refusal>
     ensures { let xs = numbers.now in
         result
         ≡ sparse_fault s.checks s.mechanisms s.edges (length xs) (given_fault given xs)
         off.now dets.now fit }
 {
     if !sizes_good(s) {
-        return Answer::Refused(Refusal::SizeAboveLimit);
+        return Err(Refusal::SizeAboveLimit);
     }
     if !both(model_fits(s, numbers.len(), off.len(), dets.len()), fit) {
-        return Answer::Refused(Refusal::ModelListLength);
+        return Err(Refusal::ModelListLength);
     }
     if !offsets_good(s.mechanisms, dets.len(), off) {
-        return Answer::Refused(Refusal::BadDetectorOffsets);
+        return Err(Refusal::BadDetectorOffsets);
     }
     mechanisms_fault(s.checks, s.mechanisms, given, numbers, off, dets)
 }
@@ -333,24 +333,24 @@ pub fn sparse_fault(
 
 // Counts, the lengths of the matrix and the numbers, edges, the lists to be written, the numbers. `bytes`: the matrix's length; the size's
 // edges: how many of its bytes are not zero; `fit`: the lists to be written have their lengths.
-pub fn dense_fault(s: Size, given: Given, numbers: &[f64], bytes: usize, fit: bool) -> Answer
+pub fn dense_fault(s: Size, given: Given, numbers: &[f64], bytes: usize, fit: bool) -> Result<(), Refusal>
     ensures { let xs = numbers.now in
         result ≡ dense_fault s.checks s.mechanisms s.edges (length xs) (given_fault given xs) bytes fit }
 {
     if !counts_good(s.checks, s.mechanisms) {
-        return Answer::Refused(Refusal::SizeAboveLimit);
+        return Err(Refusal::SizeAboveLimit);
     }
     if !both(
         same_number(bytes, s.checks * s.mechanisms),
         same_number(numbers.len(), s.mechanisms),
     ) {
-        return Answer::Refused(Refusal::ModelListLength);
+        return Err(Refusal::ModelListLength);
     }
     if !edges_good(s.edges) {
-        return Answer::Refused(Refusal::SizeAboveLimit);
+        return Err(Refusal::SizeAboveLimit);
     }
     if !fit {
-        return Answer::Refused(Refusal::ModelListLength);
+        return Err(Refusal::ModelListLength);
     }
     numbers_fault(given, numbers)
 }

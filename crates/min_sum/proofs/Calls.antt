@@ -9,8 +9,8 @@ use borrow.Author.Tests.{not-true, not-false, eqb-true}
 use Rattle.numbers.proofs.Cases.{and_both}
 use Rattle.numbers.specs.Floats.{zero⁺}
 use Rattle.refusals.proofs.Tests.{done_is, or_done, unless_done}
-use Rattle.refusals.specs.declared.Answer.{Answer}
-use Rattle.refusals.specs.declared.Answer.TheVariants.{Done, Refused}
+use Rattle.refusals.specs.Refusal.{Answer}
+use Rattle.std.specs.Prelude.{Ok, Err}
 use Rattle.refusals.specs.Tests.{is_done, first_of, unless_refused}
 use Rattle.graph_lists.specs.Graph.{Graph, graph}
 use Rattle.graph_lists.specs.Messages.{by_place, cleared, from_variables, value_fault, posterior_fault}
@@ -64,8 +64,8 @@ module _ (checks mechanisms : ℕ) (cv co vc vm vo : List ℕ) (scale : Float) (
 
 -- a call that its tests refuse leaves the lists
 leaves : (a : Answer) (o : BeliefsOutcome) (l : BeliefsLists) → is_done a ≡ false → beliefs_outcome a l ≡ after_beliefs_tests a o l
-leaves Done o l h = absurd (true≢false h)
-leaves (Refused r) o l h = refl
+leaves (Ok tt) o l h = absurd (true≢false h)
+leaves (Err r) o l h = refl
 
 -- what a run leaves, however checks, mechanisms and edges are counted
 ran_counted : (edges edges' checks checks' mechanisms mechanisms' : ℕ) (cv co vm vo : List ℕ) (scale : Float) (syndrome : List ℕ) (priors : List Float) (n : ℕ) (serial : Bool)
@@ -128,7 +128,7 @@ module _ (edges checks mechanisms : ℕ) (cv co vc vm vo : List ℕ) (priors : L
     unfolding beliefs
     beliefs_ran a b o e d h q =
         let t = told a b e d h in
-        let done : beliefs_fault edges priors (graph checks mechanisms cv co vc vm vo) syndrome iterations l ≡ Done = sym e ∙ done_is a (sym d ∙ not-false b h) in
+        let done : beliefs_fault edges priors (graph checks mechanisms cv co vc vm vo) syndrome iterations l ≡ Ok tt = sym e ∙ done_is a (sym d ∙ not-false b h) in
         rw done
         (q
         ∙ ran_counted _ _ _ _ _ _ cv co vm vo scale syndrome priors iterations serial t.edges_many t.checks_many t.mechanisms_many

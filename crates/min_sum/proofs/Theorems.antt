@@ -4,7 +4,7 @@ use mathlib.Core.Bool.{Bool}
 use mathlib.Core.List.{List}
 use Prim.Native.Nat.{ℕ}
 use lib.Ieee.{Float}
-use Rattle.refusals.specs.declared.Answer.{Answer}
+use Rattle.refusals.specs.Refusal.{Answer}
 use Rattle.graph_lists.specs.Graph.{Graph}
 use Rattle.min_sum.specs.Beliefs.{BeliefsLists, BeliefsOutcome, beliefs_outcome, beliefs}
 

@@ -3,8 +3,8 @@ use Rattle.std.specs.Prelude.{ℕ, Bool, ◌&&◌, List, eqb, leb, Float, length
 use Rattle.numbers.specs.Limits.{max_count}
 use Rattle.numbers.specs.Floats.{zero⁺}
 use Rattle.refusals.specs.declared.Refusal.TheVariants.{BadIterations, SyndromeLength, LentListLength}
-use Rattle.refusals.specs.declared.Answer.{Answer}
-use Rattle.refusals.specs.declared.Answer.TheVariants.{Done, Refused}
+use Rattle.refusals.specs.Refusal.{Answer}
+use Rattle.std.specs.Prelude.{Ok, Err}
 use Rattle.refusals.specs.Tests.{unless, or_else, unless_refused}
 use Rattle.graph_lists.specs.Graph.{Graph}
 use Rattle.graph_lists.specs.Messages.{Access, by_place, posterior_fault}
@@ -56,8 +56,8 @@ ran edges g posterior =
 
 -- a call that its tests refuse writes nothing
 abbrev pub after_beliefs_tests : Answer → BeliefsOutcome → BeliefsLists → BeliefsOutcome
-after_beliefs_tests Done o l = o
-after_beliefs_tests (Refused r) o l = beliefs_outcome (Refused r) l
+after_beliefs_tests (Ok tt) o l = o
+after_beliefs_tests (Err r) o l = beliefs_outcome (Err r) l
 
 -- a call whose tests answer `tested`, with a check's messages had so
 abbrev pub beliefs_by : Access → Answer → ℕ → List Float → Graph → List ℕ → ℕ → Float → Bool → BeliefsLists → BeliefsOutcome

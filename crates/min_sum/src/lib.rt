@@ -8,7 +8,7 @@ ghost use Rattle.std.specs.Prelude.{◌≡◌};
 ghost use Rattle.graph_lists.specs.Graph.{graph};
 ghost use Rattle.min_sum.specs.Beliefs.{beliefs_lists, beliefs_outcome, beliefs as beliefs_of};
 
-use refusals::Answer;
+use refusals::Refusal;
 use refusals_tests::is_done;
 
 // The beliefs after so many iterations, serial or not. The posterior is the result; the running posterior and the messages are for work,
@@ -29,7 +29,7 @@ pub fn beliefs(
     ewa_posterior: &mut [f64],
     c_to_v: &mut [f64],
     v_to_c: &mut [f64],
-) -> Answer
+) -> Result<(), Refusal>
     ensures { let g = graph size.checks size.mechanisms check_var.now
         check_offset.now var_check.now var_message.now var_offset.now in
         let before = beliefs_lists posterior.old ewa_posterior.old c_to_v.old v_to_c.old in

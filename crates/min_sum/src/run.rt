@@ -6,7 +6,7 @@ ghost use Rattle.min_sum_pass.specs.MinSum.{messages, belief, weight_of, iterate
 ghost use Rattle.min_sum_pass.specs.MinSum.{all_rounds as all_rounds_of, chosen as chosen_of, chosen_to, min_sum_bp};
 ghost use Rattle.min_sum.specs.Beliefs.{beliefs_lists, beliefs_outcome, ran as ran_of};
 
-use refusals::Answer;
+use refusals::Refusal;
 use refusals_tests::{both, is_done, same_number};
 
 // The weight of an iteration: 1 in the very first, else 0.3.
@@ -420,7 +420,7 @@ pub(crate) fn ran(
     v_to_c: &mut [f64],
     ewa_posterior: &mut [f64],
     posterior: &mut [f64],
-) -> Answer
+) -> Result<(), Refusal>
     requires walks { Walks (length syndrome.now) (length priors.now) check_var.now check_offset.now }
     requires walks_2 { Walks (length priors.now) (length check_var.now) var_message.now var_offset.now }
     requires run_lists { RunLists (length check_var.now) (length priors.now) c_to_v.old v_to_c.old ewa_posterior.old }

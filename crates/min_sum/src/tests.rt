@@ -7,7 +7,7 @@ ghost use Rattle.graph_lists.specs.Graph.{graph};
 ghost use Rattle.graph_lists.specs.Model.{graph_fault};
 
 use numbers::limits::MAX_COUNT;
-use refusals::{Answer, Refusal};
+use refusals::Refusal;
 use refusals_tests::{at_most, both, is_done, same_number};
 
 // How long the syndrome and the lent lists are.
@@ -35,7 +35,7 @@ fn lists_fit(size: graph::Size, n: Lengths) -> bool
 }
 
 // 12, 20 and 22.
-fn run_fault(size: graph::Size, iterations: usize, n: Lengths) -> Answer
+fn run_fault(size: graph::Size, iterations: usize, n: Lengths) -> Result<(), Refusal>
     ensures { result
         ≡ or_else (unless (leb iterations max_count) BadIterations) (or_else (unless (eqb n.syndrome size.checks) SyndromeLength) (unless
         (eqb n.posterior size.mechanisms
@@ -43,15 +43,15 @@ fn run_fault(size: graph::Size, iterations: usize, n: Lengths) -> Answer
         && (eqb n.c_to_v size.edges && eqb n.v_to_c size.edges))) LentListLength)) }
 {
     if !at_most(iterations, MAX_COUNT) {
-        return Answer::Refused(Refusal::BadIterations);
+        return Err(Refusal::BadIterations);
     }
     if !same_number(n.syndrome, size.checks) {
-        return Answer::Refused(Refusal::SyndromeLength);
+        return Err(Refusal::SyndromeLength);
     }
     if !lists_fit(size, n) {
-        return Answer::Refused(Refusal::LentListLength);
+        return Err(Refusal::LentListLength);
     }
-    Answer::Done
+    Ok(())
 }
 
 // All of them: 1, 2, 4, 7, then 12, 20 and 22.
@@ -65,7 +65,7 @@ pub(crate) fn fault(
     var_offset: &[u32],
     iterations: usize,
     n: Lengths,
-) -> Answer
+) -> Result<(), Refusal>
     ensures { let g = graph size.checks size.mechanisms check_var.now
         check_offset.now var_check.now var_message.now var_offset.now in
         result

@@ -5,5 +5,4 @@ pub mod Order
 pub mod Sizes
 pub mod Loops
 pub mod Turns
-pub mod Product
 pub mod Room

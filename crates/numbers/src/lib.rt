@@ -56,31 +56,17 @@ pub fn message_sign(x: f64) -> f64
 
 // ---- the generator
 
-// a * b modulo 2^64, where no type holds the whole product. In base 2^32 the upper digit is a sum of three numbers below 2^32,
-// the lower product's upper half and the lower halves of the crossed products; what that sum has above 2^32 falls away.
+// a * b modulo 2^64.
 pub fn wrapping_mul(a: u64, b: u64) -> u64
     ensures { result ≡ product a b }
 {
-    let a1 = a / 4294967296;
-    let a0 = a % 4294967296;
-    let b1 = b / 4294967296;
-    let b0 = b % 4294967296;
-    let low = a0 * b0;
-    let high = low / 4294967296 + a1 * b0 % 4294967296 + a0 * b1 % 4294967296;
-    high % 4294967296 * 4294967296 + low % 4294967296
+    a.wrapping_mul(b)
 }
 
 // The generator SplitMix64.
 #[derive(Clone, Copy)]
 pub struct SplitMix64 {
     pub state: u64,
-}
-
-// A draw, with the generator that gives the next.
-#[derive(Clone, Copy)]
-pub struct Drawn {
-    pub value: u64,
-    pub next: SplitMix64,
 }
 
 impl SplitMix64 {
@@ -92,17 +78,15 @@ impl SplitMix64 {
     }
 
     // A draw: the state advances, and the value is the advanced state, mixed.
-    pub fn draw(self) -> Drawn
-        ensures value { result.value ≡ mixed (advanced self.state) }
-        ensures next { result.next.state ≡ advanced self.state }
+    pub fn draw(&mut self) -> u64
+        ensures value { result ≡ mixed (advanced self.old.state) }
+        ensures next { self.new.state ≡ advanced self.old.state }
     {
-        let z = std::num::wrapping_add_u64(self.state, 0x9E3779B97F4A7C15);
+        let z = self.state.wrapping_add(0x9E3779B97F4A7C15);
+        self.state = z;
         let a = wrapping_mul(z ^ (z >> 30), 0xBF58476D1CE4E5B9);
         let b = wrapping_mul(a ^ (a >> 27), 0x94D049BB133111EB);
-        Drawn {
-            value: b ^ (b >> 31),
-            next: SplitMix64 { state: z },
-        }
+        b ^ (b >> 31)
     }
 }
 

@@ -10,10 +10,8 @@ fn write_draws(rt: &impl Print, seed: u64) -> io::Result<()> {
     println!(rt; "seed {seed}")?;
     let mut generator = SplitMix64::new(seed);
     for _ in 0u64..5 {
-        let drawn = generator.draw();
-        let value = drawn.value;
+        let value = generator.draw();
         println!(rt; "{value}")?;
-        generator = drawn.next;
     }
     Ok(())
 }

@@ -4,7 +4,7 @@ use Rattle.std.specs.Float.{nan}
 use Rattle.std.specs.Float.Ieee.{le}
 use Rattle.numbers.specs.Floats.{zero⁺, one⁺}
 use Rattle.refusals.specs.declared.Refusal.TheVariants.{ModelListLength, BadProbability}
-use Rattle.refusals.specs.declared.Answer.{Answer}
+use Rattle.refusals.specs.Refusal.{Answer}
 use Rattle.refusals.specs.Tests.{unless, or_else, first_of, unless_refused}
 use Rattle.probabilities.specs.declared.PriorAnswer.{PriorAnswer}
 use Rattle.probabilities.specs.declared.PriorAnswer.TheVariants.{Prior, Refused}

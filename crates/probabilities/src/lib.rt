@@ -4,14 +4,14 @@
 
 ghost use Rattle.std.specs.Prelude.{◌≡◌, true, map, T, nat_abs, length, ℕ, ◌+◌, ◌-◌, ◌*◌, ◌^◌, ◌≤◌, ◌<◌};
 ghost use Rattle.std.specs.Float.Ieee.Positive.{num, den, positive};
-ghost use Rattle.refusals.specs.declared.Answer.TheVariants.{Done};
+ghost use Rattle.std.specs.Prelude.{Ok};
 ghost use Rattle.refusals.specs.Tests.{first_of};
 ghost use Rattle.probabilities.specs.Logarithm.{terms};
 ghost use Rattle.probabilities.specs.Scaled.{slope, nested as nested_of, series as series_of, most, float_of, scaled_of, prior_of};
 ghost use Rattle.probabilities.specs.Ratios.{Split, cut_sum, size_of};
 ghost use Rattle.probabilities.specs.Calls.{is_probability, probability_fault, prior_answer, priors_outcome, priors_of};
 
-use refusals::{Answer, Refusal};
+use refusals::Refusal;
 use refusals_tests::{both, is_done, same_number};
 
 // ---- the logarithm, in whole numbers of 2^-32
@@ -188,22 +188,22 @@ pub fn prior_of(p: f64, mechanism: usize) -> PriorAnswer
 // ---- lists of them
 
 // 8: the first that is no probability.
-fn probabilities_fault(probabilities: &[f64]) -> Answer
+fn probabilities_fault(probabilities: &[f64]) -> Result<(), Refusal>
     ensures { result ≡ first_of (length probabilities.now) (probability_fault probabilities.now) }
 {
     let mut m = 0;
     while m < probabilities.len() {
         if !is_probability(probabilities[m]) {
-            return Answer::Refused(Refusal::BadProbability(m));
+            return Err(Refusal::BadProbability(m));
         }
         m += 1;
     }
-    Answer::Done
+    Ok(())
 }
 
 // The priors of probabilities, as whole numbers and as floats.
 fn write_priors(probabilities: &[f64], priors: &mut [f64], scaled: &mut [i64])
-    requires probabilities_value { first_of (length probabilities.now) (probability_fault probabilities.now) ≡ Done }
+    requires probabilities_value { first_of (length probabilities.now) (probability_fault probabilities.now) ≡ Ok tt }
     requires priors_len { length priors.old ≡ length probabilities.now }
     requires scaled_len { length scaled.old ≡ length probabilities.now }
     ensures { (priors.new ≡ map prior_of probabilities.now)
@@ -219,13 +219,13 @@ fn write_priors(probabilities: &[f64], priors: &mut [f64], scaled: &mut [i64])
 }
 
 // The priors of a list of probabilities, into lists of the same length: as floats, and times 2^32 as whole numbers.
-pub fn priors_of(probabilities: &[f64], priors: &mut [f64], scaled: &mut [i64]) -> Answer
+pub fn priors_of(probabilities: &[f64], priors: &mut [f64], scaled: &mut [i64]) -> Result<(), Refusal>
     ensures { priors_outcome result priors.new scaled.new
         ≡ priors_of probabilities.now priors.old scaled.old }
 {
     let n = probabilities.len();
     if !both(same_number(priors.len(), n), same_number(scaled.len(), n)) {
-        return Answer::Refused(Refusal::ModelListLength);
+        return Err(Refusal::ModelListLength);
     }
     let a = probabilities_fault(probabilities);
     if !is_done(a) {

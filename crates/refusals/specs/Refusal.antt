@@ -1,6 +1,6 @@
 -- The number and the place of each refusal, and of an answer: docs/REFERENCE.md has them as a table. 26, 28, 46, 50 to 52, 55 to 58 and 60 to
 -- 63 are given by no call yet. Definitions only. Assumes nothing.
-use Rattle.std.specs.Prelude.{ℕ}
+use Rattle.std.specs.Prelude.{ℕ, Result}
 use Rattle.refusals.specs.declared.Refusal.{Refusal}
 use Rattle.refusals.specs.declared.Refusal.TheVariants.{SizeAboveLimit, ModelListLength, BadDetectorOffsets, BadPrior, DetectorOutOfRange}
 use Rattle.refusals.specs.declared.Refusal.TheVariants.{DetectorRepeated, NoSuchGraph, BadProbability, BadClip, BadAlpha, BadGamma0}
@@ -11,10 +11,8 @@ use Rattle.refusals.specs.declared.Refusal.TheVariants.{ObservableTooLarge, TooM
 use Rattle.refusals.specs.declared.Refusal.TheVariants.{ShotTooEarly, BeyondRoom, BadSchedule, DroppedWithOthers, LineNotInSubset}
 use Rattle.refusals.specs.declared.Refusal.TheVariants.{ConstructLeftOut, NumberOutsideLimits, ForeignCharacter, LineLength, CutShot}
 use Rattle.refusals.specs.declared.Refusal.TheVariants.{FillingBitSet, AlistMalformed, AlistDegree, AlistNumber, AlistDisagrees}
-use Rattle.refusals.specs.declared.Answer.{Answer}
-use Rattle.refusals.specs.declared.Answer.TheVariants.{Done, Refused}
-use Rattle.refusals.specs.declared.Place.{Place}
-use Rattle.refusals.specs.declared.Place.TheVariants.{Nowhere, At}
+use Rattle.std.specs.Prelude.{Ok, Err}
+use Rattle.std.specs.Prelude.{Option, None, Some}
 
 -- the number in the table
 abbrev pub number_of : Refusal → ℕ
@@ -68,64 +66,68 @@ number_of AlistNumber = 62
 number_of AlistDisagrees = 63
 
 -- the place in the table, where it has one
-abbrev pub place_of : Refusal → Place
-place_of SizeAboveLimit = Nowhere
-place_of ModelListLength = Nowhere
-place_of BadDetectorOffsets = Nowhere
-place_of (BadPrior mechanism) = At mechanism
-place_of (DetectorOutOfRange mechanism) = At mechanism
-place_of (DetectorRepeated mechanism) = At mechanism
-place_of NoSuchGraph = Nowhere
-place_of (BadProbability mechanism) = At mechanism
-place_of BadClip = Nowhere
-place_of BadAlpha = Nowhere
-place_of BadGamma0 = Nowhere
-place_of BadIterations = Nowhere
-place_of TooManyLegs = Nowhere
-place_of BadLegIterations = Nowhere
-place_of BadGammaInterval = Nowhere
-place_of BadStop = Nowhere
-place_of NoGammaSets = Nowhere
-place_of GammaSetsLength = Nowhere
-place_of (GammaNotFinite index) = At index
-place_of SyndromeLength = Nowhere
-place_of (SyndromeNotBinary check) = At check
-place_of LentListLength = Nowhere
-place_of OrderNotEachOnce = Nowhere
-place_of (OrderExchanged check) = At check
-place_of StateNotFinite = Nowhere
-place_of SeedsLength = Nowhere
-place_of ShotTooLarge = Nowhere
-place_of (ObservableTooLarge mechanism) = At mechanism
-place_of TooManyStores = Nowhere
-place_of (NonFinite mechanism) = At mechanism
-place_of CutRecord = Nowhere
-place_of UnknownKind = Nowhere
-place_of PayloadLength = Nowhere
-place_of ShotTooEarly = Nowhere
-place_of BeyondRoom = Nowhere
-place_of BadSchedule = Nowhere
-place_of DroppedWithOthers = Nowhere
-place_of (LineNotInSubset line) = At line
-place_of (ConstructLeftOut line) = At line
-place_of (NumberOutsideLimits line) = At line
-place_of (ForeignCharacter shot) = At shot
-place_of (LineLength shot) = At shot
-place_of (CutShot shot) = At shot
-place_of (FillingBitSet shot) = At shot
-place_of AlistMalformed = Nowhere
-place_of AlistDegree = Nowhere
-place_of AlistNumber = Nowhere
-place_of AlistDisagrees = Nowhere
+abbrev pub place_of : Refusal → Option ℕ
+place_of SizeAboveLimit = None
+place_of ModelListLength = None
+place_of BadDetectorOffsets = None
+place_of (BadPrior mechanism) = Some mechanism
+place_of (DetectorOutOfRange mechanism) = Some mechanism
+place_of (DetectorRepeated mechanism) = Some mechanism
+place_of NoSuchGraph = None
+place_of (BadProbability mechanism) = Some mechanism
+place_of BadClip = None
+place_of BadAlpha = None
+place_of BadGamma0 = None
+place_of BadIterations = None
+place_of TooManyLegs = None
+place_of BadLegIterations = None
+place_of BadGammaInterval = None
+place_of BadStop = None
+place_of NoGammaSets = None
+place_of GammaSetsLength = None
+place_of (GammaNotFinite index) = Some index
+place_of SyndromeLength = None
+place_of (SyndromeNotBinary check) = Some check
+place_of LentListLength = None
+place_of OrderNotEachOnce = None
+place_of (OrderExchanged check) = Some check
+place_of StateNotFinite = None
+place_of SeedsLength = None
+place_of ShotTooLarge = None
+place_of (ObservableTooLarge mechanism) = Some mechanism
+place_of TooManyStores = None
+place_of (NonFinite mechanism) = Some mechanism
+place_of CutRecord = None
+place_of UnknownKind = None
+place_of PayloadLength = None
+place_of ShotTooEarly = None
+place_of BeyondRoom = None
+place_of BadSchedule = None
+place_of DroppedWithOthers = None
+place_of (LineNotInSubset line) = Some line
+place_of (ConstructLeftOut line) = Some line
+place_of (NumberOutsideLimits line) = Some line
+place_of (ForeignCharacter shot) = Some shot
+place_of (LineLength shot) = Some shot
+place_of (CutShot shot) = Some shot
+place_of (FillingBitSet shot) = Some shot
+place_of AlistMalformed = None
+place_of AlistDegree = None
+place_of AlistNumber = None
+place_of AlistDisagrees = None
 
 -- ---- an answer
 
+-- what a call answers that has nothing else to say: `Result<(), Refusal>`
+abbrev pub Answer : Type 0
+Answer = Result (Unit {0}) Refusal
+
 -- the number of what is refused, and 0 where nothing is
 abbrev pub answer_number : Answer → ℕ
-answer_number Done = 0
-answer_number (Refused r) = number_of r
+answer_number (Ok tt) = 0
+answer_number (Err r) = number_of r
 
 -- the place of what is refused
-abbrev pub answer_place : Answer → Place
-answer_place Done = Nowhere
-answer_place (Refused r) = place_of r
+abbrev pub answer_place : Answer → Option ℕ
+answer_place (Ok tt) = None
+answer_place (Err r) = place_of r

@@ -6,7 +6,7 @@ ghost use Rattle.refusals.specs.Refusal.{number_of, place_of};
 
 // Why a call refuses, by rising number. A number in a case is the place: a mechanism, a check, for GammaNotFinite an index of the flat list
 // of gammas, and of a text its line or shot. No call gives yet: SeedsLength, ObservableTooLarge, and all from DroppedWithOthers on.
-#[derive(Clone, Copy)]
+#[derive(Clone, Copy, Debug, PartialEq, Eq)]
 pub enum Refusal {
     SizeAboveLimit,
     ModelListLength,
@@ -56,13 +56,6 @@ pub enum Refusal {
     AlistDegree,
     AlistNumber,
     AlistDisagrees,
-}
-
-// What a call that has nothing else to say answers.
-#[derive(Clone, Copy)]
-pub enum Answer {
-    Done,
-    Refused(Refusal),
 }
 
 // The number of a refusal.
@@ -121,65 +114,26 @@ pub fn number_of(r: Refusal) -> usize
     }
 }
 
-// A refusal's place, if it has one.
-#[derive(Clone, Copy)]
-pub enum Place {
-    Nowhere,
-    At(usize),
-}
-
-// The place of a refusal.
-pub fn place_of(r: Refusal) -> Place
+// The place of a refusal, if it has one.
+pub fn place_of(r: Refusal) -> Option<usize>
     ensures { result ≡ place_of r }
 {
     match r {
-        Refusal::SizeAboveLimit => Place::Nowhere,
-        Refusal::ModelListLength => Place::Nowhere,
-        Refusal::BadDetectorOffsets => Place::Nowhere,
-        Refusal::BadPrior(m) => Place::At(m),
-        Refusal::DetectorOutOfRange(m) => Place::At(m),
-        Refusal::DetectorRepeated(m) => Place::At(m),
-        Refusal::NoSuchGraph => Place::Nowhere,
-        Refusal::BadProbability(m) => Place::At(m),
-        Refusal::BadClip => Place::Nowhere,
-        Refusal::BadAlpha => Place::Nowhere,
-        Refusal::BadGamma0 => Place::Nowhere,
-        Refusal::BadIterations => Place::Nowhere,
-        Refusal::TooManyLegs => Place::Nowhere,
-        Refusal::BadLegIterations => Place::Nowhere,
-        Refusal::BadGammaInterval => Place::Nowhere,
-        Refusal::BadStop => Place::Nowhere,
-        Refusal::NoGammaSets => Place::Nowhere,
-        Refusal::GammaSetsLength => Place::Nowhere,
-        Refusal::GammaNotFinite(i) => Place::At(i),
-        Refusal::SyndromeLength => Place::Nowhere,
-        Refusal::SyndromeNotBinary(c) => Place::At(c),
-        Refusal::LentListLength => Place::Nowhere,
-        Refusal::OrderNotEachOnce => Place::Nowhere,
-        Refusal::OrderExchanged(c) => Place::At(c),
-        Refusal::StateNotFinite => Place::Nowhere,
-        Refusal::SeedsLength => Place::Nowhere,
-        Refusal::ShotTooLarge => Place::Nowhere,
-        Refusal::ObservableTooLarge(m) => Place::At(m),
-        Refusal::TooManyStores => Place::Nowhere,
-        Refusal::NonFinite(m) => Place::At(m),
-        Refusal::CutRecord => Place::Nowhere,
-        Refusal::UnknownKind => Place::Nowhere,
-        Refusal::PayloadLength => Place::Nowhere,
-        Refusal::ShotTooEarly => Place::Nowhere,
-        Refusal::BeyondRoom => Place::Nowhere,
-        Refusal::BadSchedule => Place::Nowhere,
-        Refusal::DroppedWithOthers => Place::Nowhere,
-        Refusal::LineNotInSubset(l) => Place::At(l),
-        Refusal::ConstructLeftOut(l) => Place::At(l),
-        Refusal::NumberOutsideLimits(l) => Place::At(l),
-        Refusal::ForeignCharacter(s) => Place::At(s),
-        Refusal::LineLength(s) => Place::At(s),
-        Refusal::CutShot(s) => Place::At(s),
-        Refusal::FillingBitSet(s) => Place::At(s),
-        Refusal::AlistMalformed => Place::Nowhere,
-        Refusal::AlistDegree => Place::Nowhere,
-        Refusal::AlistNumber => Place::Nowhere,
-        Refusal::AlistDisagrees => Place::Nowhere,
+        Refusal::BadPrior(mechanism)
+        | Refusal::DetectorOutOfRange(mechanism)
+        | Refusal::DetectorRepeated(mechanism)
+        | Refusal::BadProbability(mechanism)
+        | Refusal::ObservableTooLarge(mechanism)
+        | Refusal::NonFinite(mechanism) => Some(mechanism),
+        Refusal::SyndromeNotBinary(check) | Refusal::OrderExchanged(check) => Some(check),
+        Refusal::GammaNotFinite(index) => Some(index),
+        Refusal::LineNotInSubset(line)
+        | Refusal::ConstructLeftOut(line)
+        | Refusal::NumberOutsideLimits(line) => Some(line),
+        Refusal::ForeignCharacter(shot)
+        | Refusal::LineLength(shot)
+        | Refusal::CutShot(shot)
+        | Refusal::FillingBitSet(shot) => Some(shot),
+        _ => None,
     }
 }

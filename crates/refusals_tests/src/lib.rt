@@ -7,7 +7,7 @@ ghost use Rattle.std.specs.Float.Ieee.{lt};
 ghost use Rattle.numbers.specs.Floats.{zero⁺, is_finite};
 ghost use Rattle.refusals.specs.Tests.{is_done, unless as unless_of, or_else};
 
-use refusals::{Answer, Refusal};
+use refusals::Refusal;
 
 // ---- of numbers and bools
 
@@ -64,27 +64,27 @@ pub fn finite_positive(x: f64) -> bool
 // ---- of refusals
 
 // Whether nothing is refused.
-pub fn is_done(a: Answer) -> bool
+pub fn is_done(a: Result<(), Refusal>) -> bool
     ensures { result ≡ is_done a }
 {
     match a {
-        Answer::Done => true,
-        Answer::Refused(_) => false,
+        Ok(()) => true,
+        Err(_) => false,
     }
 }
 
 // One test: the refusal, unless it is passed.
-pub fn unless(passed: bool, r: Refusal) -> Answer
+pub fn unless(passed: bool, r: Refusal) -> Result<(), Refusal>
     ensures { result ≡ unless_of passed r }
 {
     if passed {
-        return Answer::Done;
+        return Ok(());
     }
-    Answer::Refused(r)
+    Err(r)
 }
 
 // Two tests, one after the other: the first that refuses.
-pub fn or_else(first: Answer, second: Answer) -> Answer
+pub fn or_else(first: Result<(), Refusal>, second: Result<(), Refusal>) -> Result<(), Refusal>
     ensures { result ≡ or_else first second }
 {
     if is_done(first) {

@@ -3,8 +3,8 @@ use Prim.Native.Nat.{ℕ}
 use mathlib.Core.Path.{◌≡◌, refl, sym, ap, ◌∙◌}
 use mathlib.Core.List.{List}
 use mathlib.Core.Logic.{◌↔◌}
-use Rattle.refusals.specs.declared.Answer.{Answer}
-use Rattle.refusals.specs.declared.Answer.TheVariants.{Done, Refused}
+use Rattle.refusals.specs.Refusal.{Answer}
+use Rattle.std.specs.Prelude.{Ok, Err}
 use Rattle.refusals.proofs.Tests.{or_done}
 use Rattle.graph_lists.specs.Graph.{Graph}
 use Rattle.graph_lists.specs.Messages.{by_place}
@@ -23,7 +23,7 @@ use Rattle.relay_calls.proofs.Named.{names_told, names_taken}
 use Rattle.relay_calls.proofs.LegStores.{formula_stands}
 use Rattle.relay.proofs.SameOutcome.{in_index_order, decode_same}
 
-module _ (edges : ℕ) (x : Shot) (l : DecodeLists) (names : names_fault x.graph.checks x.order ≡ Done) (free : exchange_fault x.settings.schedule x.graph x.order ≡ Done) where
+module _ (edges : ℕ) (x : Shot) (l : DecodeLists) (names : names_fault x.graph.checks x.order ≡ Ok tt) (free : exchange_fault x.settings.schedule x.graph x.order ≡ Ok tt) where
   -- the tests say the same of the index order
   fault_same : decode_fault edges x l ≡ decode_fault edges (in_index_order x) l
   unfolding decode_fault decode_lists_fit
@@ -36,12 +36,12 @@ module _ (edges : ℕ) (x : Shot) (l : DecodeLists) (names : names_fault x.graph
   left_same stores (refused r) = refl
 
   -- a call whose tests are passed is over a graph
-  passed_sound : decode_fault edges x l ≡ Done → Sound x.graph
+  passed_sound : decode_fault edges x l ≡ Ok tt → Sound x.graph
   unfolding decode_fault
   passed_sound h = passes_sound x.graph (graph_told edges x.prior x.graph (or_done _ _ h).0).is_graph_lem
 
   -- past the tests: the legs end alike, and what they wrote is by the formula the same
-  legs_same : decode_fault edges x l ≡ Done
+  legs_same : decode_fault edges x l ≡ Ok tt
       → after_legs edges x (decode_legs by_place x) (decode_stores by_place x) l
       ≡ after_legs edges (in_index_order x) (decode_legs by_place (in_index_order x)) (decode_stores by_place (in_index_order x)) l
   legs_same h =
@@ -59,8 +59,8 @@ module _ (edges : ℕ) (x : Shot) (l : DecodeLists) (names : names_fault x.graph
   whole_same : (a : Answer) → decode_fault edges x l ≡ a
       → after_decode_tests a (after_legs edges x (decode_legs by_place x) (decode_stores by_place x) l) l
       ≡ after_decode_tests a (after_legs edges (in_index_order x) (decode_legs by_place (in_index_order x)) (decode_stores by_place (in_index_order x)) l) l
-  whole_same Done h = legs_same h
-  whole_same (Refused r) h = refl
+  whole_same (Ok tt) h = legs_same h
+  whole_same (Err r) h = refl
 
   -- the call in that order is the call in index order
   pub order_free : decode_in_order edges x l ≡ decode edges x l
@@ -72,13 +72,13 @@ module _ (edges : ℕ) (x : Shot) (l : DecodeLists) (names : names_fault x.graph
 -- ---- which orders are taken
 
 -- Flooding takes an order just where it names each check once
-pub flooding_takes : (g : Graph) (order : List ℕ) → ((names_fault g.checks order ≡ Done) × (exchange_fault Flooding g order ≡ Done)) ↔ NamesOnce g.checks order
+pub flooding_takes : (g : Graph) (order : List ℕ) → ((names_fault g.checks order ≡ Ok tt) × (exchange_fault Flooding g order ≡ Ok tt)) ↔ NamesOnce g.checks order
 unfolding exchange_fault
 flooding_takes g order = (λ h. names_told g.checks order h.0, λ h. (names_taken g.checks order h, refl))
 
 -- CheckSerial just where, besides, any two checks that share a mechanism keep their index order
 pub serial_takes : (g : Graph) (order : List ℕ)
-    → ((names_fault g.checks order ≡ Done) × (exchange_fault CheckSerial g order ≡ Done)) ↔ (NamesOnce g.checks order × KeepsOrder g order)
+    → ((names_fault g.checks order ≡ Ok tt) × (exchange_fault CheckSerial g order ≡ Ok tt)) ↔ (NamesOnce g.checks order × KeepsOrder g order)
 unfolding exchange_fault
 serial_takes g order =
     (λ h. (names_told g.checks order h.0, (none_exchanged_is g order).0 h.1), λ h. (names_taken g.checks order h.0, (none_exchanged_is g order).1 h.1))

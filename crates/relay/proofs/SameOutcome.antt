@@ -6,7 +6,7 @@ use mathlib.Core.List.{List, []}
 use native.Mathlib.Omega.{arith}
 use lib.Ieee.{Float}
 use lib.ListN.{length-replicate, length-map}
-use Rattle.refusals.specs.declared.Answer.TheVariants.{Done}
+use Rattle.std.specs.Prelude.{Ok}
 use Rattle.graph_lists.specs.Graph.{Graph, check_entries}
 use Rattle.graph_lists.specs.Messages.{by_place, from_variables, cleared}
 use Rattle.graph_lists.proofs.Sound.{Sound}
@@ -47,7 +47,7 @@ module _ (g : Graph) (sound : Sound g) (order : List ℕ) (names : NamesOnce g.c
   flooding_same prior gamma s z = ap (λ t. variable_pass g (compute_bias prior gamma t.posterior) t g.mechanisms) (pass_same s z)
 
   -- a serial iteration, in an order in which nothing is exchanged
-  serial_same : exchanged (check_entries g) [] order ≡ Done → (prior gamma : List Float) (s : State) → Sized g s
+  serial_same : exchanged (check_entries g) [] order ≡ Ok tt → (prior gamma : List Float) (s : State) → Sized g s
       → check_serial_iteration by_place g alpha clip syndrome prior gamma order s ≡ check_serial_iteration by_place g alpha clip syndrome prior gamma (upto g.checks) s
   unfolding check_serial_iteration serial_pass
   serial_same e prior gamma s z =
@@ -58,7 +58,7 @@ module _ (g : Graph) (sound : Sound g) (order : List ℕ) (names : NamesOnce g.c
       (omega arith) s z
 
   -- an iteration of either schedule
-  iteration_same : (schedule : Schedule) → exchange_fault schedule g order ≡ Done → (prior gamma : List Float) (s : State) → Sized g s
+  iteration_same : (schedule : Schedule) → exchange_fault schedule g order ≡ Ok tt → (prior gamma : List Float) (s : State) → Sized g s
       → iteration schedule by_place g alpha clip syndrome prior gamma order s ≡ iteration schedule by_place g alpha clip syndrome prior gamma (upto g.checks) s
   unfolding exchange_fault
   iteration_same Flooding e prior gamma s z = flooding_same prior gamma s z
@@ -107,7 +107,7 @@ start_sized g prior posterior = record { out = length-replicate _ _; back = simp
 abbrev pub in_index_order : Shot → Shot
 in_index_order x = with_order x (upto x.graph.checks)
 
-module _ (x : Shot) (sound : Sound x.graph) (names : NamesOnce x.graph.checks x.order) (free : exchange_fault x.settings.schedule x.graph x.order ≡ Done) where
+module _ (x : Shot) (sound : Sound x.graph) (names : NamesOnce x.graph.checks x.order) (free : exchange_fault x.settings.schedule x.graph x.order ≡ Ok tt) where
   -- one leg
   executed_same : (r : ℕ) (posterior : List Float) → executed_leg by_place x r posterior ≡ executed_leg by_place (in_index_order x) r posterior
   unfolding executed_leg step_of

@@ -8,8 +8,8 @@ use mathlib.Core.Logic.{◌↔◌}
 use Prim.Native.Nat.{ℕ}
 use lib.Ieee.{Float}
 use Rattle.refusals.specs.declared.Refusal.TheVariants.{OrderExchanged}
-use Rattle.refusals.specs.declared.Answer.{Answer}
-use Rattle.refusals.specs.declared.Answer.TheVariants.{Done, Refused}
+use Rattle.refusals.specs.Refusal.{Answer}
+use Rattle.std.specs.Prelude.{Ok, Err}
 use Rattle.graph_lists.specs.Graph.{Graph, check_entries}
 use Rattle.graph_lists.specs.Messages.{by_place}
 use Rattle.relay_settings.specs.declared.Clip.{Clip}
@@ -67,7 +67,7 @@ decode_repeats x r posterior step e = rw e
 
 -- and that is the step of the single iteration's call, past its tests
 pub iteration_steps : (edges : ℕ) (prior : List Float) (g : Graph) (schedule : Schedule) (alpha : Float) (clip : Clip) (gamma : List Float) (syndrome order : List ℕ) (l : StepLists)
-    → step_fault edges prior g alpha clip gamma syndrome order l ≡ Done
+    → step_fault edges prior g alpha clip gamma syndrome order l ≡ Ok tt
     → iteration_call edges prior g schedule alpha clip gamma syndrome order l ≡ stepped edges g (iteration schedule by_place g alpha clip syndrome prior gamma order l.now)
 unfolding iteration_call
 iteration_steps edges prior g schedule alpha clip gamma syndrome order l h = rw h
@@ -75,19 +75,19 @@ iteration_steps edges prior g schedule alpha clip gamma syndrome order l h = rw 
 -- ---- demand 3 (docs/PROMISES.md): an order that is taken gives the index order's outcome
 
 -- a decode in an order that 23 and 24 take is the decode in index order: the answer, and each lent list
-pub any_order : (edges : ℕ) (x : Shot) (l : DecodeLists) → names_fault x.graph.checks x.order ≡ Done → exchange_fault x.settings.schedule x.graph x.order ≡ Done
+pub any_order : (edges : ℕ) (x : Shot) (l : DecodeLists) → names_fault x.graph.checks x.order ≡ Ok tt → exchange_fault x.settings.schedule x.graph x.order ≡ Ok tt
     → decode_in_order edges x l ≡ decode edges x l
 any_order edges x l names free = order_free edges x l names free
 
 -- Flooding takes any that names each check once
-pub flooding_orders : (g : Graph) (order : List ℕ) → ((names_fault g.checks order ≡ Done) × (exchange_fault Flooding g order ≡ Done)) ↔ NamesOnce g.checks order
+pub flooding_orders : (g : Graph) (order : List ℕ) → ((names_fault g.checks order ≡ Ok tt) × (exchange_fault Flooding g order ≡ Ok tt)) ↔ NamesOnce g.checks order
 flooding_orders g order = flooding_takes g order
 
 -- CheckSerial any that, besides, keeps index order between checks that share a mechanism
 pub serial_orders : (g : Graph) (order : List ℕ)
-    → ((names_fault g.checks order ≡ Done) × (exchange_fault CheckSerial g order ≡ Done)) ↔ (NamesOnce g.checks order × KeepsOrder g order)
+    → ((names_fault g.checks order ≡ Ok tt) × (exchange_fault CheckSerial g order ≡ Ok tt)) ↔ (NamesOnce g.checks order × KeepsOrder g order)
 serial_orders g order = serial_takes g order
 
 -- 24's place: "first check in the order that shares a mechanism with a higher check named before it"
-pub exchange_place : (g : Graph) (order : List ℕ) (c : ℕ) → (exchanged (check_entries g) [] order ≡ Refused (OrderExchanged c)) ↔ FirstLate g order c
+pub exchange_place : (g : Graph) (order : List ℕ) (c : ℕ) → (exchanged (check_entries g) [] order ≡ Err (OrderExchanged c)) ↔ FirstLate g order c
 exchange_place g order c = exchanged_is g order c

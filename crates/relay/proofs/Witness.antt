@@ -8,8 +8,8 @@ use native.Mathlib.Decide.{ℕ_discrete}
 use lib.Dec.{ltb}
 use borrow.Author.Tests.{lt-ltb}
 use Rattle.refusals.specs.declared.Refusal.TheVariants.{OrderExchanged}
-use Rattle.refusals.specs.declared.Answer.{Answer}
-use Rattle.refusals.specs.declared.Answer.TheVariants.{Done, Refused}
+use Rattle.refusals.specs.Refusal.{Answer}
+use Rattle.std.specs.Prelude.{Ok, Err}
 use Rattle.refusals.specs.Tests.{is_done}
 use Rattle.relay_orders.specs.Order.{count, NamesOnce, shares, above, late, exchanged}
 use Rattle.relay_orders.proofs.All.{All, all_map, all_zip, all_always, all_left, all_right, all_without, all_head, any_none}
@@ -67,7 +67,7 @@ abbrev pub Apart : (ℕ → List ℕ) → ℕ → ℕ → Type 0
 Apart entries x y = shares entries y x ≡ false
 
 -- what is not refused
-cond_none : (b : Bool) (c : ℕ) (o : Answer) → cond b (Refused (OrderExchanged c)) o ≡ Done → (b ≡ false) × (o ≡ Done)
+cond_none : (b : Bool) (c : ℕ) (o : Answer) → cond b (Err (OrderExchanged c)) o ≡ Ok tt → (b ≡ false) × (o ≡ Ok tt)
 cond_none true c o h = absurd (true≢false (sym (ap is_done h)))
 cond_none false c o h = (refl, h)
 
@@ -83,7 +83,7 @@ module _ (entries : ℕ → List ℕ) where
   late_none before c h = all_map (λ d e l. and_false (ltb c d) (shares entries c d) e (lt-ltb c d l)) (any_none _ before h)
 
   -- where nothing is refused: none is late by the ones before, nor by one another
-  late_and_kept : (before xs : List ℕ) → exchanged entries before xs ≡ Done
+  late_and_kept : (before xs : List ℕ) → exchanged entries before xs ≡ Ok tt
       → All (λ d. All (λ c. c < d → Apart entries d c) xs) before × Keeps (Apart entries) xs
   unfolding exchanged
   late_and_kept before [] h = (all_always (λ d. All.nil) before, Keeps.end)
@@ -93,7 +93,7 @@ module _ (entries : ℕ → List ℕ) where
       (all_zip (λ d l t. All.cons l t) (late_none before c e.0) (all_left before (c ∷ []) r.0), Keeps.first (all_head (all_right before (c ∷ []) r.0)) r.1)
 
   -- an order that 24 takes
-  pub keeps_order : (xs : List ℕ) → exchanged entries [] xs ≡ Done → Keeps (Apart entries) xs
+  pub keeps_order : (xs : List ℕ) → exchanged entries [] xs ≡ Ok tt → Keeps (Apart entries) xs
   keeps_order xs h = (late_and_kept [] xs h).1
 
 -- nothing asked of any two

@@ -11,7 +11,7 @@ ghost use Rattle.relay_calls.specs.Calls.{decode as decode_of, decode_lists};
 ghost use Rattle.relay_calls.specs.Decode.{shot};
 
 use graph_lists::indices::at;
-use refusals::Answer;
+use refusals::Refusal;
 use refusals_tests::is_done;
 
 // The settings' types, which `relay_settings` declares.
@@ -71,7 +71,7 @@ pub fn iteration(
     v_to_c: &mut [f64],
     posterior: &mut [f64],
     bias: &mut [f64],
-) -> Answer
+) -> Result<(), Refusal>
     ensures { let g = graph size.checks size.mechanisms check_var.now
         check_offset.now var_check.now var_message.now var_offset.now in
         let before = step_lists (state c_to_v.old v_to_c.old posterior.old) bias.old in
@@ -183,8 +183,8 @@ pub fn decode_in_order(
         v_to_c,
     );
     match a {
-        Answer::Refused(r) => Decoded::Refused(r),
-        Answer::Done => relay_decode::all_legs::decode_taken(
+        Err(r) => Decoded::Refused(r),
+        Ok(()) => relay_decode::all_legs::decode_taken(
             settings,
             gammas,
             seed,
@@ -268,8 +268,8 @@ pub fn decode(
         v_to_c,
     );
     match a {
-        Answer::Refused(r) => Decoded::Refused(r),
-        Answer::Done => relay_decode::counted::decode_counted(
+        Err(r) => Decoded::Refused(r),
+        Ok(()) => relay_decode::counted::decode_counted(
             settings,
             gammas,
             seed,

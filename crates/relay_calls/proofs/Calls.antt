@@ -13,8 +13,8 @@ use Rattle.numbers.specs.Floats.{zero⁺, is_finite}
 use Rattle.numbers.specs.Loops.{every, part}
 use Rattle.numbers.proofs.Cases.{and_both, was_true, was_false}
 use Rattle.refusals.specs.declared.Refusal.TheVariants.{SyndromeLength}
-use Rattle.refusals.specs.declared.Answer.{Answer}
-use Rattle.refusals.specs.declared.Answer.TheVariants.{Done, Refused}
+use Rattle.refusals.specs.Refusal.{Answer}
+use Rattle.std.specs.Prelude.{Ok, Err}
 use Rattle.refusals.specs.Tests.{is_done, unless, or_else, first_of, unless_refused}
 use Rattle.refusals.proofs.Tests.{done_is, or_done, unless_done}
 use Rattle.graph_lists.specs.Graph.{Graph, graph}
@@ -46,7 +46,7 @@ checks_few edges prior g a b e d h = (graph_told edges prior g (sym e ∙ done_i
 
 module _ (checks : ℕ) (syndrome : List ℕ) (b : Bool) (e : b ≡ eqb (length syndrome) checks) where
   -- 20
-  pub syndrome_length : not b ≡ true → Refused SyndromeLength ≡ syndrome_fault checks syndrome
+  pub syndrome_length : not b ≡ true → Err SyndromeLength ≡ syndrome_fault checks syndrome
   unfolding syndrome_fault or_else unless
   syndrome_length h = rw (was_false b _ e h)
 
@@ -119,8 +119,8 @@ stepped_counted edges edges' checks checks' mechanisms mechanisms' cv co vm vo s
 
 -- a call that its tests refuse leaves the lists
 leaves : (a : Answer) (o : StepOutcome) (l : StepLists) → is_done a ≡ false → step_outcome a l ≡ after_step_tests a o l
-leaves Done o l h = absurd (true≢false h)
-leaves (Refused r) o l h = refl
+leaves (Ok tt) o l h = absurd (true≢false h)
+leaves (Err r) o l h = refl
 
 -- what the tests tell where none refuses
 pub record Passed (edges checks mechanisms : ℕ) (cv co vm vo : List ℕ) (prior gamma : List Float) (syndrome order : List ℕ) (l : StepLists) : Type 0 where
@@ -185,7 +185,7 @@ module _ (edges checks mechanisms : ℕ) (cv co vc vm vo : List ℕ) (prior : Li
     unfolding iteration_call
     iteration_ran a b o e d h q =
         let t = passed a b e d h in
-        let done : step_fault edges prior (graph checks mechanisms cv co vc vm vo) alpha clip gamma syndrome order l ≡ Done = sym e ∙ done_is a (sym d ∙ not-false b h) in
+        let done : step_fault edges prior (graph checks mechanisms cv co vc vm vo) alpha clip gamma syndrome order l ≡ Ok tt = sym e ∙ done_is a (sym d ∙ not-false b h) in
         rw done
         (q
         ∙ stepped_counted _ _ _ _ _ _ cv co vm vo schedule alpha clip syndrome prior gamma order l.now t.edges_many t.checks_many t.mechanisms_many

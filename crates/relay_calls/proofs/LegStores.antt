@@ -8,8 +8,8 @@ use mathlib.Core.List.{List}
 use lib.Dec.{leb}
 use lib.Ieee.{Float}
 use lib.ListN.{length, length-map}
-use Rattle.refusals.specs.declared.Answer.{Answer}
-use Rattle.refusals.specs.declared.Answer.TheVariants.{Done, Refused}
+use Rattle.refusals.specs.Refusal.{Answer}
+use Rattle.std.specs.Prelude.{Ok, Err}
 use Rattle.refusals.proofs.Tests.{or_done, or_second}
 use Rattle.graph_lists.specs.Messages.{Access, by_place, from_variables, posterior_fault}
 use Rattle.graph_lists.proofs.GraphTests.{graph_told}
@@ -111,9 +111,9 @@ module _ (had : Access) (x : Shot) (sound : Sound x.graph) (full : Full had x.gr
   -- a leg that is judged, where the legs end well
   judged_total : (a : Answer) (enough : Bool) (run out : Run) (n r : ℕ) → legs_from had x n (leg_judged a enough run) r ≡ decoded out
       → total_of (leg_judged a enough run) ≡ run.total_iterations
-  judged_total (Refused z) enough run out n r h = absurd (false≢true (ap is_decoded (sym (legs_over had x n (refused z) r) ∙ h)))
-  judged_total Done true run out n r h = refl
-  judged_total Done false run out n r h = refl
+  judged_total (Err z) enough run out n r h = absurd (false≢true (ap is_decoded (sym (legs_over had x n (refused z) r) ∙ h)))
+  judged_total (Ok tt) true run out n r h = refl
+  judged_total (Ok tt) false run out n r h = refl
 
   -- n legs from r on
   legs_write : (n : ℕ) (p : Progress) (r : ℕ) (out : Run) → legs_from had x n p r ≡ decoded out → total_of p * each + stores_from had x n p r ≡ out.total_iterations * each
@@ -145,7 +145,7 @@ module _ (had : Access) (x : Shot) (sound : Sound x.graph) (full : Full had x.gr
 -- ---- the call
 
 -- past the tests before 29, what 29 and the legs leave is what the call leaves
-pub taken_leaves_lem : (edges : ℕ) (x : Shot) (l : DecodeLists) → taken_fault edges x l ≡ Done → taken_leaves edges x l ≡ decode_in_order edges x l
+pub taken_leaves_lem : (edges : ℕ) (x : Shot) (l : DecodeLists) → taken_fault edges x l ≡ Ok tt → taken_leaves edges x l ≡ decode_in_order edges x l
 unfolding decode_in_order taken_fault
 taken_leaves_lem edges x l h =
     let a = or_done _ _ h in

@@ -6,8 +6,8 @@ use Rattle.std.specs.Float.{nan}
 use Rattle.numbers.specs.Floats.{zero⁺, is_finite}
 use Rattle.numbers.specs.Loops.{every, over, upto}
 use Rattle.refusals.specs.declared.Refusal.TheVariants.{BadClip, BadAlpha, SyndromeLength, SyndromeNotBinary, LentListLength, StateNotFinite, NonFinite}
-use Rattle.refusals.specs.declared.Answer.{Answer}
-use Rattle.refusals.specs.declared.Answer.TheVariants.{Done, Refused}
+use Rattle.refusals.specs.Refusal.{Answer}
+use Rattle.std.specs.Prelude.{Ok, Err}
 use Rattle.refusals.specs.Tests.{unless, or_else, first_of, unless_refused}
 use Rattle.graph_lists.specs.Graph.{Graph, var_entries}
 use Rattle.graph_lists.specs.Messages.{Access, by_place}
@@ -105,8 +105,8 @@ stepped edges g s =
 
 -- a call that its tests refuse writes nothing
 abbrev pub after_step_tests : Answer → StepOutcome → StepLists → StepOutcome
-after_step_tests Done o l = o
-after_step_tests (Refused r) o l = step_outcome (Refused r) l
+after_step_tests (Ok tt) o l = o
+after_step_tests (Err r) o l = step_outcome (Err r) l
 
 -- a call whose tests answer `tested`, with a check's messages had so
 abbrev pub iteration_by : Access → Answer → ℕ → List Float → Graph → Schedule → Float → Clip → List Float → List ℕ → List ℕ → StepLists → StepOutcome
@@ -234,8 +234,8 @@ after_legs edges x (refused r) stores l = decode_outcome (Decoded.Refused r) (ze
 
 -- a call that its tests refuse writes nothing
 abbrev pub after_decode_tests : Answer → DecodeOutcome → DecodeLists → DecodeOutcome
-after_decode_tests Done o l = o
-after_decode_tests (Refused r) o l = decode_outcome (Decoded.Refused r) l
+after_decode_tests (Ok tt) o l = o
+after_decode_tests (Err r) o l = decode_outcome (Decoded.Refused r) l
 
 -- a call whose tests answer `tested`, with a check's messages had so
 abbrev pub decode_by : Access → Answer → ℕ → Shot → DecodeLists → DecodeOutcome
@@ -268,6 +268,6 @@ summary a c n t m w = record { refusal = a; converged = c; executed_legs = n; to
 
 -- what each answer says in them
 abbrev pub summary_of : Decoded → Summary
-summary_of (Decoded.Converged n t m w) = summary Done true n t m (some w)
-summary_of (Decoded.NotConverged n t m) = summary Done false n t m none
-summary_of (Decoded.Refused r) = summary (Refused r) false 0 0 0 none
+summary_of (Decoded.Converged n t m w) = summary (Ok tt) true n t m (some w)
+summary_of (Decoded.NotConverged n t m) = summary (Ok tt) false n t m none
+summary_of (Decoded.Refused r) = summary (Err r) false 0 0 0 none

@@ -5,8 +5,8 @@ use Rattle.std.proofs.Math.Option.{Option, none, some}
 use Rattle.std.specs.Float.Ieee.{lt}
 use Rattle.numbers.specs.Loops.{turns, spliced}
 use Rattle.refusals.specs.declared.Refusal.{Refusal}
-use Rattle.refusals.specs.declared.Answer.{Answer}
-use Rattle.refusals.specs.declared.Answer.TheVariants.{Done, Refused}
+use Rattle.refusals.specs.Refusal.{Answer}
+use Rattle.std.specs.Prelude.{Ok, Err}
 use Rattle.graph_lists.specs.Graph.{Graph}
 use Rattle.graph_lists.specs.Messages.{Access, posterior_fault}
 use Rattle.relay_settings.specs.declared.Settings.{Settings}
@@ -129,9 +129,9 @@ pub data Progress : Type 0 where
 
 -- after a leg: refused, or ended once enough have converged, or on to the next
 abbrev pub leg_judged : Answer → Bool → Run → Progress
-leg_judged (Refused r) enough run = finished (refused r)
-leg_judged Done true run = finished (decoded run)
-leg_judged Done false run = running run
+leg_judged (Err r) enough run = finished (refused r)
+leg_judged (Ok tt) true run = finished (decoded run)
+leg_judged (Ok tt) false run = running run
 
 -- the leg r, recorded and judged
 unfoldable pub after_leg : Access → Shot → ℕ → Run → Progress

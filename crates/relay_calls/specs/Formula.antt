@@ -1,7 +1,7 @@
 -- What the code of a decode has on the way, with the formula for what its legs write: for private contracts, and no part of what a reader must believe.
 -- Definitions only. Assumes nothing.
 use Rattle.std.specs.Prelude.{ℕ, ◌*◌}
-use Rattle.refusals.specs.declared.Answer.{Answer}
+use Rattle.refusals.specs.Refusal.{Answer}
 use Rattle.refusals.specs.declared.Refusal.TheVariants.{LentListLength}
 use Rattle.refusals.specs.Tests.{unless, or_else}
 use Rattle.graph_lists.specs.Messages.{by_place}

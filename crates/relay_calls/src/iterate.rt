@@ -14,7 +14,7 @@ ghost use Rattle.relay_step.specs.Places.{PerMechanism};
 use graph_lists::indices::at;
 use graph_messages::clear;
 use numbers::is_finite;
-use refusals::{Answer, Refusal};
+use refusals::Refusal;
 use refusals_tests::{both, is_done};
 use relay_settings::{Clip, Schedule};
 use relay_step::step::step;
@@ -66,7 +66,7 @@ fn step_end(
     c_to_v: &[f64],
     v_to_c: &[f64],
     posterior: &[f64],
-) -> Answer
+) -> Result<(), Refusal>
     requires walks { Walks (length posterior.now) (length c_to_v.now) var_message.now var_offset.now }
     requires v_to_c_len { length v_to_c.now ≡ length c_to_v.now }
     ensures { let g = of_variables (length posterior.now) var_message.now var_offset.now in
@@ -76,11 +76,11 @@ fn step_end(
     let mut v = 0;
     while v < posterior.len() {
         if !mechanism_finite(v, var_message, var_offset, c_to_v, v_to_c, posterior) {
-            return Answer::Refused(Refusal::NonFinite(v));
+            return Err(Refusal::NonFinite(v));
         }
         v += 1;
     }
-    Answer::Done
+    Ok(())
 }
 
 // 30, and the state zeroed where it is refused.
@@ -90,7 +90,7 @@ fn ended(
     c_to_v: &mut [f64],
     v_to_c: &mut [f64],
     posterior: &mut [f64],
-) -> Answer
+) -> Result<(), Refusal>
     requires walks { Walks (length posterior.old) (length c_to_v.old) var_message.now var_offset.now }
     requires v_to_c_len { length v_to_c.old ≡ length c_to_v.old }
     ensures end { let g = of_variables (length posterior.old) var_message.now var_offset.now in
@@ -128,7 +128,7 @@ pub fn stepped(
     c_to_v: &mut [f64],
     v_to_c: &mut [f64],
     posterior: &mut [f64],
-) -> Answer
+) -> Result<(), Refusal>
     requires walks { Walks (length syndrome.now) (length priors.now) check_var.now check_offset.now }
     requires walks_2 { Walks (length priors.now) (length check_var.now) var_message.now var_offset.now }
     requires keys { Keys (length syndrome.now) order.now }

@@ -11,7 +11,7 @@ ghost use Rattle.relay_orders.specs.Order.{names_fault};
 ghost use Rattle.relay_calls.specs.Calls.{byte_fault, syndrome_fault, all_finite, step_fits, state_finite, step_lists, step_fault};
 
 use numbers::is_finite;
-use refusals::{Answer, Refusal};
+use refusals::Refusal;
 use refusals_tests::{both, finite_positive, is_done, or_else, same_number, unless};
 use relay_orders::names_fault;
 use relay_settings::{Clip, clip_good};
@@ -24,25 +24,25 @@ fn is_bit(b: u8) -> bool
 }
 
 // 21: the first byte of a syndrome that is not 0 or 1.
-fn bytes_fault(syndrome: &[u8]) -> Answer
+fn bytes_fault(syndrome: &[u8]) -> Result<(), Refusal>
     ensures { result ≡ first_of (length syndrome.now) (byte_fault syndrome.now) }
 {
     let mut c = 0;
     while c < syndrome.len() {
         if !is_bit(syndrome[c]) {
-            return Answer::Refused(Refusal::SyndromeNotBinary(c));
+            return Err(Refusal::SyndromeNotBinary(c));
         }
         c += 1;
     }
-    Answer::Done
+    Ok(())
 }
 
 // 20, then 21.
-pub fn syndrome_fault(checks: usize, syndrome: &[u8]) -> Answer
+pub fn syndrome_fault(checks: usize, syndrome: &[u8]) -> Result<(), Refusal>
     ensures { result ≡ syndrome_fault checks syndrome.now }
 {
     if !same_number(syndrome.len(), checks) {
-        return Answer::Refused(Refusal::SyndromeLength);
+        return Err(Refusal::SyndromeLength);
     }
     bytes_fault(syndrome)
 }
@@ -111,7 +111,7 @@ fn step_fault(
     v_to_c: &[f64],
     posterior: &[f64],
     bias: &[f64],
-) -> Answer
+) -> Result<(), Refusal>
     requires { size.checks ≤ max_checks }
     ensures { let before = step_lists (state c_to_v.now v_to_c.now posterior.now) bias.now in
         result
@@ -161,7 +161,7 @@ pub fn fault(
     v_to_c: &[f64],
     posterior: &[f64],
     bias: &[f64],
-) -> Answer
+) -> Result<(), Refusal>
     ensures { let g = graph size.checks size.mechanisms check_var.now
         check_offset.now var_check.now var_message.now var_offset.now in
         let before = step_lists (state c_to_v.now v_to_c.now posterior.now) bias.now in

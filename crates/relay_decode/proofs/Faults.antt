@@ -12,8 +12,8 @@ use borrow.Author.Tests.{not-true, not-false, eqb-true, leb-true}
 use Rattle.numbers.proofs.Cases.{and_both}
 use Rattle.refusals.specs.declared.Refusal.{Refusal}
 use Rattle.refusals.specs.declared.Refusal.TheVariants.{LentListLength}
-use Rattle.refusals.specs.declared.Answer.{Answer}
-use Rattle.refusals.specs.declared.Answer.TheVariants.{Done, Refused}
+use Rattle.refusals.specs.Refusal.{Answer}
+use Rattle.std.specs.Prelude.{Ok, Err}
 use Rattle.refusals.specs.Tests.{is_done, unless, or_else}
 use Rattle.refusals.proofs.Tests.{done_is, or_first, or_second, or_done, unless_done}
 use Rattle.graph_lists.specs.Graph.{Graph, graph}
@@ -126,7 +126,7 @@ module _ (edges checks mechanisms : ℕ) (t : Settings) (flat : List Float) (see
 
   module _ (order : List ℕ) (l : DecodeLists) where
     -- read off the tests of both calls, with an order that names checks
-    pub passed : shot_fault edges (X order) l ≡ Done → Keys checks order → Passed edges checks mechanisms t flat syndrome prior cv co vm vo order l
+    pub passed : shot_fault edges (X order) l ≡ Ok tt → Keys checks order → Passed edges checks mechanisms t flat syndrome prior cv co vm vo order l
     unfolding shot_fault decode_lists_fit syndrome_fault
     passed h names =
         let t1 = or_done _ _ h in
@@ -218,19 +218,19 @@ module _ (edges checks mechanisms : ℕ) (t : Settings) (flat : List Float) (see
     -- ---- the calls
 
     -- refused by a test before 29
-    pub in_order_refused : (a : Answer) (r : Refusal) → a ≡ taken_fault edges (X order) l → a ≡ Refused r → decode_outcome (Decoded.Refused r) l ≡ decode_in_order edges (X order) l
+    pub in_order_refused : (a : Answer) (r : Refusal) → a ≡ taken_fault edges (X order) l → a ≡ Err r → decode_outcome (Decoded.Refused r) l ≡ decode_in_order edges (X order) l
     unfolding decode_in_order
-    in_order_refused a r e d = let w : taken_fault edges (X order) l ≡ Refused r = sym e ∙ d in rw (stores_last edges (X order) l ∙ or_first _ _ (ap is_done w) ∙ w)
+    in_order_refused a r e d = let w : taken_fault edges (X order) l ≡ Err r = sym e ∙ d in rw (stores_last edges (X order) l ∙ or_first _ _ (ap is_done w) ∙ w)
 
     -- an order that is taken names checks
-    pub in_order_told : (a : Answer) → a ≡ taken_fault edges (X order) l → a ≡ Done → Passed edges checks mechanisms t flat syndrome prior cv co vm vo order l
+    pub in_order_told : (a : Answer) → a ≡ taken_fault edges (X order) l → a ≡ Ok tt → Passed edges checks mechanisms t flat syndrome prior cv co vm vo order l
     unfolding shot_fault
     in_order_told a e d =
         let w = or_done _ _ (sym (fault_joined edges (X order) l) ∙ sym e ∙ d) in
         passed w.0 (names_entries checks order (or_done _ _ w.1).0)
 
     -- let through: what 29 and the legs leave
-    pub in_order_ran : (a : Answer) (o : DecodeOutcome) → a ≡ taken_fault edges (X order) l → a ≡ Done
+    pub in_order_ran : (a : Answer) (o : DecodeOutcome) → a ≡ taken_fault edges (X order) l → a ≡ Ok tt
         → o ≡ taken_leaves (length cv) (shot_of t flat seed syndrome prior cv co vm vo order) l → o ≡ decode_in_order edges (X order) l
     in_order_ran a o e d q =
         let w = in_order_told a e d in
@@ -246,12 +246,12 @@ module _ (edges checks mechanisms : ℕ) (t : Settings) (flat : List Float) (see
     index_fault = sym (fault_joined edges (X (upto checks)) l ∙ ap (or_else _) (index_passes t.schedule (graph checks mechanisms cv co vc vm vo)) ∙ or_none _)
 
     -- refused by a test
-    pub index_refused : (a : Answer) (r : Refusal) → a ≡ shot_fault edges (X []) l → a ≡ Refused r → decode_outcome (Decoded.Refused r) l ≡ decode edges (X []) l
+    pub index_refused : (a : Answer) (r : Refusal) → a ≡ shot_fault edges (X []) l → a ≡ Err r → decode_outcome (Decoded.Refused r) l ≡ decode edges (X []) l
     unfolding decode
     index_refused a r e d = in_order_refused (upto checks) l a r (e ∙ index_fault) d
 
     -- what the tests tell
-    index_told_at : (a : Answer) → a ≡ shot_fault edges (X []) l → a ≡ Done → Passed edges checks mechanisms t flat syndrome prior cv co vm vo (upto checks) l
+    index_told_at : (a : Answer) → a ≡ shot_fault edges (X []) l → a ≡ Ok tt → Passed edges checks mechanisms t flat syndrome prior cv co vm vo (upto checks) l
     index_told_at a e d = in_order_told (upto checks) l a (e ∙ index_fault) d
 
     -- in as many checks as there are bytes of the syndrome
@@ -259,11 +259,11 @@ module _ (edges checks mechanisms : ℕ) (t : Settings) (flat : List Float) (see
     along n e w = rw e w
 
     -- what the tests tell, in those terms
-    pub index_told : (a : Answer) → a ≡ shot_fault edges (X []) l → a ≡ Done → Passed edges checks mechanisms t flat syndrome prior cv co vm vo (upto (length syndrome)) l
+    pub index_told : (a : Answer) → a ≡ shot_fault edges (X []) l → a ≡ Ok tt → Passed edges checks mechanisms t flat syndrome prior cv co vm vo (upto (length syndrome)) l
     index_told a e d = let w = index_told_at a e d in along (length syndrome) w.checks_many w
 
     -- let through: what 29 and the legs leave
-    pub index_ran : (a : Answer) (o : DecodeOutcome) → a ≡ shot_fault edges (X []) l → a ≡ Done
+    pub index_ran : (a : Answer) (o : DecodeOutcome) → a ≡ shot_fault edges (X []) l → a ≡ Ok tt
         → o ≡ taken_leaves (length cv) (shot_of t flat seed syndrome prior cv co vm vo (upto (length syndrome))) l → o ≡ decode edges (X []) l
     unfolding decode
     index_ran a o e d q =

@@ -10,8 +10,8 @@ use native.Mathlib.Omega.{arith}
 use lib.Dec.{leb}
 use lib.Ieee.{Float, lt}
 use lib.ListN.{length, get_or, replicate}
-use Rattle.refusals.specs.declared.Answer.{Answer}
-use Rattle.refusals.specs.declared.Answer.TheVariants.{Done, Refused}
+use Rattle.refusals.specs.Refusal.{Answer}
+use Rattle.std.specs.Prelude.{Ok, Err}
 use Rattle.refusals.specs.Tests.{is_done, first_of}
 use Rattle.graph_lists.specs.Messages.{by_place, value_fault, posterior_fault}
 use Rattle.relay_calls.specs.declared.Decoded.{Decoded}
@@ -52,7 +52,7 @@ abbrev lists_of : Kept → Results
 lists_of k = results k.leg_state k.leg_iterations k.leg_weight k.rows k.correction k.posterior
 
 -- what a run that has ended answers
-answered_by : (run : Run) (stores : ℕ) (best : Option Float) → answer_by Done best run.executed_legs run.total_iterations stores ≡ answered run stores best
+answered_by : (run : Run) (stores : ℕ) (best : Option Float) → answer_by (Ok tt) best run.executed_legs run.total_iterations stores ≡ answered run stores best
 answered_by run stores none = refl
 answered_by run stores (some w) = refl
 
@@ -60,18 +60,18 @@ answered_by run stores (some w) = refl
 
 -- how the legs end, where they do
 abbrev end_of : Answer → Run → Ended
-end_of (Refused r) run = refused r
-end_of Done run = decoded run
+end_of (Err r) run = refused r
+end_of (Ok tt) run = decoded run
 
 judged_end : (a : Answer) (enough : Bool) (run : Run) → (not (is_done a) || enough) ≡ true → leg_judged a enough run ≡ finished (end_of a run)
-judged_end (Refused r) enough run h = refl
-judged_end Done true run h = refl
-judged_end Done false run h = absurd (false≢true h)
+judged_end (Err r) enough run h = refl
+judged_end (Ok tt) true run h = refl
+judged_end (Ok tt) false run h = absurd (false≢true h)
 
 judged_on : (a : Answer) (enough : Bool) (run : Run) → (not (is_done a) || enough) ≡ false → leg_judged a enough run ≡ running run
-judged_on (Refused r) enough run h = absurd (true≢false h)
-judged_on Done true run h = absurd (true≢false h)
-judged_on Done false run h = refl
+judged_on (Err r) enough run h = absurd (true≢false h)
+judged_on (Ok tt) true run h = absurd (true≢false h)
+judged_on (Ok tt) false run h = refl
 
 module _ (x : Shot) where
   -- how many legs there are
@@ -138,9 +138,9 @@ module _ (x : Shot) where
   -- what an end says of a run of which this is kept
   ends_by : (each : ℕ) (a : Answer) (run : Run) (k : Kept) → kept_of run ≡ k
       → Ends each (end_of a run) (answer_by a k.best k.executed_legs k.total_iterations (k.total_iterations * each)) k
-  ends_by each (Refused z) run k e = (refl, λ h. absurd (true≢false h))
-  ends_by each Done run k e = (
-    ap (λ (z : Kept). answer_by Done z.best z.executed_legs z.total_iterations (z.total_iterations * each)) (sym e) ∙ answered_by run _ run.best_weight,
+  ends_by each (Err z) run k e = (refl, λ h. absurd (true≢false h))
+  ends_by each (Ok tt) run k e = (
+    ap (λ (z : Kept). answer_by (Ok tt) z.best z.executed_legs z.total_iterations (z.total_iterations * each)) (sym e) ∙ answered_by run _ run.best_weight,
     λ h. ap (λ (z : Kept). lists_of z) (sym e),
   )
 
@@ -188,13 +188,13 @@ module _ (x : Shot) where
         ends_as each _ _ _ c (kept best num total (suc r) ss is ws rows cor p) (ended_at r _ t a b (f ∙ ap (λ n. first_of n (value_fault p)) m) d h) w (ends_by each a t.run _ t.is)
 
     -- and after all of them
-    pub run_over : (each r : ℕ) (c : Decoded) → Reached r (kept best num total r ss is ws rows cor p) → many ≤ r → c ≡ answer_by Done best r total (total * each)
+    pub run_over : (each r : ℕ) (c : Decoded) → Reached r (kept best num total r ss is ws rows cor p) → many ≤ r → c ≡ answer_by (Ok tt) best r total (total * each)
         → (c ≡ answer_of each (decode_legs by_place x)) × (is_refused c ≡ false → results ss is ws rows cor p ≡ results_of x (decode_legs by_place x))
     unfolding legs_from
     run_over each r c s h q =
         let none_left : many - r ≡ 0 = sub-eq-zero_of_le h in
         let end : decoded s.run ≡ decode_legs by_place x = ap (λ n. legs_from by_place x n (running s.run) r) (sym none_left) ∙ s.ahead in
-        ends_as each _ _ _ c (kept best num total r ss is ws rows cor p) end q (ends_by each Done s.run _ s.is)
+        ends_as each _ _ _ c (kept best num total r ss is ws rows cor p) end q (ends_by each (Ok tt) s.run _ s.is)
 
 -- ---- the rows
 

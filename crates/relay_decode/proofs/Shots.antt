@@ -16,7 +16,7 @@ use borrow.Author.Tests.{not-true, not-false, leb-true}
 use Rattle.numbers.specs.Floats.{zero⁺}
 use Rattle.numbers.proofs.Cases.{either}
 use Rattle.refusals.specs.declared.Refusal.TheVariants.{TooManyStores}
-use Rattle.refusals.specs.declared.Answer.TheVariants.{Done, Refused}
+use Rattle.std.specs.Prelude.{Ok, Err}
 use Rattle.refusals.specs.Tests.{unless}
 use Rattle.graph_lists.specs.Messages.{by_place}
 use Rattle.relay_settings.specs.declared.Settings.{Settings}
@@ -122,7 +122,7 @@ module _ (x : Shot) (edges : ℕ) (l : DecodeLists) (each : ℕ) (fit : Bool) (i
   -- refused
   pub taken_refused : not fit ≡ true → decode_outcome (Decoded.Refused TooManyStores) l ≡ taken_leaves edges x l
   unfolding stores_fault unless
-  taken_refused h = let b = sym said ∙ not-true fit h in ap (λ f. after_decode_tests (cond f Done (Refused TooManyStores)) (legs_leave edges x l) l) (sym b)
+  taken_refused h = let b = sym said ∙ not-true fit h in ap (λ f. after_decode_tests (cond f (Ok tt) (Err TooManyStores)) (legs_leave edges x l) l) (sym b)
 
   -- or what the legs leave
   pub taken_ran : (o : DecodeOutcome) → not fit ≡ false → o ≡ after_legs edges x (decode_legs by_place x) (stores_in each (decode_legs by_place x)) l → o ≡ taken_leaves edges x l
@@ -131,7 +131,7 @@ module _ (x : Shot) (edges : ℕ) (l : DecodeLists) (each : ℕ) (fit : Bool) (i
       let b = sym said ∙ not-false fit h in
       q
       ∙ ap (λ n. after_legs edges x (decode_legs by_place x) (stores_in n (decode_legs by_place x)) l) is
-      ∙ ap (λ f. after_decode_tests (cond f Done (Refused TooManyStores)) (legs_leave edges x l) l) (sym b)
+      ∙ ap (λ f. after_decode_tests (cond f (Ok tt) (Err TooManyStores)) (legs_leave edges x l) l) (sym b)
 
   -- whose stores then fit
   pub taken_fits : not fit ≡ false → most_iterations x.settings * each ≤ max_stores

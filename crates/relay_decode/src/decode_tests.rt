@@ -11,7 +11,7 @@ ghost use Rattle.relay_calls.specs.Formula.{taken_fault};
 ghost use Rattle.relay_record.specs.Kept.{shot_fault};
 ghost use Rattle.relay_calls.specs.Decode.{shot};
 
-use refusals::{Answer, Refusal};
+use refusals::Refusal;
 use refusals_tests::{at_most, both, is_done, or_else, same_number, unless};
 use relay_calls::tests::syndrome_fault;
 use relay_gammas::seed_fault;
@@ -100,7 +100,7 @@ pub fn shot_fault(
     bias: &[f64],
     c_to_v: &[f64],
     v_to_c: &[f64],
-) -> Answer
+) -> Result<(), Refusal>
     ensures { let g = graph size.checks size.mechanisms check_var.now
         check_offset.now var_check.now var_message.now var_offset.now in
         let x = shot g priors.now t gammas.now [] syndrome.now seed in
@@ -159,7 +159,7 @@ fn order_fault(
     check_var: &[u32],
     check_offset: &[u32],
     order: &[u32],
-) -> Answer
+) -> Result<(), Refusal>
     requires checks_le_max_checks { checks ≤ max_checks }
     requires offsets { Offsets checks (length check_var.now) check_offset.now }
     requires keys { Keys max_mechanisms check_var.now }
@@ -167,7 +167,7 @@ fn order_fault(
         result ≡ or_else (names_fault checks order.now) (exchange_fault schedule g order.now) }
 {
     if is_index_order(checks, order) {
-        return Answer::Done;
+        return Ok(());
     }
     let a = names_fault(checks, order);
     if !is_done(a) {
@@ -200,7 +200,7 @@ pub fn taken_fault(
     bias: &[f64],
     c_to_v: &[f64],
     v_to_c: &[f64],
-) -> Answer
+) -> Result<(), Refusal>
     ensures { let g = graph size.checks size.mechanisms check_var.now
         check_offset.now var_check.now var_message.now var_offset.now in
         let x = shot g priors.now t gammas.now order.now syndrome.now seed in

@@ -13,7 +13,7 @@ use lib.ListN.{get_or}
 use borrow.Author.Tests.{ltb-true, ltb-false, le-ltb}
 use Rattle.numbers.specs.Draw.{advanced, mixed, gamma}
 use Rattle.refusals.specs.declared.Refusal.TheVariants.{ShotTooLarge}
-use Rattle.refusals.specs.declared.Answer.TheVariants.{Done, Refused}
+use Rattle.std.specs.Prelude.{Ok, Err}
 use Rattle.refusals.specs.Tests.{unless}
 use Rattle.refusals.proofs.Tests.{or_done, unless_done, unless_refused_lem}
 use Rattle.relay_settings.specs.declared.DrawRule.{DrawRule}
@@ -64,7 +64,7 @@ outputs_tell t t' shot r shot' r' v h l h' l' e =
 
 -- ---- decodes
 
-module _ (edges : ℕ) (x : Shot) (l : DecodeLists) (passed : decode_fault edges x l ≡ Done) where
+module _ (edges : ℕ) (x : Shot) (l : DecodeLists) (passed : decode_fault edges x l ≡ Ok tt) where
   -- 13: no more legs than a stream number can tell apart
   legs_few : x.settings.num_legs ≤ 65535
   unfolding decode_fault
@@ -79,7 +79,7 @@ module _ (edges : ℕ) (x : Shot) (l : DecodeLists) (passed : decode_fault edges
 
 -- "two legs of two shots whose first draws agree are the same leg of the same shot": of any two decodes whose tests refuse nothing, with a draw by shot. So for the
 -- first output, which is that at 0, and for each other
-pub draws_tell : (edges edges' : ℕ) (x x' : Shot) (l l' : DecodeLists) → decode_fault edges x l ≡ Done → decode_fault edges' x' l' ≡ Done
+pub draws_tell : (edges edges' : ℕ) (x x' : Shot) (l l' : DecodeLists) → decode_fault edges x l ≡ Ok tt → decode_fault edges' x' l' ≡ Ok tt
     → x.settings.gamma_source ≡ Seeded ByShot → x'.settings.gamma_source ≡ Seeded ByShot
     → (r r' v : ℕ) → r ≤ x.settings.num_legs → r' ≤ x'.settings.num_legs
     → output_of x.settings ByShot x.seed r v ≡ output_of x'.settings ByShot x'.seed r' v → (x.seed ≡ x'.seed) × (r ≡ r')
@@ -112,11 +112,11 @@ published_start = refl
 -- ---- 27
 
 -- "shot number of 2^48 or more under the new rule with a seeded source", and nothing else
-pub seed_refused : (source : GammaSource) (seed : ℕ) → (seed_fault source seed ≡ Refused ShotTooLarge) ↔ ((source ≡ Seeded ByShot) × (2 ^ 48 ≤ seed))
+pub seed_refused : (source : GammaSource) (seed : ℕ) → (seed_fault source seed ≡ Err ShotTooLarge) ↔ ((source ≡ Seeded ByShot) × (2 ^ 48 ≤ seed))
 unfolding seed_fault seed_good unless
 seed_refused source seed = (to source, λ w. rw (w.0, le-ltb seed (2 ^ 48) w.1))
   where
-    to : (s : GammaSource) → seed_fault s seed ≡ Refused ShotTooLarge → (s ≡ Seeded ByShot) × (2 ^ 48 ≤ seed)
+    to : (s : GammaSource) → seed_fault s seed ≡ Err ShotTooLarge → (s ≡ Seeded ByShot) × (2 ^ 48 ≤ seed)
     to (Explicit sets) e = absurd (true≢false (unless_refused_lem _ ShotTooLarge e))
     to (Seeded ByShot) e = (refl, ltb-false seed (2 ^ 48) (unless_refused_lem _ ShotTooLarge e))
     to (Seeded SeedXorLeg) e = absurd (true≢false (unless_refused_lem _ ShotTooLarge e))

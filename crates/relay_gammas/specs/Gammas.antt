@@ -5,7 +5,7 @@ use Rattle.std.specs.Int.Bits.{bit_xor}
 use Rattle.numbers.specs.Draw.{advanced, mixed, gamma}
 use Rattle.numbers.specs.Loops.{turns, part}
 use Rattle.refusals.specs.declared.Refusal.TheVariants.{ShotTooLarge}
-use Rattle.refusals.specs.declared.Answer.{Answer}
+use Rattle.refusals.specs.Refusal.{Answer}
 use Rattle.refusals.specs.Tests.{unless}
 use Rattle.relay_settings.specs.declared.Settings.{Settings}
 use Rattle.relay_settings.specs.declared.DrawRule.{DrawRule}

@@ -10,7 +10,7 @@ ghost use Rattle.relay_gammas.specs.Gammas.{stream_number, start_of, seed_good, 
 
 use graph_messages::{copy, fill};
 use numbers::SplitMix64;
-use refusals::{Answer, Refusal};
+use refusals::Refusal;
 use refusals_tests::unless;
 use relay_settings::{DrawRule, GammaSource, Settings};
 
@@ -35,7 +35,7 @@ fn seed_good(source: GammaSource, seed: u64) -> bool
 }
 
 // 27.
-pub fn seed_fault(source: GammaSource, seed: u64) -> Answer
+pub fn seed_fault(source: GammaSource, seed: u64) -> Result<(), Refusal>
     ensures { result ≡ seed_fault source seed }
 {
     unless(seed_good(source, seed), Refusal::ShotTooLarge)
@@ -68,8 +68,7 @@ fn draw_gammas(low: f64, high: f64, start: u64, gamma: &mut [f64])
     let mut v = 0;
     while v < gamma.len() {
         let d = generator.draw();
-        gamma[v] = numbers::gamma(low, high, d.value);
-        generator = d.next;
+        gamma[v] = numbers::gamma(low, high, d);
         v += 1;
     }
 }

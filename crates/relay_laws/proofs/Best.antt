@@ -10,7 +10,7 @@ use lib.ListN.{length, get_or, drop, replicate, length-append, get_or-append}
 use lib.Seq.{ext_get_or}
 use Rattle.numbers.specs.Loops.{over}
 use Rattle.numbers.proofs.Loops.{length_part, get_d_part}
-use Rattle.refusals.specs.declared.Answer.TheVariants.{Done}
+use Rattle.std.specs.Prelude.{Ok}
 use Rattle.graph_lists.specs.Model.{is_graph}
 use Rattle.relay_step.specs.Leg.{Leg, satisfied}
 use Rattle.relay_step.proofs.Weights.{hard_bits_lem, hard_many}
@@ -188,9 +188,9 @@ module _ (x : Shot) (is : is_graph x.graph ≡ true) (l : DecodeLists) (run : Ru
 
   module _ (total stores : ℕ) (all : total ≡ run.total_iterations) where
     -- a leg converged: the best of them
-    best_some : (w : Float) (correction : List ℕ) → BestAt x legs n w correction → BestOfLegs (f (summary Done true n total stores (some w)) correction refl)
+    best_some : (w : Float) (correction : List ℕ) → BestAt x legs n w correction → BestOfLegs (f (summary (Ok tt) true n total stores (some w)) correction refl)
     best_some w correction b =
-        let s = summary Done true n total stores (some w) in
+        let s = summary (Ok tt) true n total stores (some w) in
         let at : ConvergedAt (f s correction refl) b.leg w = rw b.weighs at (converged_at s correction refl b.leg b.within b.converged) in
         let row : row_of (f s correction refl) b.leg ≡ correction = row_said s correction refl b.leg true b.within b.converged ∙ b.bits in
         let holds = row_holds s correction refl b.leg w at in
@@ -222,9 +222,9 @@ module _ (x : Shot) (is : is_graph x.graph ≡ true) (l : DecodeLists) (run : Ru
         }
 
     -- none did: the hard decision of the last
-    best_none : ((k : ℕ) → k < n → (legs k).converged ≡ false) → BestOfLegs (f (summary Done false n total stores none) run.hard_bits refl)
+    best_none : ((k : ℕ) → k < n → (legs k).converged ≡ false) → BestOfLegs (f (summary (Ok tt) false n total stores none) run.hard_bits refl)
     best_none out =
-        let s = summary Done false n total stores none in
+        let s = summary (Ok tt) false n total stores none in
         let k = n - 1 in
         let i : k < n = omega arith in
         let is_last : run.hard_bits ≡ bits_of x (legs k) = p.last k (omega arith) in

@@ -15,8 +15,8 @@ use Rattle.numbers.specs.Loops.{row}
 use Rattle.numbers.proofs.Cases.{and_both}
 use Rattle.numbers.proofs.Loops.{get_d_part}
 use Rattle.numbers.proofs.Sizes.{Within}
-use Rattle.refusals.specs.declared.Answer.{Answer}
-use Rattle.refusals.specs.declared.Answer.TheVariants.{Done}
+use Rattle.refusals.specs.Refusal.{Answer}
+use Rattle.std.specs.Prelude.{Ok}
 use Rattle.refusals.proofs.Tests.{or_done, unless_done}
 use Rattle.graph_lists.specs.Graph.{Graph, var_entries, own_incidence}
 use Rattle.graph_lists.specs.Messages.{by_place}
@@ -56,22 +56,22 @@ data EndsWell : Ended → Type 0 where
   ends_well : (run : Run) → EndsWell (decoded run)
 
 -- so neither is what a decode of them answers
-well_answered : (edges : ℕ) (x : Shot) (e : Ended) (stores : ℕ) (l : DecodeLists) → EndsWell e → (summary_of (after_legs edges x e stores l).answer).refusal ≡ Done
+well_answered : (edges : ℕ) (x : Shot) (e : Ended) (stores : ℕ) (l : DecodeLists) → EndsWell e → (summary_of (after_legs edges x e stores l).answer).refusal ≡ Ok tt
 well_answered edges x _ stores l (ends_well run) = go run.best_weight
   where
-    go : (w : Option Float) → (summary_of (answered run stores w)).refusal ≡ Done
+    go : (w : Option Float) → (summary_of (answered run stores w)).refusal ≡ Ok tt
     go none = refl
     go (some weight) = refl
 
 -- ---- settings that pass 9 and 10
 
 -- the clip and alpha are good
-clip_told : (t : Settings) (m : ℕ) (flat : List Float) → settings_fault t m flat ≡ Done → (clip_good t.clip ≡ true) × (alpha_good t.alpha ≡ true)
+clip_told : (t : Settings) (m : ℕ) (flat : List Float) → settings_fault t m flat ≡ Ok tt → (clip_good t.clip ≡ true) × (alpha_good t.alpha ≡ true)
 unfolding settings_fault
 clip_told t m flat h = let a = or_done _ _ h in (unless_done _ _ a.0, unless_done _ _ (or_done _ _ a.1).0)
 
 module _ (x : Shot) (limit : Float) (on : x.settings.clip ≡ On limit) (fit : fits binary64 x.settings.alpha ≡ true)
-    (told : settings_fault x.settings x.graph.mechanisms x.gammas ≡ Done) where
+    (told : settings_fault x.settings x.graph.mechanisms x.gammas ≡ Ok tt) where
   -- 9
   good : clip_good (On limit) ≡ true
   good = subst (λ (c : Clip). clip_good c ≡ true) on (clip_told _ _ _ told).0
@@ -123,7 +123,7 @@ module _ (x : Shot) (limit : Float) (on : x.settings.clip ≡ On limit) (fit : f
         (start_bounded limit good x.graph x.prior posterior b near))
 
     -- after a leg that is not refused: it is the last, or `next` is told of the legs that are left
-    judged_well : (n r : ℕ) (a : Answer) (enough : Bool) (run : Run) → a ≡ Done → EndsWell (legs_from by_place x n (running run) r)
+    judged_well : (n r : ℕ) (a : Answer) (enough : Bool) (run : Run) → a ≡ Ok tt → EndsWell (legs_from by_place x n (running run) r)
         → EndsWell (legs_from by_place x n (leg_judged a enough run) r)
     judged_well n r a true run e next = rw (e, legs_over by_place x n (decoded run) r) (ends_well run)
     judged_well n r a false run e next = rw e next
@@ -186,14 +186,14 @@ interval_rises least most h =
     (and_both (is_finite (most -ᶠ least)) (le least most) (and_both (is_finite most) spans (and_both (is_finite least) (is_finite most && spans) h).1).1).1
 
 -- as the settings' does
-interval_told : (t : Settings) (m : ℕ) (flat : List Float) → settings_fault t m flat ≡ Done → le t.gamma_low t.gamma_high ≡ true
+interval_told : (t : Settings) (m : ℕ) (flat : List Float) → settings_fault t m flat ≡ Ok tt → le t.gamma_low t.gamma_high ≡ true
 unfolding settings_fault
 interval_told t m flat h =
     let a = or_done _ _ (or_done _ _ (or_done _ _ (or_done _ _ (or_done _ _ (or_done _ _ (or_done _ _ h).1).1).1).1).1).1 in
     interval_rises t.gamma_low t.gamma_high (unless_done _ _ a.0)
 
 -- so where gamma0 and the source are within 1, every gamma is
-pub gammas_within : (x : Shot) → settings_fault x.settings x.graph.mechanisms x.gammas ≡ Done → Within x.settings.gamma0 1
+pub gammas_within : (x : Shot) → settings_fault x.settings x.graph.mechanisms x.gammas ≡ Ok tt → Within x.settings.gamma0 1
     → SourceWithin x.settings.gamma_source x.settings.gamma_low x.settings.gamma_high x.gammas → GammasWithin x 1
 unfolding gamma_of relay_gamma
 gammas_within x told first source zero v h k = rw (get_or-replicate x.graph.mechanisms v x.settings.gamma0 nan k) first
@@ -216,21 +216,21 @@ gammas_within x told first source (suc r) v h k = go x.settings.gamma_source ref
 
 -- ---- a decode
 
-module _ (edges : ℕ) (x : Shot) (l : DecodeLists) (passed : decode_fault edges x l ≡ Done) where
+module _ (edges : ℕ) (x : Shot) (l : DecodeLists) (passed : decode_fault edges x l ≡ Ok tt) where
   -- what its tests tell of the model
   model : GraphTold edges x.prior x.graph
   unfolding decode_fault
   model = graph_told edges x.prior x.graph (or_done _ _ passed).0
 
   -- and of the settings
-  pub settled : settings_fault x.settings x.graph.mechanisms x.gammas ≡ Done
+  pub settled : settings_fault x.settings x.graph.mechanisms x.gammas ≡ Ok tt
   unfolding decode_fault
   settled = (or_done _ _ (or_done _ _ passed).1).0
 
   module _ (limit : Float) (on : x.settings.clip ≡ On limit) (fit : fits binary64 x.settings.alpha ≡ true) (gammas : GammasWithin x 1) where
     -- it is not refused where 30 + iterations * (60 + degree * clip) is below 2 ^ 53
     pub bounded_answered : (c d : ℕ) → Within limit c → ((v : ℕ) → v < x.graph.mechanisms → length (var_entries x.graph v) ≤ d)
-        → 30 + most_iterations x.settings * (60 + d * c) < 2 ^ 53 → (summary_of (decode_in_order edges x l).answer).refusal ≡ Done
+        → 30 + most_iterations x.settings * (60 + d * c) < 2 ^ 53 → (summary_of (decode_in_order edges x l).answer).refusal ≡ Ok tt
     unfolding decode_in_order
     bounded_answered c d clip degrees room =
         let o = after_legs edges x (decode_legs by_place x) (decode_stores by_place x) l in
@@ -247,7 +247,7 @@ module _ (edges : ℕ) (x : Shot) (l : DecodeLists) (passed : decode_fault edges
         (decode_well x limit on fit settled (passes_sound x.graph model.is_graph_lem) c d small room)
 
     -- and so, by the limits of models and settings, where the clip is within 31
-    pub always_answered : Within limit 31 → (summary_of (decode_in_order edges x l).answer).refusal ≡ Done
+    pub always_answered : Within limit 31 → (summary_of (decode_in_order edges x l).answer).refusal ≡ Ok tt
     always_answered clip =
         let t = settings_told x.settings x.graph.mechanisms x.gammas settled in
         let most : x.settings.num_legs * x.settings.leg_iterations ≤ 65535 * 65535 = mul-le-mul t.legs_few t.leg_few in

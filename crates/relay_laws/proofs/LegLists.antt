@@ -10,8 +10,8 @@ use lib.Ieee.{Float, nan}
 use lib.ListN.{length, drop, length-append, get_or-append}
 use borrow.Author.Tests.{lt-ltb}
 use Rattle.numbers.specs.Loops.{over}
-use Rattle.refusals.specs.declared.Answer.{Answer}
-use Rattle.refusals.specs.declared.Answer.TheVariants.{Done, Refused}
+use Rattle.refusals.specs.Refusal.{Answer}
+use Rattle.std.specs.Prelude.{Ok, Err}
 use Rattle.graph_lists.specs.Messages.{by_place, posterior_fault}
 use Rattle.relay_calls.specs.declared.LegRecord.{LegRecord}
 use Rattle.relay_calls.specs.Records.{values_of, record_of, leg_record}
@@ -79,12 +79,12 @@ module _ (x : Shot) where
   judged_finished : (n r : ℕ) (a : Answer) (enough : Bool) (run : Run) → suc r ≤ many x
       → (legs_from by_place x n (running (run_after x (suc r))) (suc r) ≡ decoded run → Finished run)
       → legs_from by_place x n (leg_judged a enough (run_after x (suc r))) (suc r) ≡ decoded run → Finished run
-  judged_finished n r (Refused q) enough run h next e = absurd (let w = legs_over by_place x n (refused q) (suc r) in let z : ◌≡◌ {A = ℕ} 0 1 = cc in omega arith)
-  judged_finished n r Done true run h next e =
+  judged_finished n r (Err q) enough run h next e = absurd (let w = legs_over by_place x n (refused q) (suc r) in let z : ◌≡◌ {A = ℕ} 0 1 = cc in omega arith)
+  judged_finished n r (Ok tt) true run h next e =
       let w = legs_over by_place x n (decoded (run_after x (suc r))) (suc r) in
       let s : run_after x (suc r) ≡ run = cc in
       same_finished run (run_after x (suc r)) s (after_finished (suc r) (omega arith) h)
-  judged_finished n r Done false run h next e = next e
+  judged_finished n r (Ok tt) false run h next e = next e
 
   -- n legs from the leg r on
   legs_finished : (n r : ℕ) (run : Run) → r + n ≡ many x → legs_from by_place x n (running (run_after x r)) r ≡ decoded run → Finished run
@@ -106,23 +106,23 @@ module _ (edges : ℕ) (x : Shot) (l : DecodeLists) where
   -- it has passed its tests, and answers and leaves what its run does
   pub record RunBehind : Type 0 where
     pub run : Run
-    pub passed : decode_fault edges x l ≡ Done
+    pub passed : decode_fault edges x l ≡ Ok tt
     pub ended : decode_legs by_place x ≡ decoded run
     pub outcome : decode_in_order edges x l ≡ decode_outcome (answered run (decode_stores by_place x) run.best_weight) (left_by edges x run l)
 
   -- however the legs end
-  ended_behind : (e : Ended) → decode_fault edges x l ≡ Done → decode_legs by_place x ≡ e → decode_in_order edges x l ≡ after_legs edges x e (decode_stores by_place x) l
-      → (summary_of (after_legs edges x e (decode_stores by_place x) l).answer).refusal ≡ Done → RunBehind
+  ended_behind : (e : Ended) → decode_fault edges x l ≡ Ok tt → decode_legs by_place x ≡ e → decode_in_order edges x l ≡ after_legs edges x e (decode_stores by_place x) l
+      → (summary_of (after_legs edges x e (decode_stores by_place x) l).answer).refusal ≡ Ok tt → RunBehind
   ended_behind (decoded run) t q o h = record { run = run; passed = t; ended = q; outcome = o }
   ended_behind (refused r) t q o h = absurd (let z : ◌≡◌ {A = ℕ} 0 1 = cc in omega arith)
 
   -- whatever the tests say
   tests_behind : (a : Answer) → decode_fault edges x l ≡ a → decode_in_order edges x l ≡ after_decode_tests a (after_legs edges x (decode_legs by_place x) (decode_stores by_place x) l) l
-      → (summary_of (after_decode_tests a (after_legs edges x (decode_legs by_place x) (decode_stores by_place x) l) l).answer).refusal ≡ Done → RunBehind
-  tests_behind Done t o h = ended_behind (decode_legs by_place x) t refl o h
-  tests_behind (Refused r) t o h = absurd (let z : ◌≡◌ {A = ℕ} 0 1 = cc in omega arith)
+      → (summary_of (after_decode_tests a (after_legs edges x (decode_legs by_place x) (decode_stores by_place x) l) l).answer).refusal ≡ Ok tt → RunBehind
+  tests_behind (Ok tt) t o h = ended_behind (decode_legs by_place x) t refl o h
+  tests_behind (Err r) t o h = absurd (let z : ◌≡◌ {A = ℕ} 0 1 = cc in omega arith)
 
-  pub run_behind : (summary_of (decode_in_order edges x l).answer).refusal ≡ Done → RunBehind
+  pub run_behind : (summary_of (decode_in_order edges x l).answer).refusal ≡ Ok tt → RunBehind
   unfolding decode_in_order
   run_behind h = tests_behind (decode_fault edges x l) refl refl h
 

@@ -6,8 +6,8 @@ use mathlib.Core.List.{List}
 use native.Mathlib.Omega.{arith}
 use lib.Ieee.{Float}
 use Rattle.refusals.specs.declared.Refusal.{Refusal}
-use Rattle.refusals.specs.declared.Answer.{Answer}
-use Rattle.refusals.specs.declared.Answer.TheVariants.{Done, Refused}
+use Rattle.refusals.specs.Refusal.{Answer}
+use Rattle.std.specs.Prelude.{Ok, Err}
 use Rattle.refusals.specs.Refusal.{number_of}
 use Rattle.refusals.specs.Tests.{unless, or_else, first_of}
 use Rattle.graph_lists.specs.Graph.{Graph}
@@ -16,14 +16,14 @@ use Rattle.relay_calls.specs.Decode.{Shot, Run, Ended, decoded, refused, Progres
 
 -- an answer that refuses with this number, if it refuses
 abbrev pub Only : ℕ → Answer → Type 0
-Only k a = (r : Refusal) → a ≡ Refused r → number_of r ≡ k
+Only k a = (r : Refusal) → a ≡ Err r → number_of r ≡ k
 
 -- what refuses nothing
-only_done : (k : ℕ) → Only k Done
+only_done : (k : ℕ) → Only k (Ok tt)
 only_done k r e = absurd (let z : ◌≡◌ {A = ℕ} 0 1 = cc in omega arith)
 
 -- one refusal
-only_one : (k : ℕ) (q : Refusal) → number_of q ≡ k → Only k (Refused q)
+only_one : (k : ℕ) (q : Refusal) → number_of q ≡ k → Only k (Err q)
 only_one k q h r e = let s : q ≡ r = cc in rw (← s) h
 
 -- one test
@@ -35,8 +35,8 @@ only_unless k false q h = only_one k q h
 -- two tests
 only_or : (k : ℕ) (a b : Answer) → Only k a → Only k b → Only k (or_else a b)
 unfolding or_else
-only_or k Done b f g = g
-only_or k (Refused r) b f g = f
+only_or k (Ok tt) b f g = g
+only_or k (Err r) b f g = f
 
 -- a row of tests
 only_first : (k n : ℕ) (f : ℕ → Answer) → ((i : ℕ) → Only k (f i)) → Only k (first_of n f)
@@ -57,9 +57,9 @@ data Fair : Progress → Type 0 where
 
 -- after a leg
 judged_fair : (a : Answer) (enough : Bool) (run : Run) → Only 30 a → Fair (leg_judged a enough run)
-judged_fair (Refused r) enough run f = fails r (f r refl)
-judged_fair Done true run f = ends run
-judged_fair Done false run f = goes run
+judged_fair (Err r) enough run f = fails r (f r refl)
+judged_fair (Ok tt) true run f = ends run
+judged_fair (Ok tt) false run f = goes run
 
 after_fair : (x : Shot) (r : ℕ) (run : Run) → Fair (after_leg by_place x r run)
 unfolding after_leg

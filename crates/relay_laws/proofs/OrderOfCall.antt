@@ -9,8 +9,8 @@ use native.Mathlib.Omega.{arith}
 use lib.Ieee.{Float}
 use Rattle.refusals.specs.declared.Refusal.{Refusal}
 use Rattle.refusals.specs.declared.Refusal.TheVariants.{OrderNotEachOnce, OrderExchanged}
-use Rattle.refusals.specs.declared.Answer.{Answer}
-use Rattle.refusals.specs.declared.Answer.TheVariants.{Done, Refused}
+use Rattle.refusals.specs.Refusal.{Answer}
+use Rattle.std.specs.Prelude.{Ok, Err}
 use Rattle.refusals.specs.Tests.{unless, or_else}
 use Rattle.refusals.proofs.Tests.{or_done, or_second}
 use Rattle.graph_lists.specs.Graph.{Graph, check_entries}
@@ -31,8 +31,8 @@ use Rattle.relay_laws.proofs.Only.{Ends, with_30, decode_ends}
 
 -- 23: nothing, or its refusal
 data Names : Answer → Type 0 where
-  each : Names Done
-  not_each : Names (Refused OrderNotEachOnce)
+  each : Names (Ok tt)
+  not_each : Names (Err OrderNotEachOnce)
 
 names_or : (b : Bool) → Names (unless b OrderNotEachOnce)
 unfolding unless
@@ -45,15 +45,15 @@ names_is checks order = names_or (names_once checks order)
 
 -- 24: nothing, or its refusal of a check
 data Exchange : Answer → Type 0 where
-  free : Exchange Done
-  at : (c : ℕ) → Exchange (Refused (OrderExchanged c))
+  free : Exchange (Ok tt)
+  at : (c : ℕ) → Exchange (Err (OrderExchanged c))
 
 exchange_or : (entries : ℕ → List ℕ) (before rest : List ℕ) → Exchange (exchanged entries before rest)
 unfolding exchanged
 exchange_or entries before [] = free
 exchange_or entries before (c ∷ rest) = go (late entries before c) (exchange_or entries (before ++ (c ∷ [])) rest)
   where
-    go : (b : Bool) {a : Answer} → Exchange a → Exchange (cond b (Refused (OrderExchanged c)) a)
+    go : (b : Bool) {a : Answer} → Exchange a → Exchange (cond b (Err (OrderExchanged c)) a)
     go true e = at c
     go false e = e
 
@@ -101,12 +101,12 @@ module _ (edges : ℕ) (x : Shot) (l : DecodeLists) (others : OthersPass edges x
       ∙ ap (or_else names) (or_none exchange)
 
   -- a refusal of theirs is the answer
-  answer_refused : (r : Refusal) → or_else names exchange ≡ Refused r → given ≡ Decoded.Refused r
+  answer_refused : (r : Refusal) → or_else names exchange ≡ Err r → given ≡ Decoded.Refused r
   unfolding decode_in_order
   answer_refused r e = ap (λ (a : Answer). (after_decode_tests a (after_legs edges x (decode_legs by_place x) (decode_stores by_place x) l) l).answer) (tests_are ∙ e)
 
   -- past them the legs answer
-  answer_passed : or_else names exchange ≡ Done → given ≡ (after_legs edges x (decode_legs by_place x) (decode_stores by_place x) l).answer
+  answer_passed : or_else names exchange ≡ Ok tt → given ≡ (after_legs edges x (decode_legs by_place x) (decode_stores by_place x) l).answer
   unfolding decode_in_order
   answer_passed e = ap (λ (a : Answer). (after_decode_tests a (after_legs edges x (decode_legs by_place x) (decode_stores by_place x) l) l).answer) (tests_are ∙ e)
 
@@ -116,20 +116,20 @@ module _ (edges : ℕ) (x : Shot) (l : DecodeLists) (others : OthersPass edges x
   legs_answer (refused r) stores (with_30 _ h) = inr h
 
   -- so that it is none of another number
-  passed_other : (k : ℕ) → or_else names exchange ≡ Done → refused_with given ≡ k → (k ≡ 0 → ⊥) → (k ≡ 30 → ⊥) → ⊥
+  passed_other : (k : ℕ) → or_else names exchange ≡ Ok tt → refused_with given ≡ k → (k ≡ 0 → ⊥) → (k ≡ 30 → ⊥) → ⊥
   passed_other k e h f g =
       let q = ap refused_with (answer_passed e) in
       ⊎_elim (λ z. f (sym h ∙ q ∙ z)) (λ z. g (sym h ∙ q ∙ z)) (legs_answer (decode_legs by_place x) (decode_stores by_place x) (decode_ends x))
 
   -- a schedule's test, by what it asks
-  kept : (s : Schedule) → x.settings.schedule ≡ s → KeepsOrder x.graph x.order ⊎ (s ≡ Flooding) → exchange_fault s x.graph x.order ≡ Done
+  kept : (s : Schedule) → x.settings.schedule ≡ s → KeepsOrder x.graph x.order ⊎ (s ≡ Flooding) → exchange_fault s x.graph x.order ≡ Ok tt
   unfolding exchange_fault
   kept Flooding e w = refl
   kept CheckSerial e (inl w) = (none_exchanged_is x.graph x.order).1 w
   kept CheckSerial e (inr w) = absurd (let z : ◌≡◌ {A = ℕ} 0 1 = cc in omega arith)
 
   -- where both are passed the order is good
-  passed_good : names ≡ Done → exchange ≡ Done → OrderGood x
+  passed_good : names ≡ Ok tt → exchange ≡ Ok tt → OrderGood x
   unfolding exchange_fault
   passed_good n e =
       record {
@@ -138,7 +138,7 @@ module _ (edges : ℕ) (x : Shot) (l : DecodeLists) (others : OthersPass edges x
       }
 
   -- and the other way
-  good_passed : (s : Schedule) → x.settings.schedule ≡ s → OrderGood x → or_else names exchange ≡ Done
+  good_passed : (s : Schedule) → x.settings.schedule ≡ s → OrderGood x → or_else names exchange ≡ Ok tt
   good_passed s e good =
       or_second names exchange (names_taken x.graph.checks x.order good.names)
       ∙ ap (λ (t : Schedule). exchange_fault t x.graph x.order) e
@@ -151,9 +151,9 @@ module _ (edges : ℕ) (x : Shot) (l : DecodeLists) (others : OthersPass edges x
   -- not refused with 23 or 24: both are passed
   not_refused : (a b : Answer) → a ≡ names → b ≡ exchange → Names a → Exchange b → (refused_with given ≡ 23 → ⊥) → (refused_with given ≡ 24 → ⊥) → OrderGood x
   unfolding or_else
-  not_refused Done Done ea eb each free f g = passed_good (sym ea) (sym eb)
-  not_refused Done (Refused r) ea eb each (at c) f g = absurd (g (ap refused_with (answer_refused (OrderExchanged c) (rw (← ea) (sym eb)))))
-  not_refused (Refused r) b ea eb not_each w f g = absurd (f (ap refused_with (answer_refused OrderNotEachOnce (rw (← ea)))))
+  not_refused (Ok tt) (Ok tt) ea eb each free f g = passed_good (sym ea) (sym eb)
+  not_refused (Ok tt) (Err r) ea eb each (at c) f g = absurd (g (ap refused_with (answer_refused (OrderExchanged c) (rw (← ea) (sym eb)))))
+  not_refused (Err r) b ea eb not_each w f g = absurd (f (ap refused_with (answer_refused OrderNotEachOnce (rw (← ea)))))
 
   -- demand 3 of the call
   pub order_taken : ((refused_with given ≡ 23 → ⊥) × (refused_with given ≡ 24 → ⊥)) ↔ OrderGood x
@@ -166,7 +166,7 @@ module _ (edges : ℕ) (x : Shot) (l : DecodeLists) (others : OthersPass edges x
 
   -- 24's place, where each check is named once
   module _ (once : NamesOnce x.graph.checks x.order) (serial : x.settings.schedule ≡ CheckSerial) where
-    named : names ≡ Done
+    named : names ≡ Ok tt
     named = names_taken x.graph.checks x.order once
 
     -- what is left of the tests
@@ -175,12 +175,12 @@ module _ (edges : ℕ) (x : Shot) (l : DecodeLists) (others : OthersPass edges x
     left_24 = or_second names exchange named ∙ ap (λ (t : Schedule). exchange_fault t x.graph x.order) serial
 
     placed : (c : ℕ) (b : Answer) → b ≡ exchanged (check_entries x.graph) [] x.order → Exchange b → given ≡ Decoded.Refused (OrderExchanged c)
-        → exchanged (check_entries x.graph) [] x.order ≡ Refused (OrderExchanged c)
-    placed c Done e free h = absurd (passed_other 24 (left_24 ∙ sym e) (ap refused_with h) (λ z. omega arith) (λ z. omega arith))
-    placed c (Refused r) e (at d) h =
+        → exchanged (check_entries x.graph) [] x.order ≡ Err (OrderExchanged c)
+    placed c (Ok tt) e free h = absurd (passed_other 24 (left_24 ∙ sym e) (ap refused_with h) (λ z. omega arith) (λ z. omega arith))
+    placed c (Err r) e (at d) h =
         let q : given ≡ Decoded.Refused (OrderExchanged d) = answer_refused (OrderExchanged d) (left_24 ∙ sym e) in
         let s : d ≡ c = cc in
-        sym e ∙ ap (λ (k : ℕ). Refused (OrderExchanged k)) s
+        sym e ∙ ap (λ (k : ℕ). Err (OrderExchanged k)) s
 
     pub exchange_placed : (c : ℕ) → (given ≡ Decoded.Refused (OrderExchanged c)) ↔ FirstLate x.graph x.order c
     exchange_placed c = (

@@ -6,7 +6,7 @@ use mathlib.Core.List.{List}
 use lib.Ieee.{Float, binary64, fits}
 use Rattle.numbers.proofs.Cases.{and_both}
 use Rattle.numbers.proofs.Loops.{every_at, every_true}
-use Rattle.refusals.specs.declared.Answer.TheVariants.{Done}
+use Rattle.std.specs.Prelude.{Ok}
 use Rattle.refusals.proofs.Tests.{or_done, unless_done}
 use Rattle.graph_lists.specs.Graph.{Graph}
 use Rattle.graph_lists.specs.Messages.{by_place}
@@ -17,7 +17,7 @@ use Rattle.relay_step.proofs.Tame.{iteration_finite}
 use Rattle.relay_calls.specs.Calls.{StepLists, finite_at, all_finite, state_finite, step_fault}
 
 pub step_fine : (edges : ℕ) (prior : List Float) (g : Graph) (schedule : Schedule) (alpha limit : Float) (gamma : List Float) (syndrome order : List ℕ) (l : StepLists)
-    → fits binary64 alpha ≡ true → step_fault edges prior g alpha (On limit) gamma syndrome order l ≡ Done
+    → fits binary64 alpha ≡ true → step_fault edges prior g alpha (On limit) gamma syndrome order l ≡ Ok tt
     → all_finite (iteration schedule by_place g alpha (On limit) syndrome prior gamma order l.now).c_to_v ≡ true
 unfolding step_fault state_finite all_finite finite_at
 step_fine edges prior g schedule alpha limit gamma syndrome order l fit h =

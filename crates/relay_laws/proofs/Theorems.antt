@@ -16,7 +16,7 @@ use Rattle.numbers.proofs.Cases.{less_or_not}
 use Rattle.numbers.proofs.Order.{eq_le, lt_not_le}
 use Rattle.numbers.proofs.Sizes.{Within}
 use Rattle.refusals.specs.declared.Refusal.TheVariants.{OrderExchanged, TooManyStores}
-use Rattle.refusals.specs.declared.Answer.TheVariants.{Done, Refused}
+use Rattle.std.specs.Prelude.{Ok, Err}
 use Rattle.refusals.proofs.Tests.{or_done}
 use Rattle.graph_lists.specs.Graph.{Graph, var_entries}
 use Rattle.graph_lists.specs.Model.{is_graph}
@@ -115,14 +115,14 @@ module _ (edges : ℕ) (x : Shot) (l : DecodeLists) where
       }
 
   -- `leg_record` of the leg lists that an answered decode leaves gives back each executed leg's record, and of each leg that was not executed that it was not
-  pub leg_records_back : (summary_of (decode_in_order edges x l).answer).refusal ≡ Done → LegsRead (decode_in_order edges x l)
+  pub leg_records_back : (summary_of (decode_in_order edges x l).answer).refusal ≡ Ok tt → LegsRead (decode_in_order edges x l)
   leg_records_back h = let b = run_behind edges x l h in subst LegsRead (sym b.outcome) (run_read b.run b.ended)
 
 -- ---- the best of the legs
 
 module _ (edges : ℕ) (x : Shot) (l : DecodeLists) where
   -- after a run
-  run_best : (run : Run) → decode_fault edges x l ≡ Done → decode_legs by_place x ≡ decoded run → BestOfLegs (filed x (answered run (decode_stores by_place x) run.best_weight) (left_by edges x run l))
+  run_best : (run : Run) → decode_fault edges x l ≡ Ok tt → decode_legs by_place x ≡ decoded run → BestOfLegs (filed x (answered run (decode_stores by_place x) run.best_weight) (left_by edges x run l))
   unfolding decode_fault
   run_best run t e =
       let g = or_done _ _ t in
@@ -134,13 +134,13 @@ module _ (edges : ℕ) (x : Shot) (l : DecodeLists) where
 
   -- "Show over the recorded legs, graph and syndrome, not the run": whatever the contract of `decode_in_order` allows, if it is an answer, it is the best of the legs that it
   -- leaves records of
-  pub best_of_legs : (a : Decoded) (left : DecodeLists) → decode_outcome a left ≡ decode_in_order edges x l → (summary_of a).refusal ≡ Done → BestOfLegs (filed x a left)
+  pub best_of_legs : (a : Decoded) (left : DecodeLists) → decode_outcome a left ≡ decode_in_order edges x l → (summary_of a).refusal ≡ Ok tt → BestOfLegs (filed x a left)
   best_of_legs a left e h =
       let b = run_behind edges x l (ap (λ (o : DecodeOutcome). (summary_of o.answer).refusal) (sym e) ∙ h) in
       subst (λ (o : DecodeOutcome). BestOfLegs (filed x o.answer o.left)) (sym b.outcome ∙ sym e) (run_best b.run b.passed b.ended)
 
 -- and so of `decode`
-pub decode_best_of_legs : (edges : ℕ) (x : Shot) (l : DecodeLists) (a : Decoded) (left : DecodeLists) → decode_outcome a left ≡ decode edges x l → (summary_of a).refusal ≡ Done
+pub decode_best_of_legs : (edges : ℕ) (x : Shot) (l : DecodeLists) (a : Decoded) (left : DecodeLists) → decode_outcome a left ≡ decode edges x l → (summary_of a).refusal ≡ Ok tt
     → BestOfLegs (filed x a left)
 unfolding decode
 decode_best_of_legs edges x l a left e h = best_of_legs edges (with_order x (upto x.graph.checks)) l a left e h
@@ -195,7 +195,7 @@ pub iteration_writes : (schedule : Schedule) (g : Graph) → is_graph g ≡ true
     → (counted_iteration schedule by_place g alpha clip syndrome prior gamma order s).stores ≡ s.stores + stores_each schedule g
 iteration_writes schedule g is = let sound = passes_sound g is in iteration_stores schedule by_place g sound (by_place_full g sound)
 
-module _ (edges : ℕ) (x : Shot) (l : DecodeLists) (a : Decoded) (left : DecodeLists) (e : decode_outcome a left ≡ decode_in_order edges x l) (h : (summary_of a).refusal ≡ Done) where
+module _ (edges : ℕ) (x : Shot) (l : DecodeLists) (a : Decoded) (left : DecodeLists) (e : decode_outcome a left ≡ decode_in_order edges x l) (h : (summary_of a).refusal ≡ Ok tt) where
   -- the run behind the answer
   behind : RunBehind edges x l
   behind = run_behind edges x l (ap (λ (o : DecodeOutcome). (summary_of o.answer).refusal) (sym e) ∙ h)
@@ -221,13 +221,13 @@ module _ (edges : ℕ) (x : Shot) (l : DecodeLists) (a : Decoded) (left : Decode
       ∙ ap (stores_at x.settings.schedule x.graph) (sym total)
 
 -- and so of `decode`
-pub decode_stores_by_formula : (edges : ℕ) (x : Shot) (l : DecodeLists) (a : Decoded) (left : DecodeLists) → decode_outcome a left ≡ decode edges x l → (summary_of a).refusal ≡ Done
+pub decode_stores_by_formula : (edges : ℕ) (x : Shot) (l : DecodeLists) (a : Decoded) (left : DecodeLists) → decode_outcome a left ≡ decode edges x l → (summary_of a).refusal ≡ Ok tt
     → (summary_of a).stores ≡ stores_at x.settings.schedule x.graph (summary_of a).total_iterations
 unfolding decode
 decode_stores_by_formula edges x l = stores_by_formula edges (with_order x (upto x.graph.checks)) l
 
 -- "29, exactly when the formula at pre plus legs times leg iterations passes 2^64 - 1"
-pub stores_refused : (t : Settings) (g : Graph) → (stores_fault t g ≡ Refused TooManyStores) ↔ (max_stores < stores_at t.schedule g (most_iterations t))
+pub stores_refused : (t : Settings) (g : Graph) → (stores_fault t g ≡ Err TooManyStores) ↔ (max_stores < stores_at t.schedule g (most_iterations t))
 stores_refused = fault_when
 
 -- ---- the clip
@@ -283,12 +283,12 @@ iteration_clipped schedule g alpha limit syndrome prior gamma order s good able 
 -- of the call: past its tests, all check messages that the step makes are finite, in every order that 23 takes. So with a clip its 30 comes from a posterior or from a
 -- message to a check
 pub step_check_messages : (edges : ℕ) (prior : List Float) (g : Graph) (schedule : Schedule) (alpha limit : Float) (gamma : List Float) (syndrome order : List ℕ)
-    (l : StepLists) → fits binary64 alpha ≡ true → step_fault edges prior g alpha (On limit) gamma syndrome order l ≡ Done
+    (l : StepLists) → fits binary64 alpha ≡ true → step_fault edges prior g alpha (On limit) gamma syndrome order l ≡ Ok tt
     → all_finite (iteration schedule by_place g alpha (On limit) syndrome prior gamma order l.now).c_to_v ≡ true
 step_check_messages = step_fine
 
 -- and so does a leg of a decode, from its start, where they are 0, whatever posterior it is handed
-pub leg_clipped : (x : Shot) (limit : Float) → settings_fault x.settings x.graph.mechanisms x.gammas ≡ Done → x.settings.clip ≡ On limit
+pub leg_clipped : (x : Shot) (limit : Float) → settings_fault x.settings x.graph.mechanisms x.gammas ≡ Ok tt → x.settings.clip ≡ On limit
     → fits binary64 x.settings.alpha ≡ true → (r : ℕ) (posterior : List Float) → Tame limit (executed_leg by_place x r posterior).left.c_to_v
 leg_clipped x limit told on fit = executed_tame x limit on fit told
 
@@ -296,7 +296,7 @@ leg_clipped x limit told on fit = executed_tame x limit on fit told
 
 -- every gamma that a leg may use is within 1 where gamma0 is, and the ends of a seeded source's interval, or each gamma of an explicit one: so are drawn ones, each of whose
 -- operations rounds
-pub gammas_by_settings : (x : Shot) → settings_fault x.settings x.graph.mechanisms x.gammas ≡ Done → Within x.settings.gamma0 1
+pub gammas_by_settings : (x : Shot) → settings_fault x.settings x.graph.mechanisms x.gammas ≡ Ok tt → Within x.settings.gamma0 1
     → SourceWithin x.settings.gamma_source x.settings.gamma_low x.settings.gamma_high x.gammas → GammasWithin x 1
 gammas_by_settings = gammas_within
 
@@ -309,38 +309,38 @@ published_within flat = (omega arith, (omega arith, omega arith))
 module _ (edges : ℕ) (x : Shot) (l : DecodeLists) (limit : Float) (on : x.settings.clip ≡ On limit) (fit : fits binary64 x.settings.alpha ≡ true) where
   -- A posterior starts at its prior, which is within 30, and where gammas are within 1 an iteration adds at most 60 + degree * clip to its size. So a decode that passes
   -- its tests, with a clip within c and degrees of at most d, is not refused while 30 + (pre + legs * leg iterations) * (60 + d * c) is below 2^53
-  pub clip_keeps_from_30 : decode_fault edges x l ≡ Done → GammasWithin x 1 → (c d : ℕ) → Within limit c
+  pub clip_keeps_from_30 : decode_fault edges x l ≡ Ok tt → GammasWithin x 1 → (c d : ℕ) → Within limit c
       → ((v : ℕ) → v < x.graph.mechanisms → length (var_entries x.graph v) ≤ d) → 30 + most_iterations x.settings * (60 + d * c) < 2 ^ 53
-      → (summary_of (decode_in_order edges x l).answer).refusal ≡ Done
+      → (summary_of (decode_in_order edges x l).answer).refusal ≡ Ok tt
   clip_keeps_from_30 passed = bounded_answered edges x l passed limit on fit
 
   -- by the limits of models and settings that always is so with a clip of at most 31: so with a clip, 30 comes from a gamma beyond 1 or a clip beyond 31 alone
-  pub clip_31_keeps_from_30 : decode_fault edges x l ≡ Done → GammasWithin x 1 → Within limit 31 → (summary_of (decode_in_order edges x l).answer).refusal ≡ Done
+  pub clip_31_keeps_from_30 : decode_fault edges x l ≡ Ok tt → GammasWithin x 1 → Within limit 31 → (summary_of (decode_in_order edges x l).answer).refusal ≡ Ok tt
   clip_31_keeps_from_30 passed = always_answered edges x l passed limit on fit
 
   -- and so of `decode`, which passes its tests where the index order does
-  pub decode_clip_keeps_from_30 : decode_fault edges (with_order x (upto x.graph.checks)) l ≡ Done → GammasWithin x 1 → (c d : ℕ) → Within limit c
+  pub decode_clip_keeps_from_30 : decode_fault edges (with_order x (upto x.graph.checks)) l ≡ Ok tt → GammasWithin x 1 → (c d : ℕ) → Within limit c
       → ((v : ℕ) → v < x.graph.mechanisms → length (var_entries x.graph v) ≤ d) → 30 + most_iterations x.settings * (60 + d * c) < 2 ^ 53
-      → (summary_of (decode edges x l).answer).refusal ≡ Done
+      → (summary_of (decode edges x l).answer).refusal ≡ Ok tt
   unfolding decode
   decode_clip_keeps_from_30 passed = bounded_answered edges (with_order x (upto x.graph.checks)) l passed limit on fit
 
   -- with a clip of at most 31
-  pub decode_clip_31_keeps_from_30 : decode_fault edges (with_order x (upto x.graph.checks)) l ≡ Done → GammasWithin x 1 → Within limit 31
-      → (summary_of (decode edges x l).answer).refusal ≡ Done
+  pub decode_clip_31_keeps_from_30 : decode_fault edges (with_order x (upto x.graph.checks)) l ≡ Ok tt → GammasWithin x 1 → Within limit 31
+      → (summary_of (decode edges x l).answer).refusal ≡ Ok tt
   unfolding decode
   decode_clip_31_keeps_from_30 passed = always_answered edges (with_order x (upto x.graph.checks)) l passed limit on fit
 
   -- which is read off the settings: gamma0 and the source within 1, and the clip within 31
-  pub settings_keep_from_30 : decode_fault edges x l ≡ Done → Within limit 31 → Within x.settings.gamma0 1
+  pub settings_keep_from_30 : decode_fault edges x l ≡ Ok tt → Within limit 31 → Within x.settings.gamma0 1
       → SourceWithin x.settings.gamma_source x.settings.gamma_low x.settings.gamma_high x.gammas
-      → (summary_of (decode_in_order edges x l).answer).refusal ≡ Done
+      → (summary_of (decode_in_order edges x l).answer).refusal ≡ Ok tt
   settings_keep_from_30 passed clip first source = always_answered edges x l passed limit on fit (gammas_within x (settled edges x l passed) first source) clip
 
   -- and so of `decode`
-  pub decode_settings_keep_from_30 : decode_fault edges (with_order x (upto x.graph.checks)) l ≡ Done → Within limit 31 → Within x.settings.gamma0 1
+  pub decode_settings_keep_from_30 : decode_fault edges (with_order x (upto x.graph.checks)) l ≡ Ok tt → Within limit 31 → Within x.settings.gamma0 1
       → SourceWithin x.settings.gamma_source x.settings.gamma_low x.settings.gamma_high x.gammas
-      → (summary_of (decode edges x l).answer).refusal ≡ Done
+      → (summary_of (decode edges x l).answer).refusal ≡ Ok tt
   unfolding decode
   decode_settings_keep_from_30 passed clip first source =
       let y = with_order x (upto x.graph.checks) in

@@ -9,7 +9,7 @@ use lib.Ieee.{Float}
 use borrow.Author.Tests.{leb-false, lt-leb}
 use Rattle.numbers.specs.Loops.{turns}
 use Rattle.refusals.specs.declared.Refusal.TheVariants.{TooManyStores}
-use Rattle.refusals.specs.declared.Answer.TheVariants.{Refused}
+use Rattle.std.specs.Prelude.{Err}
 use Rattle.refusals.specs.Tests.{unless}
 use Rattle.refusals.proofs.Tests.{unless_refused_lem}
 use Rattle.graph_lists.specs.Graph.{Graph}
@@ -68,7 +68,7 @@ leg_state_lem x r posterior =
 -- ---- 29
 
 -- it refuses just where the formula is above 2^64 - 1
-pub fault_when : (t : Settings) (g : Graph) → (stores_fault t g ≡ Refused TooManyStores) ↔ (max_stores < stores_at t.schedule g (most_iterations t))
+pub fault_when : (t : Settings) (g : Graph) → (stores_fault t g ≡ Err TooManyStores) ↔ (max_stores < stores_at t.schedule g (most_iterations t))
 unfolding stores_fault unless
 fault_when t g = (
   λ e. leb-false (stores_at t.schedule g (most_iterations t)) max_stores (unless_refused_lem _ TooManyStores e),

@@ -1,7 +1,7 @@
 -- What demand 3 asks of an order, and what a decode is refused with. Definitions only. Assumes nothing.
 use Rattle.std.specs.Prelude.{ℕ, ◌≡◌}
 use Rattle.numbers.specs.Loops.{upto}
-use Rattle.refusals.specs.declared.Answer.TheVariants.{Done}
+use Rattle.std.specs.Prelude.{Ok}
 use Rattle.refusals.specs.Refusal.{answer_number}
 use Rattle.relay_settings.specs.declared.Schedule.TheVariants.{CheckSerial}
 use Rattle.relay_orders.specs.Order.{NamesOnce, KeepsOrder}
@@ -20,4 +20,4 @@ refused_with d = answer_number (summary_of d).refusal
 
 -- all tests of `decode_in_order` but 23 and 24 are passed: in index order, which 23 and 24 always take, it is not refused
 abbrev pub OthersPass : ℕ → Shot → DecodeLists → Type 0
-OthersPass edges x l = decode_fault edges (with_order x (upto x.graph.checks)) l ≡ Done
+OthersPass edges x l = decode_fault edges (with_order x (upto x.graph.checks)) l ≡ Ok tt

@@ -15,7 +15,7 @@ use Rattle.numbers.specs.Loops.{part, row}
 use Rattle.numbers.proofs.Cases.{either_way}
 use Rattle.numbers.proofs.Loops.{foldl_take}
 use Rattle.refusals.specs.declared.Refusal.TheVariants.{OrderExchanged}
-use Rattle.refusals.specs.declared.Answer.TheVariants.{Done, Refused}
+use Rattle.std.specs.Prelude.{Ok, Err}
 use Rattle.graph_lists.specs.Lists.{has}
 use Rattle.graph_lists.specs.Sound.{Keys}
 use Rattle.relay_orders.specs.Order.{count, names_once, any_of, shares, above, late, exchanged}
@@ -280,13 +280,13 @@ unfolding exchanged
 exchange_turn entries order i c h e l = rw (add-one, take-suc order i 0 h, drop-cons order i 0 h, ← e, l)
 
 -- its end, where nothing is late
-pub exchange_done : (entries : ℕ → List ℕ) (order : List ℕ) (i : ℕ) → length order ≤ i → Done ≡ exchanged entries (take i order) (drop i order)
+pub exchange_done : (entries : ℕ → List ℕ) (order : List ℕ) (i : ℕ) → length order ≤ i → (Ok tt) ≡ exchanged entries (take i order) (drop i order)
 unfolding exchanged
 exchange_done entries order i h = rw (drop_of_length-le order h)
 
 -- or where a check is
 pub exchange_found : (entries : ℕ → List ℕ) (order : List ℕ) (i c : ℕ) → i < length order → c ≡ get_or order i 0 → late entries (take i order) c ≡ true
-    → Refused (OrderExchanged c) ≡ exchanged entries (take i order) (drop i order)
+    → Err (OrderExchanged c) ≡ exchanged entries (take i order) (drop i order)
 unfolding exchanged
 exchange_found entries order i c h e l = rw (drop-cons order i 0 h, ← e, l)
 
@@ -326,7 +326,7 @@ module _ (off mech order last : List ℕ) (i c a e next : ℕ) (h : i < length o
       o ∙ ap (overtaken next last) part_is ∙ ap (λ y. overtaken y last (entries c)) x ∙ overtaken_is entries (take i order) last c t (all_places _ m'.small)
 
   -- a late one is the answer
-  pub test_found : (b : Bool) → b ≡ overtaken next last (part a e mech) → Keys 65536 (part a e mech) → b ≡ true → Refused (OrderExchanged c) ≡ exchanged entries (take i order) (drop i order)
+  pub test_found : (b : Bool) → b ≡ overtaken next last (part a e mech) → Keys 65536 (part a e mech) → b ≡ true → Err (OrderExchanged c) ≡ exchanged entries (take i order) (drop i order)
   test_found b o m y = exchange_found entries order i c h q (sym (found_late b o m) ∙ y)
 
   -- after another the search goes on

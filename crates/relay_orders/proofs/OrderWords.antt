@@ -14,8 +14,8 @@ use borrow.Author.Tests.{ltb-true, ltb-false, eq-eqb, ne_eqb}
 use Rattle.numbers.specs.Loops.{upto}
 use Rattle.numbers.proofs.Loops.{length_table, get_or_table}
 use Rattle.refusals.specs.declared.Refusal.TheVariants.{OrderExchanged}
-use Rattle.refusals.specs.declared.Answer.{Answer}
-use Rattle.refusals.specs.declared.Answer.TheVariants.{Done, Refused}
+use Rattle.refusals.specs.Refusal.{Answer}
+use Rattle.std.specs.Prelude.{Ok, Err}
 use Rattle.graph_lists.specs.Lists.{has}
 use Rattle.graph_lists.specs.Graph.{Graph, check_entries}
 use Rattle.relay_settings.specs.declared.Schedule.{Schedule}
@@ -71,11 +71,11 @@ module _ (g : Graph) (order : List ℕ) where
       ap From (sym (add-one i)) ∙ exchange_turn entries order i (get_or order i 0) h refl (f i (omega arith)) ∙ still i (omega arith) (λ j l. f j (omega arith))
 
   -- none is late: the search ends without one
-  pub none_late : ((j : ℕ) → j < length order → Late j ≡ false) → exchanged entries [] order ≡ Done
+  pub none_late : ((j : ℕ) → j < length order → Late j ≡ false) → exchanged entries [] order ≡ Ok tt
   none_late f = sym (still (length order) (omega arith) f) ∙ sym (exchange_done entries order (length order) (omega arith))
 
   -- a first one is: the search answers it
-  pub first_late : (c : ℕ) → FirstLate g order c → exchanged entries [] order ≡ Refused (OrderExchanged c)
+  pub first_late : (c : ℕ) → FirstLate g order c → exchanged entries [] order ≡ Err (OrderExchanged c)
   first_late c w =
       sym (still w.place (omega (arith, w.inside)) w.earlier) ∙ sym (exchange_found entries order w.place c w.inside (sym w.named) w.is_late)
 
@@ -100,13 +100,13 @@ module _ (g : Graph) (order : List ℕ) where
   searched (suc n) = search_on n (Late n) refl (searched n)
 
   -- 24's place is what the reference says
-  pub exchanged_is : (c : ℕ) → (exchanged entries [] order ≡ Refused (OrderExchanged c)) ↔ FirstLate g order c
+  pub exchanged_is : (c : ℕ) → (exchanged entries [] order ≡ Err (OrderExchanged c)) ↔ FirstLate g order c
   exchanged_is c = (λ e. go e (searched (length order)), first_late c)
     where
       same : (d : ℕ) → FirstLate g order d → d ≡ c → FirstLate g order c
       same d w q = subst (FirstLate g order) q w
 
-      go : exchanged entries [] order ≡ Refused (OrderExchanged c) → Searched (length order) → FirstLate g order c
+      go : exchanged entries [] order ≡ Err (OrderExchanged c) → Searched (length order) → FirstLate g order c
       go e (clear f) = absurd (let n = none_late f in let z : ◌≡◌ {A = ℕ} 0 1 = cc in omega arith)
       go e (met i h l f) =
           let w : FirstLate g order (get_or order i 0) = record { place = i; inside = h; named = refl; is_late = l; earlier = f } in
@@ -147,10 +147,10 @@ module _ (g : Graph) (order : List ℕ) where
       go false p q = ltb-false (get_or order j 0) (get_or order i 0) p
 
   -- nothing is exchanged just where any two checks that share a mechanism keep their index order
-  pub none_exchanged_is : (exchanged entries [] order ≡ Done) ↔ KeepsOrder g order
+  pub none_exchanged_is : (exchanged entries [] order ≡ Ok tt) ↔ KeepsOrder g order
   none_exchanged_is = (λ e. record { keeps = λ i j l h. not_late j h (go e (searched (length order)) j h) i l }, λ k. none_late (λ j h. late_is j h (λ i l. k.keeps i j l h)))
     where
-      go : exchanged entries [] order ≡ Done → Searched (length order) → (j : ℕ) → j < length order → Late j ≡ false
+      go : exchanged entries [] order ≡ Ok tt → Searched (length order) → (j : ℕ) → j < length order → Late j ≡ false
       go e (clear f) = f
       go e (met i h l f) =
           let n = first_late (get_or order i 0) (record { place = i; inside = h; named = refl; is_late = l; earlier = f }) in
@@ -186,7 +186,7 @@ upto_keeps g n =
     record { keeps = λ i j m h s. omega (arith, upto_at n i (omega arith), upto_at n j (omega arith)) }
 
 -- the index order passes 24, whatever the schedule
-pub index_taken : (schedule : Schedule) (g : Graph) → exchange_fault schedule g (upto g.checks) ≡ Done
+pub index_taken : (schedule : Schedule) (g : Graph) → exchange_fault schedule g (upto g.checks) ≡ Ok tt
 unfolding exchange_fault
 index_taken Flooding g = refl
 index_taken CheckSerial g = (none_exchanged_is g (upto g.checks)).1 (upto_keeps g g.checks)

@@ -2,8 +2,8 @@
 use Rattle.std.specs.Prelude.{ℕ, suc, ◌<◌, ◌≤◌, ◌≡◌, Bool, true, false, ◌&&◌, ◌||◌, cond, List, [], ◌∷◌, ◌++◌, eqb, ltb, length, get_or, take}
 use Rattle.numbers.specs.Loops.{every}
 use Rattle.refusals.specs.declared.Refusal.TheVariants.{OrderNotEachOnce, OrderExchanged}
-use Rattle.refusals.specs.declared.Answer.{Answer}
-use Rattle.refusals.specs.declared.Answer.TheVariants.{Done, Refused}
+use Rattle.refusals.specs.Refusal.{Answer}
+use Rattle.std.specs.Prelude.{Ok, Err}
 use Rattle.refusals.specs.Tests.{unless}
 use Rattle.graph_lists.specs.Lists.{has}
 use Rattle.graph_lists.specs.Graph.{Graph, check_entries}
@@ -42,8 +42,8 @@ late entries before c = any_of (above entries c) before
 
 -- the first check that is late, of those that are left after the ones named before
 unfoldable pub exchanged : (ℕ → List ℕ) → List ℕ → List ℕ → Answer
-exchanged entries before [] = Done
-exchanged entries before (c ∷ rest) = cond (late entries before c) (Refused (OrderExchanged c)) (exchanged entries (before ++ (c ∷ [])) rest)
+exchanged entries before [] = (Ok tt)
+exchanged entries before (c ∷ rest) = cond (late entries before c) (Err (OrderExchanged c)) (exchanged entries (before ++ (c ∷ [])) rest)
 
 -- the test 23
 unfoldable pub names_fault : ℕ → List ℕ → Answer
@@ -51,7 +51,7 @@ names_fault checks order = unless (names_once checks order) OrderNotEachOnce
 
 -- the test 24: Flooding takes any order
 unfoldable pub exchange_fault : Schedule → Graph → List ℕ → Answer
-exchange_fault Flooding g order = Done
+exchange_fault Flooding g order = (Ok tt)
 exchange_fault CheckSerial g order = exchanged (check_entries g) [] order
 
 -- ---- the same in the reference's words, by place: `relay`'s `Theorems` ties the tests to them, by proofs/OrderWords.antt

@@ -11,7 +11,7 @@ ghost use Rattle.relay_orders.specs.Marks.{marked_at, overtaken};
 
 use graph_lists::indices::at;
 use numbers::limits::{MAX_CHECKS, MAX_MECHANISMS};
-use refusals::{Answer, Refusal};
+use refusals::Refusal;
 use relay_settings::Schedule;
 
 // Whether the order names each check once.
@@ -39,14 +39,14 @@ fn names_each_once(checks: usize, order: &[u32]) -> bool
 }
 
 // Test 23.
-pub fn names_fault(checks: usize, order: &[u32]) -> Answer
+pub fn names_fault(checks: usize, order: &[u32]) -> Result<(), Refusal>
     requires { checks ≤ max_checks }
     ensures { result ≡ names_fault checks order.now }
 {
     if names_each_once(checks, order) {
-        return Answer::Done;
+        return Ok(());
     }
-    Answer::Refused(Refusal::OrderNotEachOnce)
+    Err(Refusal::OrderNotEachOnce)
 }
 
 // Whether a mechanism of these entries was last named by a check above c. `last` has that check for
@@ -80,7 +80,7 @@ fn mark(c: u16, entries: &[u32], last: &mut [u16; MAX_MECHANISMS])
 }
 
 // The first check in the order that shares a mechanism with a higher one named before it.
-fn exchanged_check(checks: usize, check_var: &[u32], check_offset: &[u32], order: &[u32]) -> Answer
+fn exchanged_check(checks: usize, check_var: &[u32], check_offset: &[u32], order: &[u32]) -> Result<(), Refusal>
     requires checks_le_max_checks { checks ≤ max_checks }
     requires offsets { Offsets checks (length check_var.now) check_offset.now }
     requires keys { Keys max_mechanisms check_var.now }
@@ -95,12 +95,12 @@ fn exchanged_check(checks: usize, check_var: &[u32], check_offset: &[u32], order
         let end = at(check_offset, c + 1);
         let short = c as u16;
         if is_overtaken(short, &check_var[start..end], &last) {
-            return Answer::Refused(Refusal::OrderExchanged(c));
+            return Err(Refusal::OrderExchanged(c));
         }
         mark(short, &check_var[start..end], &mut last);
         i += 1;
     }
-    Answer::Done
+    Ok(())
 }
 
 // Whether the order is the index order, which is always taken: the usual case, with no marks.
@@ -127,7 +127,7 @@ pub fn exchange_fault(
     check_var: &[u32],
     check_offset: &[u32],
     order: &[u32],
-) -> Answer
+) -> Result<(), Refusal>
     requires checks_le_max_checks { checks ≤ max_checks }
     requires offsets { Offsets checks (length check_var.now) check_offset.now }
     requires keys { Keys max_mechanisms check_var.now }
@@ -136,7 +136,7 @@ pub fn exchange_fault(
         result ≡ exchange_fault schedule g order.now }
 {
     match schedule {
-        Schedule::Flooding => Answer::Done,
+        Schedule::Flooding => Ok(()),
         Schedule::CheckSerial => exchanged_check(checks, check_var, check_offset, order),
     }
 }

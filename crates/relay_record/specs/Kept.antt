@@ -6,8 +6,8 @@ use Rattle.std.specs.Float.Ieee.{lt}
 use Rattle.numbers.specs.Limits.{max_mechanisms, max_count}
 use Rattle.numbers.specs.Floats.{zero⁺}
 use Rattle.numbers.specs.Loops.{spliced}
-use Rattle.refusals.specs.declared.Answer.{Answer}
-use Rattle.refusals.specs.declared.Answer.TheVariants.{Done, Refused}
+use Rattle.refusals.specs.Refusal.{Answer}
+use Rattle.std.specs.Prelude.{Ok, Err}
 use Rattle.refusals.specs.declared.Refusal.TheVariants.{LentListLength}
 use Rattle.refusals.specs.Tests.{unless, or_else}
 use Rattle.graph_lists.specs.Model.{graph_fault}
@@ -165,9 +165,9 @@ is_refused (Decoded.Refused r) = true
 
 -- what the code answers, from a test's answer and what it kept
 abbrev pub answer_by : Answer → Option Float → ℕ → ℕ → ℕ → Decoded
-answer_by (Refused r) best executed total stores = Decoded.Refused r
-answer_by Done none executed total stores = Decoded.NotConverged executed total stores
-answer_by Done (some weight) executed total stores = Decoded.Converged executed total stores weight
+answer_by (Err r) best executed total stores = Decoded.Refused r
+answer_by (Ok tt) none executed total stores = Decoded.NotConverged executed total stores
+answer_by (Ok tt) (some weight) executed total stores = Decoded.Converged executed total stores weight
 
 -- the result lists, of num_legs + 1 legs
 pub record Results : Type 0 where

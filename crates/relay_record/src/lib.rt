@@ -5,7 +5,7 @@ pub mod bytes;
 
 ghost use Rattle.std.specs.Prelude.{◌≡◌, true, ◌||◌, not, cond, suc, ◌+◌, ◌*◌, ◌<◌, ◌≤◌, leb, length, set, replicate};
 ghost use Rattle.numbers.specs.Limits.{max_count};
-ghost use Rattle.refusals.specs.declared.Answer.TheVariants.{Done};
+ghost use Rattle.std.specs.Prelude.{Ok};
 ghost use Rattle.refusals.specs.Tests.{is_done};
 ghost use Rattle.relay_step.specs.Leg.{correction_weight};
 ghost use Rattle.relay_stores.specs.Stores.{max_stores};
@@ -14,7 +14,7 @@ ghost use Rattle.relay_calls.specs.Decode.{is_none_or};
 ghost use Rattle.relay_record.specs.Kept.{best_of, best_after, corrected, answer_by};
 
 use bytes::{clear_bytes, copy_bytes};
-use refusals::Answer;
+use refusals::Refusal;
 use refusals_tests::is_done;
 use relay_calls::Decoded;
 use relay_step::leg::{Leg, correction_weight};
@@ -202,7 +202,7 @@ pub fn answer_run(
 
 // What is answered after a leg that is the last: 30, or the run.
 pub fn answer(
-    a: Answer,
+    a: Result<(), Refusal>,
     found: bool,
     weight: f64,
     executed_legs: usize,
@@ -213,13 +213,13 @@ pub fn answer(
     ensures { result ≡ answer_by a (best_of found weight) executed_legs total_iterations (total_iterations * each) }
 {
     match a {
-        Answer::Refused(r) => Decoded::Refused(r),
-        Answer::Done => answer_run(found, weight, executed_legs, total_iterations, each),
+        Err(r) => Decoded::Refused(r),
+        Ok(()) => answer_run(found, weight, executed_legs, total_iterations, each),
     }
 }
 
 // No leg follows: 30, or enough have converged.
-pub fn ends(a: Answer, stop: usize, num_converged: usize) -> bool
+pub fn ends(a: Result<(), Refusal>, stop: usize, num_converged: usize) -> bool
     ensures { result ≡ (not (is_done a) || leb stop num_converged) }
 {
     if !is_done(a) {

@@ -9,7 +9,7 @@ use lib.Ieee.{Float}
 use lib.ListN.{length}
 use borrow.Author.Tests.{eqb-true, leb-true}
 use Rattle.numbers.proofs.Cases.{and_both}
-use Rattle.refusals.specs.declared.Answer.TheVariants.{Done}
+use Rattle.std.specs.Prelude.{Ok}
 use Rattle.refusals.proofs.Tests.{or_done, unless_done}
 use Rattle.relay_settings.specs.declared.GammaSource.TheVariants.{Explicit}
 use Rattle.relay_settings.specs.declared.Settings.{Settings}
@@ -34,7 +34,7 @@ module _ (t : Settings) (m : ℕ) (flat : List Float) where
       go false e q = absurd (let z = eqb-true legs 0 q in omega (arith, z, k))
 
   -- read off the tests
-  pub settings_told : settings_fault t m flat ≡ Done → SettingsTold
+  pub settings_told : settings_fault t m flat ≡ Ok tt → SettingsTold
   unfolding settings_fault pre_good leg_iterations_good sets_good source_fault
   settings_told h =
       let a0 = or_done _ _ h in
@@ -56,7 +56,7 @@ module _ (t : Settings) (m : ℕ) (flat : List Float) where
         sets_many = λ k sets e. sets_told sets k (ap (λ s. source_fault s t.num_legs m flat) (sym e) ∙ a7.1);
       }
     where
-      sets_told : (sets : ℕ) → 0 < t.num_legs → source_fault (Explicit sets) t.num_legs m flat ≡ Done → (0 < sets) × (length flat ≡ sets * m)
+      sets_told : (sets : ℕ) → 0 < t.num_legs → source_fault (Explicit sets) t.num_legs m flat ≡ Ok tt → (0 < sets) × (length flat ≡ sets * m)
       sets_told sets k d =
           let b1 = or_done _ _ d in
           let b2 = or_done _ _ b1.1 in

@@ -5,8 +5,8 @@ use Rattle.std.specs.Float.Ieee.{of_bits, lt, le}
 use Rattle.numbers.specs.Limits.{max_mechanisms, max_count}
 use Rattle.numbers.specs.Floats.{◌-ᶠ◌, zero⁺, one⁺, is_finite}
 use Rattle.refusals.specs.declared.Refusal.TheVariants.{SizeAboveLimit, BadClip, BadAlpha, BadGamma0, BadIterations, TooManyLegs, BadLegIterations, BadGammaInterval, BadStop, NoGammaSets, GammaSetsLength, GammaNotFinite}
-use Rattle.refusals.specs.declared.Answer.{Answer}
-use Rattle.refusals.specs.declared.Answer.TheVariants.{Done}
+use Rattle.refusals.specs.Refusal.{Answer}
+use Rattle.std.specs.Prelude.{Ok}
 use Rattle.refusals.specs.Tests.{unless, or_else, first_of}
 use Rattle.relay_settings.specs.declared.Settings.{Settings}
 use Rattle.relay_settings.specs.declared.Schedule.TheVariants.{Flooding}
@@ -68,7 +68,7 @@ gamma_fault gammas i = unless (is_finite (get_or gammas i nan)) (GammaNotFinite 
 -- 17, 18 and 19, of an explicit source alone: some set where there are legs; as many gammas as the sets have mechanisms; each finite.
 -- `gammas` is the flat list
 unfoldable pub source_fault : GammaSource → ℕ → ℕ → List Float → Answer
-source_fault (Seeded rule) legs mechanisms gammas = Done
+source_fault (Seeded rule) legs mechanisms gammas = (Ok tt)
 source_fault (Explicit sets) legs mechanisms gammas =
     or_else (unless (leb 1 sets || eqb legs 0) NoGammaSets)
     (or_else (unless (sets_good sets mechanisms (length gammas)) GammaSetsLength)

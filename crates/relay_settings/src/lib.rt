@@ -11,7 +11,7 @@ ghost use Rattle.relay_settings.specs.Settings.{source_fault, settings_fault};
 
 use numbers::is_finite;
 use numbers::limits::{MAX_COUNT, MAX_MECHANISMS};
-use refusals::{Answer, Refusal};
+use refusals::Refusal;
 use refusals_tests::{at_most, both, finite_positive, or_else, unless};
 
 // The order in which messages are passed within an iteration.
@@ -165,21 +165,21 @@ fn sets_good(sets: usize, mechanisms: usize, gammas: usize) -> bool
 }
 
 // 19: the first gamma that is not finite.
-fn gammas_fault(gammas: &[f64]) -> Answer
+fn gammas_fault(gammas: &[f64]) -> Result<(), Refusal>
     ensures { result ≡ first_of (length gammas.now) (gamma_fault gammas.now) }
 {
     let mut i = 0;
     while i < gammas.len() {
         if !is_finite(gammas[i]) {
-            return Answer::Refused(Refusal::GammaNotFinite(i));
+            return Err(Refusal::GammaNotFinite(i));
         }
         i += 1;
     }
-    Answer::Done
+    Ok(())
 }
 
 // 17, 18 and 19: an explicit source alone is looked at.
-fn source_fault(source: GammaSource, legs: usize, mechanisms: usize, gammas: &[f64]) -> Answer
+fn source_fault(source: GammaSource, legs: usize, mechanisms: usize, gammas: &[f64]) -> Result<(), Refusal>
     ensures { result ≡ source_fault source legs mechanisms gammas.now }
 {
     match source {
@@ -193,12 +193,12 @@ fn source_fault(source: GammaSource, legs: usize, mechanisms: usize, gammas: &[f
                 gammas_fault(gammas),
             ),
         ),
-        GammaSource::Seeded(_) => Answer::Done,
+        GammaSource::Seeded(_) => Ok(()),
     }
 }
 
 // 9, and `validate_config`: 10 to 19.
-fn settings_fault(t: Settings, mechanisms: usize, gammas: &[f64]) -> Answer
+fn settings_fault(t: Settings, mechanisms: usize, gammas: &[f64]) -> Result<(), Refusal>
     ensures { result ≡ settings_fault t mechanisms gammas.now }
 {
     let clip = t.clip;
@@ -232,7 +232,7 @@ fn settings_fault(t: Settings, mechanisms: usize, gammas: &[f64]) -> Answer
 }
 
 // 1, then 9 to 19. Without the size a place of 19 could pass 32 bits.
-pub fn check_settings(t: Settings, mechanisms: usize, gammas: &[f64]) -> Answer
+pub fn check_settings(t: Settings, mechanisms: usize, gammas: &[f64]) -> Result<(), Refusal>
     ensures { result ≡ check_settings t mechanisms gammas.now }
 {
     or_else(

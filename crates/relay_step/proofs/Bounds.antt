@@ -19,7 +19,7 @@ use Rattle.numbers.specs.Loops.{part, spliced}
 use Rattle.numbers.proofs.Cases.{less_or_not, equal_or_not}
 use Rattle.numbers.proofs.Loops.{get_or_table, length_part}
 use Rattle.numbers.proofs.Sizes.{Within, within_finite, add_within, mul_within}
-use Rattle.refusals.specs.declared.Answer.TheVariants.{Done}
+use Rattle.std.specs.Prelude.{Ok}
 use Rattle.refusals.specs.Tests.{unless}
 use Rattle.refusals.proofs.Tests.{first_none}
 use Rattle.graph_lists.specs.Graph.{Graph, check_entries, var_entries}
@@ -154,7 +154,7 @@ bounded_more limit g a b s l h =
     }
 
 -- such a state is not refused with 30
-pub bounded_passes : (limit : Float) (g : Graph) (b : ℕ) (s : State) → Bounded limit g b s → posterior_fault g s.posterior ≡ Done
+pub bounded_passes : (limit : Float) (g : Graph) (b : ℕ) (s : State) → Bounded limit g b s → posterior_fault g s.posterior ≡ Ok tt
 unfolding posterior_fault value_fault unless
 bounded_passes limit g b s h =
     first_none (value_fault s.posterior) g.mechanisms (λ v l. rw (within_finite (get_or s.posterior v nan) b (h.posteriors v l)))

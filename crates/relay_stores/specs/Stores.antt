@@ -6,7 +6,7 @@ use Rattle.std.specs.Float.{nan}
 use Rattle.numbers.specs.Floats.{◌+ᶠ◌, ◌-ᶠ◌}
 use Rattle.numbers.specs.Loops.{turns}
 use Rattle.refusals.specs.declared.Refusal.TheVariants.{TooManyStores}
-use Rattle.refusals.specs.declared.Answer.{Answer}
+use Rattle.refusals.specs.Refusal.{Answer}
 use Rattle.refusals.specs.Tests.{unless}
 use Rattle.graph_lists.specs.Graph.{Graph, check_entries, var_entries}
 use Rattle.graph_lists.specs.Messages.{Access, total}

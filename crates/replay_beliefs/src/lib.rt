@@ -3,14 +3,14 @@
 #![tactic(auto)]
 
 use graph::Size;
-use refusals::Answer;
+use refusals::Refusal;
 use refusals_tests::{both, is_done};
 use replay_cases::{
     Same, float, is_answer, is_cleared, read_bytes, read_graph, read_sizes, same_floats, word_at,
 };
 
 // Whether the line goes on with this answer and, where the run took place, with this posterior, and then ends.
-fn answered(line: &[u8], at: usize, a: Answer, posterior: &[f64]) -> bool {
+fn answered(line: &[u8], at: usize, a: Result<(), Refusal>, posterior: &[f64]) -> bool {
     let number = word_at(line, at);
     let place = word_at(line, number.next);
     if !is_answer(a, number.value, place.value) {

@@ -6,7 +6,7 @@ ghost use Rattle.std.specs.Prelude.{◌≤◌, length, IfOk};
 
 use graph::Size;
 use numbers::is_negative;
-use refusals::{Answer, Place, number_of, place_of};
+use refusals::{Refusal, number_of, place_of};
 use refusals_tests::both;
 use std::io;
 use std::io::Read;
@@ -138,7 +138,7 @@ pub fn read_sizes(line: &[u8], at: usize) -> Sizes {
 // What building a graph answered, and where the next word begins.
 #[derive(Clone, Copy)]
 pub struct Built {
-    pub answer: Answer,
+    pub answer: Result<(), Refusal>,
     pub next: usize,
 }
 
@@ -293,18 +293,18 @@ pub fn is_cleared(list: &[f64]) -> bool {
 }
 
 // The place of a refusal as the lists have it: 0 where there is none.
-fn place_number(p: Place) -> usize {
+fn place_number(p: Option<usize>) -> usize {
     match p {
-        Place::Nowhere => 0,
-        Place::At(place) => place,
+        None => 0,
+        Some(place) => place,
     }
 }
 
 // Whether the answer is the refusal of this number and place, and done where the number is 0.
-pub fn is_answer(a: Answer, number: u64, place: u64) -> bool {
+pub fn is_answer(a: Result<(), Refusal>, number: u64, place: u64) -> bool {
     match a {
-        Answer::Done => both(number == 0, place == 0),
-        Answer::Refused(r) => both(
+        Ok(()) => both(number == 0, place == 0),
+        Err(r) => both(
             number_of(r) as u64 == number,
             place_number(place_of(r)) as u64 == place,
         ),

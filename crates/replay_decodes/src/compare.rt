@@ -2,7 +2,7 @@
 // full of 7, those of floats full of 7.0, so that what was not written shows, in the lists and in what the arrays have behind them.
 use graph::Size;
 use numbers::wrapping_mul;
-use refusals::Answer;
+use refusals::Refusal;
 use refusals_tests::both;
 use relay::Decoded;
 use replay_cases::{
@@ -18,7 +18,7 @@ const LENT_FLOAT: u64 = 4619567317775286272;
 // A decode's answer, with zeros for what it does not tell.
 #[derive(Clone, Copy)]
 struct Outcome {
-    answer: Answer,
+    answer: Result<(), Refusal>,
     converged: u64,
     executed: usize,
     total: usize,
@@ -34,7 +34,7 @@ fn told(d: Decoded) -> Outcome {
             stores,
             weight,
         } => Outcome {
-            answer: Answer::Done,
+            answer: Ok(()),
             converged: 1,
             executed: executed_legs,
             total: total_iterations,
@@ -46,7 +46,7 @@ fn told(d: Decoded) -> Outcome {
             total_iterations,
             stores,
         } => Outcome {
-            answer: Answer::Done,
+            answer: Ok(()),
             converged: 0,
             executed: executed_legs,
             total: total_iterations,
@@ -54,7 +54,7 @@ fn told(d: Decoded) -> Outcome {
             weight: 0.0,
         },
         Decoded::Refused(r) => Outcome {
-            answer: Answer::Refused(r),
+            answer: Err(r),
             converged: 0,
             executed: 0,
             total: 0,

@@ -3,7 +3,7 @@
 
 use graph::Size;
 use numbers::wrapping_mul;
-use refusals::Answer;
+use refusals::Refusal;
 use refusals_tests::is_done;
 use replay_cases::{
     Same, is_answer, read_bytes, read_floats, read_graph, read_sizes, same_numbers, word_at,
@@ -13,7 +13,7 @@ use replay_cases::{
 fn answered(
     line: &[u8],
     at: usize,
-    a: Answer,
+    a: Result<(), Refusal>,
     check_var: &[u32],
     check_offset: &[u32],
     var_check: &[u32],

@@ -5,9 +5,9 @@ use Rattle.std.proofs.Math.Option.{some, none}
 use Rattle.std.specs.Float.{fin}
 use Rattle.numbers.specs.Floats.{zero⁺, zero⁻, one⁺, saturation}
 use Rattle.refusals.specs.declared.Refusal.TheVariants.{OrderExchanged}
-use Rattle.refusals.specs.declared.Answer.{Answer}
-use Rattle.refusals.specs.declared.Answer.TheVariants.{Done, Refused}
-use Rattle.refusals.specs.declared.Place.TheVariants.{At}
+use Rattle.refusals.specs.Refusal.{Answer}
+use Rattle.std.specs.Prelude.{Ok, Err}
+use Rattle.std.specs.Prelude.{Some}
 use Rattle.refusals.specs.Refusal.{answer_number, answer_place}
 use Rattle.graph_lists.specs.Graph.{Graph, graph, var_entries}
 use Rattle.graph_lists.specs.Model as Model
@@ -144,7 +144,7 @@ shown_step o = record { answer = o.answer; posterior = o.left.now.posterior }
 
 -- nothing is refused, and this is the posterior
 abbrev pub shown_step_to : List Float → Stepped
-shown_step_to p = record { answer = Done; posterior = p }
+shown_step_to p = record { answer = (Ok tt); posterior = p }
 
 -- min-sum beliefs, not serial, scale 1, one iteration
 abbrev pub believed : Graph → List Float → List ℕ → Beliefs.BeliefsOutcome
@@ -155,7 +155,7 @@ believed g prior syndrome =
 
 -- answered with this posterior, and the work lists are zero
 abbrev pub believes : ℕ → List Float → Beliefs.BeliefsOutcome
-believes edges p = Beliefs.beliefs_outcome Done (Beliefs.beliefs_lists p (replicate (length p) zero⁺) (replicate edges zero⁺) (replicate edges zero⁺))
+believes edges p = Beliefs.beliefs_outcome (Ok tt) (Beliefs.beliefs_lists p (replicate (length p) zero⁺) (replicate edges zero⁺) (replicate edges zero⁺))
 
 -- ---- the table
 
@@ -173,10 +173,10 @@ at2 stores =
 -- the runs that docs/REFERENCE.md lists
 pub record Table : Type 0 where
   -- offsets 0,2,4 and 0,1,3,4; variable 1 has messages 1 and 2
-  pub r1 : (built_g ≡ Model.build_outcome Done (graph 2 3 (0 ∷ 1 ∷ 1 ∷ 2 ∷ []) (0 ∷ 2 ∷ 4 ∷ []) (0 ∷ 0 ∷ 1 ∷ 1 ∷ []) (0 ∷ 1 ∷ 2 ∷ 3 ∷ []) (0 ∷ 1 ∷ 3 ∷ 4 ∷ [])))
+  pub r1 : (built_g ≡ Model.build_outcome (Ok tt) (graph 2 3 (0 ∷ 1 ∷ 1 ∷ 2 ∷ []) (0 ∷ 2 ∷ 4 ∷ []) (0 ∷ 0 ∷ 1 ∷ 1 ∷ []) (0 ∷ 1 ∷ 2 ∷ 3 ∷ []) (0 ∷ 1 ∷ 3 ∷ 4 ∷ [])))
       × (var_entries G 1 ≡ 1 ∷ 2 ∷ [])
   -- Flooding, pre 1: not converged, 8 stores, posterior 0,4,8, bits 000
-  pub r2 : show (decoded_run G fours (1 ∷ 0 ∷ []) (0 ∷ 1 ∷ []) Flooding 1) ≡ shown (summary Done false 1 1 8 none) (0 ∷ 0 ∷ 0 ∷ []) (zero⁺ ∷ four ∷ eight ∷ [])
+  pub r2 : show (decoded_run G fours (1 ∷ 0 ∷ []) (0 ∷ 1 ∷ []) Flooding 1) ≡ shown (summary (Ok tt) false 1 1 8 none) (0 ∷ 0 ∷ 0 ∷ []) (zero⁺ ∷ four ∷ eight ∷ [])
   -- Flooding, pre 2: converged at 2, 16 stores, bits 100, weight 4, posterior -4,4,4
   pub r3 : decoded_run G fours (1 ∷ 0 ∷ []) (0 ∷ 1 ∷ []) Flooding 2 ≡ at2 16
   -- CheckSerial, pre 2: same outcome as R3, every list; 20 stores
@@ -185,21 +185,21 @@ pub record Table : Type 0 where
   pub r5 : shown_step (first_step CheckSerial (0 ∷ 1 ∷ [])) ≡ shown_step_to (zero⁺ ∷ four ∷ four ∷ [])
   -- first serial iteration, order 1,0: posterior -4,4,8; decode refuses it: 24, check 0, and writes nothing
   pub r6 : (shown_step (first_step CheckSerial (1 ∷ 0 ∷ [])) ≡ shown_step_to (four⁻ ∷ four ∷ eight ∷ []))
-      × (summary_of (decoded_run G fours (1 ∷ 0 ∷ []) (1 ∷ 0 ∷ []) CheckSerial 2).answer ≡ summary (Refused (OrderExchanged 0)) false 0 0 0 none)
-      × (answer_number (Refused (OrderExchanged 0)) ≡ 24)
-      × (answer_place (Refused (OrderExchanged 0)) ≡ At 0)
+      × (summary_of (decoded_run G fours (1 ∷ 0 ∷ []) (1 ∷ 0 ∷ []) CheckSerial 2).answer ≡ summary (Err (OrderExchanged 0)) false 0 0 0 none)
+      × (answer_number (Err (OrderExchanged 0)) ≡ 24)
+      × (answer_place (Err (OrderExchanged 0)) ≡ Some 0)
       × ((decoded_run G fours (1 ∷ 0 ∷ []) (1 ∷ 0 ∷ []) CheckSerial 2).left ≡ lent 3 4)
   -- Flooding order 1,0: as R3, every list
   pub r7 : decoded_run G fours (1 ∷ 0 ∷ []) (1 ∷ 0 ∷ []) Flooding 2 ≡ at2 16
   -- min-sum, not serial, one iteration: 0,4,8
   pub r8 : believed G fours (1 ∷ 0 ∷ []) ≡ believes 4 (zero⁺ ∷ four ∷ eight ∷ [])
   -- one check, one mechanism, prior 2, syndrome 1: Relay -28, bit 1; min-sum, one iteration, 2
-  pub r9 : (show (decoded_run (single two) (two ∷ []) (1 ∷ []) (0 ∷ []) Flooding 1) ≡ shown (summary Done true 1 1 2 (some two)) (1 ∷ []) (twenty_eight⁻ ∷ []))
+  pub r9 : (show (decoded_run (single two) (two ∷ []) (1 ∷ []) (0 ∷ []) Flooding 1) ≡ shown (summary (Ok tt) true 1 1 2 (some two)) (1 ∷ []) (twenty_eight⁻ ∷ []))
       × (believed (single two) (two ∷ []) (1 ∷ []) ≡ believes 1 (two ∷ []))
   -- the same in Relay, prior 30: posterior 0, bit 0, not converged
-  pub r10 : show (decoded_run (single saturation) (saturation ∷ []) (1 ∷ []) (0 ∷ []) Flooding 1) ≡ shown (summary Done false 1 1 2 none) (0 ∷ []) (zero⁺ ∷ [])
+  pub r10 : show (decoded_run (single saturation) (saturation ∷ []) (1 ∷ []) (0 ∷ []) Flooding 1) ≡ shown (summary (Ok tt) false 1 1 2 none) (0 ∷ []) (zero⁺ ∷ [])
   -- nothing in the graph: converged after 1, weight negative zero
-  pub r11 : show (decoded_run empty [] [] [] Flooding 1) ≡ shown (summary Done true 1 1 0 (some zero⁻)) [] []
+  pub r11 : show (decoded_run empty [] [] [] Flooding 1) ≡ shown (summary (Ok tt) true 1 1 0 (some zero⁻)) [] []
   -- min-sum, one check, priors -0.0 and 2, syndrome 0, one iteration: -2, 2; with +0.0: 2, 2
   pub r12 : (believed (pair zero⁻) (zero⁻ ∷ two ∷ []) (0 ∷ []) ≡ believes 2 (two⁻ ∷ two ∷ []))
       × (believed (pair zero⁺) (zero⁺ ∷ two ∷ []) (0 ∷ []) ≡ believes 2 (two ∷ two ∷ []))

@@ -7,7 +7,7 @@ use native.Mathlib.Omega.{arith}
 use lib.Dec.{eqb, leb}
 use borrow.Author.Tests.{leb-true, eqb-true, eqb-false, ne_eqb}
 use Rattle.numbers.proofs.Cases.{and_both, either}
-use Rattle.refusals.specs.declared.Answer.TheVariants.{Done}
+use Rattle.std.specs.Prelude.{Ok}
 use Rattle.refusals.proofs.Tests.{or_done, unless_done}
 use Rattle.stream_grammar.specs.Stream.{is_settings, kind_good, counts_fit, length_good, time_good, room_good, Claims, tested}
 
@@ -43,7 +43,7 @@ module _ (hasModel hasSettings : Bool) (x : Claims) where
     pub room_good_lem : room_good x.kind x.size x.checks x.mechanisms x.edges x.legs ≡ true
 
   -- read off the tests
-  pub passed : tested hasModel hasSettings x ≡ Done → Passed
+  pub passed : tested hasModel hasSettings x ≡ Ok tt → Passed
   unfolding tested
   passed e =
       let a = or_done _ _ e in

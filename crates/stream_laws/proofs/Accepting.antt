@@ -11,8 +11,8 @@ use lib.Seq.{take-append_seam}
 use borrow.Author.Tests.{leb-true, eqb-false}
 use Rattle.numbers.proofs.Cases.{and_both}
 use Rattle.refusals.specs.declared.Refusal.{Refusal}
-use Rattle.refusals.specs.declared.Answer.{Answer}
-use Rattle.refusals.specs.declared.Answer.TheVariants.{Done, Refused}
+use Rattle.refusals.specs.Refusal.{Answer}
+use Rattle.std.specs.Prelude.{Ok, Err}
 use Rattle.refusals.specs.Refusal.{number_of}
 use Rattle.relay_settings.specs.declared.Settings.{Settings}
 use Rattle.relay_calls.specs.declared.Decoded.{Decoded}
@@ -110,7 +110,7 @@ module _ (s : Session) (model : List ℕ) (h : Heard) (a : Agrees s model h) whe
   -- a model
   model_tells : (answer : Answer) (p line : List ℕ) → length p ≤ 5132 → Tells (model_taken s answer p model line) (model_said h s.reader.offset p answer)
   unfolding goes_on
-  model_tells Done p line l =
+  model_tells (Ok tt) p line l =
       record {
         text = refl;
         next = onward (record {
@@ -123,12 +123,12 @@ module _ (s : Session) (model : List ℕ) (h : Heard) (a : Agrees s model h) whe
           room = omega (arith, a.room, length_kept p model);
         });
       }
-  model_tells (Refused r) p line l = stops_tells s r model line
+  model_tells (Err r) p line l = stops_tells s r model line
 
   -- settings
   settings_tells : (answer : Answer) (p line : List ℕ) → Tells (taken (settings_taken s answer p line) model) (settings_said h s.reader.offset (rec s.reader.kind p) answer)
   unfolding goes_on
-  settings_tells Done p line =
+  settings_tells (Ok tt) p line =
       record {
         text = refl;
         next = onward (record {
@@ -141,7 +141,7 @@ module _ (s : Session) (model : List ℕ) (h : Heard) (a : Agrees s model h) whe
           room = a.room;
         });
       }
-  settings_tells (Refused r) p line = stops_tells s r model line
+  settings_tells (Err r) p line = stops_tells s r model line
 
   -- a shot's decode is that over the payloads accepted
   same_decode : (p : List ℕ) → is_there h.model ≡ true → is_there h.settings ≡ true
@@ -175,21 +175,21 @@ module _ (s : Session) (model : List ℕ) (h : Heard) (a : Agrees s model h) whe
       (λ n. by_test (is_settings s.reader.kind) _ _ _ _ (λ _. settings_tells (settings_answer s.reader.kind p) p line) (λ m. shot_tells p line (f n m).0 (f n m).1))
 
   -- a record, which 41 to 45 answer so
-  judged_tells : (answer : Answer) (p line : List ℕ) → (answer ≡ Done → length p ≤ 5132)
-      → (answer ≡ Done → eqb s.reader.kind 1 ≡ false → is_settings s.reader.kind ≡ false → (is_there h.model ≡ true) × (is_there h.settings ≡ true))
+  judged_tells : (answer : Answer) (p line : List ℕ) → (answer ≡ Ok tt → length p ≤ 5132)
+      → (answer ≡ Ok tt → eqb s.reader.kind 1 ≡ false → is_settings s.reader.kind ≡ false → (is_there h.model ≡ true) × (is_there h.settings ≡ true))
       → Tells (record_judged s answer p model line) (judged_said h s.reader.offset s.reader.kind p answer)
-  judged_tells Done p line l f = kind_tells p line (l refl) (f refl)
-  judged_tells (Refused r) p line l f = stops_tells s r model line
+  judged_tells (Ok tt) p line l f = kind_tells p line (l refl) (f refl)
+  judged_tells (Err r) p line l f = stops_tells s r model line
 
 -- ---- a record
 
 -- what 41 to 45 let through finds room
-room_for : (a b : Bool) (kind : ℕ) (p : List ℕ) → judge a b kind p ≡ Done → length p ≤ 5132
+room_for : (a b : Bool) (kind : ℕ) (p : List ℕ) → judge a b kind p ≡ Ok tt → length p ≤ 5132
 unfolding judge
 room_for a b kind p d = let t = passed a b (claims_of kind p) d in fits_room _ _ _ _ _ _ _ t.size_good t.room_good_lem
 
 -- and what is neither a model nor settings has both before it
-both_before : (a b : Bool) (kind : ℕ) (p : List ℕ) → judge a b kind p ≡ Done → eqb kind 1 ≡ false → is_settings kind ≡ false → (a ≡ true) × (b ≡ true)
+both_before : (a b : Bool) (kind : ℕ) (p : List ℕ) → judge a b kind p ≡ Ok tt → eqb kind 1 ≡ false → is_settings kind ≡ false → (a ≡ true) × (b ≡ true)
 unfolding judge kind_good time_good
 both_before a b kind p d n m =
     let t = passed a b (claims_of kind p) d in

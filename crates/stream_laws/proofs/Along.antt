@@ -9,8 +9,8 @@ use lib.ListN.{length, get_or, take, drop}
 use lib.Seq.{take-suc, take-length}
 use borrow.Author.Tests.{eq-eqb}
 use Rattle.numbers.proofs.Cases.{either}
-use Rattle.refusals.specs.declared.Answer.{Answer}
-use Rattle.refusals.specs.declared.Answer.TheVariants.{Done}
+use Rattle.refusals.specs.Refusal.{Answer}
+use Rattle.std.specs.Prelude.{Ok}
 use Rattle.refusals.specs.Tests.{unless}
 use Rattle.stream_reader.specs.declared.Reader.{Reader}
 use Rattle.stream_grammar.specs.Stream.{AreBytes, Rec, Sayable, length_said}
@@ -81,11 +81,11 @@ abbrev pub end_of : {X : Type 0} → (ℕ → Answer → X) → Reader → X
 end_of g r = g r.offset (at_end r)
 
 -- nothing is left over of a whole record, nor before a byte of the next one
-whole_ends : (r : Reader) → is_whole r ≡ true → at_end r ≡ Done
+whole_ends : (r : Reader) → is_whole r ≡ true → at_end r ≡ Ok tt
 unfolding at_end unless opened
 whole_ends r w = rw w
 
-fresh_ends : (offset : ℕ) → at_end (fresh offset) ≡ Done
+fresh_ends : (offset : ℕ) → at_end (fresh offset) ≡ Ok tt
 unfolding at_end unless opened is_whole
 fresh_ends offset = refl
 
@@ -105,7 +105,7 @@ module _ (h : Held) (w : is_whole h.reader ≡ true) where
   met_from_next (y ∷ ys) = rw (push_next y)
 
   -- and the end of the input tells the same of both
-  end_from_next : {X : Type 0} (g : ℕ → Answer → X) → ((a b : ℕ) → g a Done ≡ g b Done) → (ys : List ℕ) → end_of g (fed ys h).reader ≡ end_of g (fed ys next).reader
+  end_from_next : {X : Type 0} (g : ℕ → Answer → X) → ((a b : ℕ) → g a (Ok tt) ≡ g b (Ok tt)) → (ys : List ℕ) → end_of g (fed ys h).reader ≡ end_of g (fed ys next).reader
   unfolding fed
   end_from_next g same [] = ap (g h.reader.offset) (whole_ends h.reader w) ∙ same _ _ ∙ ap (g next.reader.offset) (sym (fresh_ends next.reader.offset))
   end_from_next g same (y ∷ ys) = ap (λ s. end_of g (foldl pushed s ys).reader) (push_next y)
@@ -159,7 +159,7 @@ module _ (r : Rec) (s : Sayable r) (offset : ℕ) (room : List ℕ) where
       ∙ rw (met_record, fed_record) (ap (λ l. at_its_end ∷ l) (met_from_next at_its_end whole ys ∙ ap (met ys) after_is))
 
   -- so what is said of the end is what is said of it from there
-  pub end_then : {X : Type 0} (g : ℕ → Answer → X) → ((a b : ℕ) → g a Done ≡ g b Done) → (ys : List ℕ)
+  pub end_then : {X : Type 0} (g : ℕ → Answer → X) → ((a b : ℕ) → g a (Ok tt) ≡ g b (Ok tt)) → (ys : List ℕ)
       → end_of g (fed (encoded r ++ ys) (held (fresh offset) room)).reader ≡ end_of g (fed ys after).reader
   unfolding fed
   end_then g same ys =

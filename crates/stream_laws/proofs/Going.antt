@@ -8,8 +8,8 @@ use mathlib.Core.Option.{Option, none, some}
 use native.Mathlib.Omega.{arith}
 use lib.Dec.{eqb}
 use Rattle.numbers.proofs.Cases.{either}
-use Rattle.refusals.specs.declared.Answer.{Answer}
-use Rattle.refusals.specs.declared.Answer.TheVariants.{Done, Refused}
+use Rattle.refusals.specs.Refusal.{Answer}
+use Rattle.std.specs.Prelude.{Ok, Err}
 use Rattle.refusals.specs.Refusal.{number_of}
 use Rattle.relay_calls.specs.declared.Decoded.{Decoded}
 use Rattle.stream_grammar.specs.Stream.{Rec, rec, is_settings, is_of_shot, legs, judge}
@@ -20,8 +20,8 @@ use Rattle.stream_laws.proofs.Refusing.{shot_refused}
 
 -- the model was accepted by the table, and the settings by it and by 44
 pub record Accepted (h : Heard) : Type 0 where
-  pub model : (p : List ℕ) → h.model ≡ some p → model_fault p ≡ Done
-  pub settings : (q : Rec) → h.settings ≡ some q → (settings_answer q.kind q.payload ≡ Done) × (legs q.payload ≤ 16)
+  pub model : (p : List ℕ) → h.model ≡ some p → model_fault p ≡ Ok tt
+  pub settings : (q : Rec) → h.settings ≡ some q → (settings_answer q.kind q.payload ≡ Ok tt) × (legs q.payload ≤ 16)
 
 -- before the first record
 pub nothing_accepted : Accepted nothing_heard
@@ -37,26 +37,26 @@ module _ (h : Heard) (a : Accepted h) (offset : ℕ) (p : List ℕ) (k : Heard) 
   -- a model
   after_model : (answer : Answer) → model_fault p ≡ answer → (model_said h offset p answer).next ≡ some k → Accepted k
   unfolding ends_run
-  after_model Done m e =
+  after_model (Ok tt) m e =
       let q : heard (some p) h.settings h.shots ≡ k = cc in
       subst Accepted q
       (record {
-        model = λ x s. let same : p ≡ x = cc in subst (λ (y : List ℕ). model_fault y ≡ Done) same m;
+        model = λ x s. let same : p ≡ x = cc in subst (λ (y : List ℕ). model_fault y ≡ Ok tt) same m;
         settings = a.settings;
       })
-  after_model (Refused r) m e = let z : ◌≡◌ {A = ℕ} 0 1 = cc in absurd (omega arith)
+  after_model (Err r) m e = let z : ◌≡◌ {A = ℕ} 0 1 = cc in absurd (omega arith)
 
   -- settings
   after_settings : (kind : ℕ) (answer : Answer) → settings_answer kind p ≡ answer → legs p ≤ 16 → (settings_said h offset (rec kind p) answer).next ≡ some k → Accepted k
   unfolding ends_run
-  after_settings kind Done m l e =
+  after_settings kind (Ok tt) m l e =
       let q : heard h.model (some (rec kind p)) h.shots ≡ k = cc in
       subst Accepted q
       (record {
         model = a.model;
-        settings = λ x s. let same : rec kind p ≡ x = cc in subst (λ (y : Rec). (settings_answer y.kind y.payload ≡ Done) × (legs y.payload ≤ 16)) same (m, l);
+        settings = λ x s. let same : rec kind p ≡ x = cc in subst (λ (y : Rec). (settings_answer y.kind y.payload ≡ Ok tt) × (legs y.payload ≤ 16)) same (m, l);
       })
-  after_settings kind (Refused r) m l e = let z : ◌≡◌ {A = ℕ} 0 1 = cc in absurd (omega arith)
+  after_settings kind (Err r) m l e = let z : ◌≡◌ {A = ℕ} 0 1 = cc in absurd (omega arith)
 
   -- a shot's line
   after_line : (line : List ℕ) → (line_said h line).next ≡ some k → Accepted k
@@ -91,11 +91,11 @@ module _ (h : Heard) (a : Accepted h) (offset : ℕ) (p : List ℕ) (k : Heard) 
   -- a record
   after_judged : (kind : ℕ) (answer : Answer) → judge (is_there h.model) (is_there h.settings) kind p ≡ answer → (judged_said h offset kind p answer).next ≡ some k → Accepted k
   unfolding ends_run
-  after_judged kind Done j e =
+  after_judged kind (Ok tt) j e =
       after_kind kind
       (λ (s : is_settings kind ≡ true). (settings_let_through (is_there h.model) (is_there h.settings) p kind s j).1)
       e
-  after_judged kind (Refused r) j e = let z : ◌≡◌ {A = ℕ} 0 1 = cc in absurd (omega arith)
+  after_judged kind (Err r) j e = let z : ◌≡◌ {A = ℕ} 0 1 = cc in absurd (omega arith)
 
   pub stays_accepted : (kind : ℕ) → (record_said h offset kind p).next ≡ some k → Accepted k
   unfolding record_said
@@ -123,7 +123,7 @@ module _ (h : Heard) (a : Accepted h) (offset : ℕ) (p : List ℕ) where
       rw (shot_refused (the_payload h.model) (the_record h.settings) p r (a.model (the_payload h.model) (there _ h.model m)) t.0 t.1 e)
 
   -- one that 41 to 45 let through
-  pub shot_goes_on : judge (is_there h.model) (is_there h.settings) 3 p ≡ Done → (record_said h offset 3 p).next ≡ some after_shot
+  pub shot_goes_on : judge (is_there h.model) (is_there h.settings) 3 p ≡ Ok tt → (record_said h offset 3 p).next ≡ some after_shot
   unfolding record_said payload_said is_settings
   shot_goes_on j =
       let t = shot_let_through (is_there h.model) (is_there h.settings) p j in

@@ -8,7 +8,7 @@ use native.Mathlib.Omega.{arith}
 use lib.ListN.{length, drop, length-drop}
 use borrow.Author.Tests.{ne_eqb}
 use Rattle.numbers.proofs.Cases.{equal_or_not, either}
-use Rattle.refusals.specs.declared.Answer.{Answer}
+use Rattle.refusals.specs.Refusal.{Answer}
 use Rattle.refusals.specs.declared.Refusal.TheVariants.{UnknownKind, PayloadLength}
 use Rattle.refusals.specs.Tests.{unless, or_else}
 use Rattle.stream_grammar.specs.Stream.{length_said, kind_said, checks, mechanisms, edges, degrees, legs, schedule_byte, is_settings, kind_good, length_good, room_good, schedule_good, claims, tested, judge}

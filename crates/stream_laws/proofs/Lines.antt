@@ -9,7 +9,7 @@ use native.Mathlib.Omega.{arith}
 use lib.Ieee.{Float}
 use lib.ListN.{length}
 use borrow.Author.Tests.{le-leb}
-use Rattle.refusals.specs.declared.Answer.TheVariants.{Done}
+use Rattle.std.specs.Prelude.{Ok}
 use Rattle.refusals.specs.Refusal.{number_of}
 use Rattle.refusals.proofs.Tests.{or_done, unless_done}
 use Rattle.graph_lists.specs.Graph.{Graph, graph_of}
@@ -34,7 +34,7 @@ use Rattle.stream_laws.proofs.Going.{Accepted, there}
 
 -- ---- the decode of a shot
 
-module _ (model : List ℕ) (t : Settings) (p : List ℕ) (ok : model_fault model ≡ Done) where
+module _ (model : List ℕ) (t : Settings) (p : List ℕ) (ok : model_fault model ≡ Ok tt) where
   -- a model that was accepted is within the room
   in_room : within (counts_read model) ≡ true
   unfolding model_fault
@@ -73,7 +73,7 @@ module _ (model : List ℕ) (t : Settings) (p : List ℕ) (ok : model_fault mode
   decoding_is correction = rw in_room
 
   -- it is the best of its legs
-  leaves_best : (correction : List ℕ) (d : Decoded) → (leaves correction).answer ≡ d → (summary_of d).refusal ≡ Done
+  leaves_best : (correction : List ℕ) (d : Decoded) → (leaves correction).answer ≡ d → (summary_of d).refusal ≡ Ok tt
       → BestOfLegs (filed (shot_over (model_graph model)) d (leaves correction).left)
   leaves_best correction d e h =
       subst (λ (g : Graph). BestOfLegs (filed (shot_over g) d (leaves correction).left)) graph_is
@@ -81,7 +81,7 @@ module _ (model : List ℕ) (t : Settings) (p : List ℕ) (ok : model_fault mode
       (ap (λ (a : Decoded). decode_outcome a (leaves correction).left) (sym e)) h)
 
   -- and its stores are the formula's
-  leaves_stores : (correction : List ℕ) (d : Decoded) → (leaves correction).answer ≡ d → (summary_of d).refusal ≡ Done
+  leaves_stores : (correction : List ℕ) (d : Decoded) → (leaves correction).answer ≡ d → (summary_of d).refusal ≡ Ok tt
       → (summary_of d).stores ≡ stores_at t.schedule (model_graph model) (summary_of d).total_iterations
   leaves_stores correction d e h =
       decode_stores_by_formula (counts_read model).edges (shot_over built_graph) (lent correction) d (leaves correction).left
@@ -103,7 +103,7 @@ module _ (h : Heard) (a : Accepted h) (offset : ℕ) (p : List ℕ) (m : is_ther
   abbrev settings : Rec
   settings = the_record h.settings
 
-  accepted : model_fault model ≡ Done
+  accepted : model_fault model ≡ Ok tt
   accepted = a.model model (there _ h.model m)
 
   -- what the decode leaves
@@ -111,7 +111,7 @@ module _ (h : Heard) (a : Accepted h) (offset : ℕ) (p : List ℕ) (m : is_ther
   after = leaves model (settings_of settings) p accepted (lent_numbers 256 (mechanisms model))
 
   -- of an answer, the line that is said of it
-  line_of : (d : Decoded) (converged : Bool) (total legs stores : ℕ) (weight : Option Float) (text : List ℕ) → summary_of d ≡ summary Done converged legs total stores weight
+  line_of : (d : Decoded) (converged : Bool) (total legs stores : ℕ) (weight : Option Float) (text : List ℕ) → summary_of d ≡ summary (Ok tt) converged legs total stores weight
       → text ≡ unless_too_long after.left.correction (shot_line h.shots converged total legs after.left.correction)
       → BestOfLegs (filed (shot_over model (settings_of settings) p accepted (model_graph model)) d after.left) → after.answer ≡ d → LineHolds h.shots model settings p text
   line_of d converged total legs stores weight text e q b g =
@@ -121,7 +121,7 @@ module _ (h : Heard) (a : Accepted h) (offset : ℕ) (p : List ℕ) (m : is_ther
         prior = model_priors model;
         syndrome = syndrome p;
         legs = most_legs settings;
-        said = summary Done converged legs total stores weight;
+        said = summary (Ok tt) converged legs total stores weight;
         leg_state = after.left.leg_state;
         leg_iterations = after.left.leg_iterations;
         leg_weight = after.left.leg_weight;
@@ -184,7 +184,7 @@ module _ (h : Heard) (a : Accepted h) (offset : ℕ) (p : List ℕ) (m : is_ther
   said_line = rw bits_left (by_answer (decode_of model settings p).answer (sym answer_left) refl)
 
 -- of a shot that 41 to 45 let through, over what was accepted
-pub shot_line_lem : (h : Heard) (offset : ℕ) (p : List ℕ) → Accepted h → judge (is_there h.model) (is_there h.settings) 3 p ≡ Done
+pub shot_line_lem : (h : Heard) (offset : ℕ) (p : List ℕ) → Accepted h → judge (is_there h.model) (is_there h.settings) 3 p ≡ Ok tt
     → LineHolds h.shots (the_payload h.model) (the_record h.settings) p (record_said h offset 3 p).text
     ⊎ ((code : ℕ) × ((record_said h offset 3 p).text ≡ refused_line h.shots code))
 unfolding record_said payload_said is_settings

@@ -11,8 +11,8 @@ use lib.Seq.{take-append_seam}
 use borrow.Author.Tests.{leb-true, eqb-true, ne_eqb}
 use Rattle.numbers.proofs.Cases.{either, equal_or_not}
 use Rattle.refusals.specs.declared.Refusal.{Refusal}
-use Rattle.refusals.specs.declared.Answer.{Answer}
-use Rattle.refusals.specs.declared.Answer.TheVariants.{Done, Refused}
+use Rattle.refusals.specs.Refusal.{Answer}
+use Rattle.std.specs.Prelude.{Ok, Err}
 use Rattle.refusals.specs.Refusal.{number_of}
 use Rattle.relay_calls.specs.declared.Decoded.{Decoded}
 use Rattle.stream_reader.specs.declared.Reader.{Reader}
@@ -49,14 +49,14 @@ answers_stays s (Decoded.Refused r) bits line = either_stays (λ (t : Told). t.s
 -- settings
 settings_stays : (s : Session) (a : Answer) (p line : List ℕ) → (settings_taken s a p line).session.reader ≡ s.reader
 unfolding goes_on
-settings_stays s Done p line = refl
-settings_stays s (Refused r) p line = stops_stays s r line
+settings_stays s (Ok tt) p line = refl
+settings_stays s (Err r) p line = stops_stays s r line
 
 -- a model
 model_stays : (s : Session) (a : Answer) (p model line : List ℕ) → (model_taken s a p model line).now.session.reader ≡ s.reader
 unfolding goes_on
-model_stays s Done p model line = refl
-model_stays s (Refused r) p model line = stops_stays s r line
+model_stays s (Ok tt) p model line = refl
+model_stays s (Err r) p model line = stops_stays s r line
 
 -- a shot
 shot_stays : (s : Session) (model p line : List ℕ) → (shot_taken s model p line).session.reader ≡ s.reader
@@ -68,7 +68,7 @@ shot_stays s model p line =
 -- a record of any kind, past 41 to 45 or not
 judged_stays : (s : Session) (a : Answer) (p model line : List ℕ) → (record_judged s a p model line).now.session.reader ≡ s.reader
 unfolding kind_taken
-judged_stays s Done p model line =
+judged_stays s (Ok tt) p model line =
     let x = model_taken s (model_fault p) p model line in
     let y = taken (settings_taken s (settings_answer s.reader.kind p) p line) model in
     let m = take s.known.model_length model in
@@ -76,7 +76,7 @@ judged_stays s Done p model line =
     let reader : Taken → Reader = λ t. t.now.session.reader in
     either_stays reader (eqb s.reader.kind 1) x (cond (is_settings s.reader.kind) y z) s.reader (model_stays s (model_fault p) p model line)
     (either_stays reader (is_settings s.reader.kind) y z s.reader (settings_stays s (settings_answer s.reader.kind p) p line) (shot_stays s m p line))
-judged_stays s (Refused r) p model line = stops_stays s r line
+judged_stays s (Err r) p model line = stops_stays s r line
 
 -- a record that is met
 pub record_stays : (s : Session) (kept model line : List ℕ) → (record_taken s kept model line).now.session.reader ≡ s.reader
@@ -113,13 +113,13 @@ record_kept s offset r model line =
     line
 
 -- a refused payload is not looked at
-same_payload : (s : Session) (a : Answer) (q p model line : List ℕ) → (a ≡ Done → q ≡ p) → record_judged s a q model line ≡ record_judged s a p model line
-same_payload s Done q p model line h = ap (λ x. kind_taken s x model line) (h refl)
-same_payload s (Refused r) q p model line h = refl
+same_payload : (s : Session) (a : Answer) (q p model line : List ℕ) → (a ≡ Ok tt → q ≡ p) → record_judged s a q model line ≡ record_judged s a p model line
+same_payload s (Ok tt) q p model line h = ap (λ x. kind_taken s x model line) (h refl)
+same_payload s (Err r) q p model line h = refl
 
 module _ (r : Rec) (sayable : Sayable r) (offset : ℕ) (room : List ℕ) (large : 5132 ≤ length room) where
   -- what 41 to 45 let through is kept whole
-  kept_whole : (hasModel hasSettings : Bool) → verdict hasModel hasSettings (holding offset (encoded r)) (payload_kept r.payload room) ≡ Done
+  kept_whole : (hasModel hasSettings : Bool) → verdict hasModel hasSettings (holding offset (encoded r)) (payload_kept r.payload room) ≡ Ok tt
       → take (length_said (encoded r)) (payload_kept r.payload room) ≡ r.payload
   unfolding verdict
   kept_whole hasModel hasSettings d =

@@ -14,8 +14,8 @@ use Rattle.numbers.specs.Floats.{zero⁺}
 use Rattle.numbers.specs.Loops.{upto}
 use Rattle.refusals.specs.declared.Refusal.{Refusal}
 use Rattle.refusals.specs.declared.Refusal.TheVariants.{SyndromeLength, SyndromeNotBinary, LentListLength, ShotTooLarge, NonFinite}
-use Rattle.refusals.specs.declared.Answer.{Answer}
-use Rattle.refusals.specs.declared.Answer.TheVariants.{Done, Refused}
+use Rattle.refusals.specs.Refusal.{Answer}
+use Rattle.std.specs.Prelude.{Ok, Err}
 use Rattle.refusals.specs.Refusal.{number_of}
 use Rattle.refusals.specs.Tests.{is_done, unless, or_else, first_of, unless_refused}
 use Rattle.refusals.proofs.Tests.{or_second, or_done, unless_done}
@@ -50,7 +50,7 @@ use Rattle.stream_session.specs.Text.{settings_of}
 
 -- whatever an answer refuses with is 20, 21, 27 or 30
 abbrev OfShot : Answer → Type 0
-OfShot a = (r : Refusal) → a ≡ Refused r → is_of_shot (number_of r) ≡ true
+OfShot a = (r : Refusal) → a ≡ Err r → is_of_shot (number_of r) ≡ true
 
 -- one test
 unless_of_lem : (b : Bool) (x : Refusal) → is_of_shot (number_of x) ≡ true → OfShot (unless b x)
@@ -61,8 +61,8 @@ unless_of_lem false x h r e = let q : x ≡ r = cc in subst (λ (y : Refusal). i
 -- two tests
 or_of : (a b : Answer) → OfShot a → OfShot b → OfShot (or_else a b)
 unfolding or_else
-or_of Done b f g = g
-or_of (Refused x) b f g = f
+or_of (Ok tt) b f g = g
+or_of (Err x) b f g = f
 
 -- and a loop of them
 first_of_lem : (n : ℕ) (f : ℕ → Answer) → ((i : ℕ) → OfShot (f i)) → OfShot (first_of n f)
@@ -89,9 +89,9 @@ posterior_of g xs = first_of_lem g.mechanisms _ (λ i. unless_of_lem _ (NonFinit
 
 -- whatever a leg is refused with
 leg_of_lem : (a : Answer) (enough : Bool) (run : Run) → OfShot a → (r : Refusal) → leg_judged a enough run ≡ finished (refused r) → is_of_shot (number_of r) ≡ true
-leg_of_lem (Refused x) enough run f r e = let q : x ≡ r = cc in f r (ap Refused q)
-leg_of_lem Done true run f r e = let z : ◌≡◌ {A = ℕ} 0 1 = cc in absurd (omega arith)
-leg_of_lem Done false run f r e = let z : ◌≡◌ {A = ℕ} 0 1 = cc in absurd (omega arith)
+leg_of_lem (Err x) enough run f r e = let q : x ≡ r = cc in f r (ap Err q)
+leg_of_lem (Ok tt) true run f r e = let z : ◌≡◌ {A = ℕ} 0 1 = cc in absurd (omega arith)
+leg_of_lem (Ok tt) false run f r e = let z : ◌≡◌ {A = ℕ} 0 1 = cc in absurd (omega arith)
 
 -- what some legs, and those behind them, are refused with
 legs_of_lem : (x : Shot) (n : ℕ) (p : Progress) (k : ℕ) → ((r : Refusal) → p ≡ finished (refused r) → is_of_shot (number_of r) ≡ true)
@@ -123,21 +123,21 @@ unfolding decode_in_order
 tested_of edges x l f r e = by (decode_fault edges x l) f e
   where
     by : (a : Answer) → OfShot a → (after_decode_tests a (after_legs edges x (decode_legs by_place x) (decode_stores by_place x) l) l).answer ≡ Decoded.Refused r → is_of_shot (number_of r) ≡ true
-    by Done g q = ran_of_lem edges x (decode_legs by_place x) (decode_stores by_place x) l (decode_of_lem x) r q
-    by (Refused y) g q = let h : y ≡ r = cc in g r (ap Refused h)
+    by (Ok tt) g q = ran_of_lem edges x (decode_legs by_place x) (decode_stores by_place x) l (decode_of_lem x) r q
+    by (Err y) g q = let h : y ≡ r = cc in g r (ap Err h)
 
 -- ---- the tests of a shot over what was accepted
 
 -- settings with a seeded source are judged alike, whatever the mechanisms
-settings_good_lem : (q : Rec) (m : ℕ) → settings_answer q.kind q.payload ≡ Done → settings_fault (settings_of q) m [] ≡ Done
+settings_good_lem : (q : Rec) (m : ℕ) → settings_answer q.kind q.payload ≡ Ok tt → settings_fault (settings_of q) m [] ≡ Ok tt
 unfolding settings_answer check_settings settings_fault source_fault settings_read
 settings_good_lem q m e = (or_done _ _ e).1
 
 -- a graph that was built has the counts of its lists
 built_counts : (a : Answer) (inc : ℕ → ℕ → Bool) (g : Graph) → (built a inc g).lists.mechanisms ≡ g.mechanisms
 unfolding built unless_refused graph_of
-built_counts Done inc g = refl
-built_counts (Refused r) inc g = refl
+built_counts (Ok tt) inc g = refl
+built_counts (Err r) inc g = refl
 
 -- of a sparse model
 sparse_counts : (edges : ℕ) (priors : List Float) (off dets : List ℕ) (g : Graph) → (build_sparse edges priors off dets g).lists.mechanisms ≡ g.mechanisms
@@ -166,15 +166,15 @@ lists_fit x c l m e same =
     )
 
 -- nothing is refused
-none_of : (a : Answer) → a ≡ Done → OfShot a
+none_of : (a : Answer) → a ≡ Ok tt → OfShot a
 none_of a d r e = absurd (true≢false (ap is_done (sym d ∙ e)))
 
 -- a test that is passed
-past : (a b : Answer) → a ≡ Done → OfShot b → OfShot (or_else a b)
+past : (a b : Answer) → a ≡ Ok tt → OfShot b → OfShot (or_else a b)
 past a b d f = subst (λ (x : Answer). OfShot x) (sym (or_second a b d)) f
 
 -- lists that fit pass
-fit_done : (b : Bool) → b ≡ true → unless b LentListLength ≡ Done
+fit_done : (b : Bool) → b ≡ true → unless b LentListLength ≡ Ok tt
 unfolding unless
 fit_done b e = rw e
 
@@ -187,8 +187,8 @@ each_few CheckSerial g sound e =
     omega (arith, squares_few g.mechanisms g.var_message g.var_offset (rw many sound.var_parts) 512 (omega (arith, many)) g.mechanisms (omega arith))
 
 -- so no decode within the room is refused with 29
-stores_done : (t : Settings) (m : ℕ) (flat : List Float) (g : Graph) → settings_fault t m flat ≡ Done → Sound g → length g.check_var ≤ 512 → t.num_legs ≤ 16
-    → stores_fault t g ≡ Done
+stores_done : (t : Settings) (m : ℕ) (flat : List Float) (g : Graph) → settings_fault t m flat ≡ Ok tt → Sound g → length g.check_var ≤ 512 → t.num_legs ≤ 16
+    → stores_fault t g ≡ Ok tt
 unfolding stores_fault unless
 stores_done t m flat g s sound e l =
     let told = settings_told t m flat s in
@@ -197,7 +197,7 @@ stores_done t m flat g s sound e l =
     let all = mul-le-mul {n₁ = most_iterations t} {m₁ = stores_each t.schedule g} {n₂ = 1114095} {m₂ = 262656} most (each_few t.schedule g sound e) in
     rw (le-leb (most_iterations t * stores_each t.schedule g) max_stores (omega (arith, all)))
 
-module _ (edges : ℕ) (x : Shot) (l : DecodeLists) (few : edges ≤ 512) (legs_few : x.settings.num_legs ≤ 16) (g : graph_fault edges x.prior x.graph ≡ Done) (s : settings_fault x.settings x.graph.mechanisms x.gammas ≡ Done) where
+module _ (edges : ℕ) (x : Shot) (l : DecodeLists) (few : edges ≤ 512) (legs_few : x.settings.num_legs ≤ 16) (g : graph_fault edges x.prior x.graph ≡ Ok tt) (s : settings_fault x.settings x.graph.mechanisms x.gammas ≡ Ok tt) where
   -- a good graph, good settings, lists that fit and the index order leave the syndrome
   tests_of : decode_lists_fit edges x l ≡ true → OfShot (decode_fault edges (with_order x (upto x.graph.checks)) l)
   unfolding decode_fault decode_lists_fit
@@ -221,7 +221,7 @@ module _ (edges : ℕ) (x : Shot) (l : DecodeLists) (few : edges ≤ 512) (legs_
   decoded_of fits = tested_of edges (with_order x (upto x.graph.checks)) l (tests_of fits)
 
 -- a shot over a model and settings that the table accepts, whose legs find room
-pub shot_refused : (model : List ℕ) (q : Rec) (p : List ℕ) (r : Refusal) → model_fault model ≡ Done → settings_answer q.kind q.payload ≡ Done → legs q.payload ≤ 16
+pub shot_refused : (model : List ℕ) (q : Rec) (p : List ℕ) (r : Refusal) → model_fault model ≡ Ok tt → settings_answer q.kind q.payload ≡ Ok tt → legs q.payload ≤ 16
     → (shot_decoded model (settings_of q) p (lent_numbers 256 (mechanisms model))).answer ≡ Decoded.Refused r → is_of_shot (number_of r) ≡ true
 unfolding shot_decoded model_fault found decoded_from built_from counts_read settings_read
 shot_refused model q p r m s l e =

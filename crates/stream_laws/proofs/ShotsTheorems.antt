@@ -7,7 +7,7 @@ use mathlib.Core.Logic.{◌⊎◌}
 use mathlib.Core.Option.{some}
 use lib.ListN.{length, take}
 use Rattle.refusals.specs.declared.Refusal.{Refusal}
-use Rattle.refusals.specs.declared.Answer.TheVariants.{Done}
+use Rattle.std.specs.Prelude.{Ok}
 use Rattle.refusals.specs.Refusal.{number_of}
 use Rattle.relay_calls.specs.declared.Decoded.TheVariants as Decoded
 use Rattle.stream_grammar.specs.Stream.{AreBytes, Rec, AllSayable, stream, is_complete, is_settings, judge, is_of_shot}
@@ -82,8 +82,8 @@ keeps_the_model = kept_model
 
 -- "Then a model by 1 to 6, settings by 10 to 16, a shot by 20, 21 and 30", with 27 after 21: over a model and settings, of either kind, that were accepted a shot is
 -- refused with 20, 21, 27 or 30 alone
-pub shot_refusals : (hasModel hasSettings : Bool) (model : List ℕ) (settings : Rec) (p : List ℕ) (r : Refusal) → model_fault model ≡ Done
-    → is_settings settings.kind ≡ true → judge hasModel hasSettings settings.kind settings.payload ≡ Done → settings_answer settings.kind settings.payload ≡ Done
+pub shot_refusals : (hasModel hasSettings : Bool) (model : List ℕ) (settings : Rec) (p : List ℕ) (r : Refusal) → model_fault model ≡ Ok tt
+    → is_settings settings.kind ≡ true → judge hasModel hasSettings settings.kind settings.payload ≡ Ok tt → settings_answer settings.kind settings.payload ≡ Ok tt
     → (decode_of model settings p).answer ≡ Decoded.Refused r → is_of_shot (number_of r) ≡ true
 unfolding decode_of
 shot_refusals hasModel hasSettings model settings p r m k j s e =
@@ -97,14 +97,14 @@ kinds_answered p = refl
 -- and in a stream they always were, so no shot past 41 to 45 ends a run: the next shot has the next number
 pub no_shot_ends : Accepted nothing_heard
     × ((h : Heard) (offset kind : ℕ) (p : List ℕ) (k : Heard) → Accepted h → (record_said h offset kind p).next ≡ some k → Accepted k)
-    × ((h : Heard) (offset : ℕ) (p : List ℕ) → Accepted h → judge (is_there h.model) (is_there h.settings) 3 p ≡ Done
+    × ((h : Heard) (offset : ℕ) (p : List ℕ) → Accepted h → judge (is_there h.model) (is_there h.settings) 3 p ≡ Ok tt
     → (record_said h offset 3 p).next ≡ some (heard h.model h.settings ((h.shots + 1) % 2 ^ 64)))
 no_shot_ends =
     (nothing_accepted, λ h offset kind p k a e. stays_accepted h a offset p k kind e, λ h offset p a j. shot_goes_on h a offset p j)
 
 -- the archive's "least weight": over a model and settings that were accepted, a shot past 41 to 45 gets the line of a refusal, or one whose bits are the best of its decode's
 -- legs: they satisfy every check where the line says converged, and fail at least one where it does not
-pub line_holds : (h : Heard) (offset : ℕ) (p : List ℕ) → Accepted h → judge (is_there h.model) (is_there h.settings) 3 p ≡ Done
+pub line_holds : (h : Heard) (offset : ℕ) (p : List ℕ) → Accepted h → judge (is_there h.model) (is_there h.settings) 3 p ≡ Ok tt
     → LineHolds h.shots (the_payload h.model) (the_record h.settings) p (record_said h offset 3 p).text
     ⊎ ((code : ℕ) × ((record_said h offset 3 p).text ≡ refused_line h.shots code))
 line_holds = shot_line_lem

@@ -8,7 +8,7 @@ use native.Mathlib.Omega.{arith}
 use lib.ListN.{length, get_or, take, length-append}
 use lib.Seq.{take-suc, take-length}
 use borrow.Author.Tests.{le-leb, eq-eqb}
-use Rattle.refusals.specs.declared.Answer.TheVariants.{Done}
+use Rattle.std.specs.Prelude.{Ok}
 use Rattle.refusals.specs.Tests.{unless, or_else}
 use Rattle.stream_grammar.specs.Stream.{AreBytes, bytes_of, Rec, rec, Sayable, AllSayable, none, more, checks, mechanisms, edges, degree, degrees, legs, schedule_byte, is_settings, kind_good, counts_fit, length_good, time_good, room_good, schedule_good, tested, judge}
 use Rattle.stream_grammar.specs.Payloads.{encode_shot, SettingsFields, encode_settings, Mechanism, encode_mechanisms, encode_detectors, encode_model}
@@ -21,7 +21,7 @@ use Rattle.stream_laws.proofs.ReadBack.{no_mechanism, SettingsFit, settings_read
 
 module _ (hasModel hasSettings : Bool) (p : List ℕ) where
   -- a model within the room, as long as its counts say, whose degrees add up to its edges
-  pub model_good_lem : ModelWithin (length p) (checks p) (mechanisms p) (edges p) (degrees (mechanisms p) p) → judge hasModel hasSettings 1 p ≡ Done
+  pub model_good_lem : ModelWithin (length p) (checks p) (mechanisms p) (edges p) (degrees (mechanisms p) p) → judge hasModel hasSettings 1 p ≡ Ok tt
   unfolding judge tested is_settings kind_good length_good counts_fit time_good room_good schedule_good or_else unless
   model_good_lem w =
       rw (
@@ -34,7 +34,7 @@ module _ (hasModel hasSettings : Bool) (p : List ℕ) where
       )
 
   -- settings of either kind and 49 bytes, with at most 16 relayed legs and a schedule that there is
-  pub settings_good_lem : (kind : ℕ) → is_settings kind ≡ true → length p ≡ 49 → legs p ≤ 16 → schedule_byte p ≤ 1 → judge hasModel hasSettings kind p ≡ Done
+  pub settings_good_lem : (kind : ℕ) → is_settings kind ≡ true → length p ≡ 49 → legs p ≤ 16 → schedule_byte p ≤ 1 → judge hasModel hasSettings kind p ≡ Ok tt
   unfolding judge tested is_settings kind_good length_good time_good room_good schedule_good or_else unless
   settings_good_lem kind h l k s =
       ⊎_elim
@@ -43,7 +43,7 @@ module _ (hasModel hasSettings : Bool) (p : List ℕ) where
       (settings_kind kind h)
 
 -- a shot with a seed and at most 128 bytes of a syndrome, behind a model and settings
-pub shot_good : (p : List ℕ) → 8 ≤ length p → length p ≤ 136 → judge true true 3 p ≡ Done
+pub shot_good : (p : List ℕ) → 8 ≤ length p → length p ≤ 136 → judge true true 3 p ≡ Ok tt
 unfolding judge tested is_settings kind_good length_good time_good room_good schedule_good or_else unless
 shot_good p l k = rw (le-leb 8 (length p) l, le-leb (length p) 136 k)
 
@@ -101,7 +101,7 @@ module _ (c : ℕ) (ms : List Mechanism) (ds : List ℕ) (good : GoodModel c ms 
       ∙ ap degrees_in (sym (take-suc ms n no_mechanism h))
 
   -- so 41 to 45 let it through
-  pub model_judged : (hasModel hasSettings : Bool) → judge hasModel hasSettings 1 (encode_model c ms ds) ≡ Done
+  pub model_judged : (hasModel hasSettings : Bool) → judge hasModel hasSettings 1 (encode_model c ms ds) ≡ Ok tt
   model_judged hasModel hasSettings =
       let p = encode_model c ms ds in
       let n : mechanisms p ≡ length ms = back.mechanisms in
@@ -151,7 +151,7 @@ pub record GoodSettings (s : SettingsFields) : Type 0 where
 
 -- 41 to 45 let them through
 pub settings_judged : (kind : ℕ) (s : SettingsFields) → is_settings kind ≡ true → GoodSettings s → (hasModel hasSettings : Bool)
-    → judge hasModel hasSettings kind (encode_settings s) ≡ Done
+    → judge hasModel hasSettings kind (encode_settings s) ≡ Ok tt
 settings_judged kind s h good hasModel hasSettings =
     let b = settings_read_lem s good.fit in
     settings_good_lem hasModel hasSettings (encode_settings s) kind h b.size (omega (arith, b.legs, good.legs_fit)) (omega (arith, b.schedule, good.schedule_fits))
@@ -209,7 +209,7 @@ unfolding encode_shot
 length_shot x = length-append (bytes_of 8 x.seed) x.syndrome ∙ ap (λ n. n + length x.syndrome) (length_bytes_of 8 x.seed)
 
 -- 41 to 45 let it through
-pub shot_judged : (x : ShotFields) → GoodShot x → judge true true 3 (shot_payload x) ≡ Done
+pub shot_judged : (x : ShotFields) → GoodShot x → judge true true 3 (shot_payload x) ≡ Ok tt
 shot_judged x good = shot_good (shot_payload x) (omega (arith, length_shot x)) (omega (arith, length_shot x, good.syndrome_fits))
 
 -- ---- records that a stream can hold

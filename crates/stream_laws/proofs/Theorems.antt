@@ -13,8 +13,8 @@ use lib.Seq.{length-take-le, take_at, drop_at}
 use borrow.Author.Tests.{leb-true, leb-false, le-leb, eqb-true, ne_eqb}
 use Rattle.numbers.proofs.Cases.{either, and_both}
 use Rattle.stream_grammar.specs.Stream.{seed, syndrome, AreBytes, number, number_at, Rec, rec, Sayable, AllSayable, none, more, encode, stream, length_said, kind_said, is_complete, checks, mechanisms, edges, degrees, legs, is_settings, kind_good, length_good, time_good, room_good, schedule_good, claims_of, tested, judge, left_over, is_of_shot}
-use Rattle.refusals.specs.declared.Answer.{Answer}
-use Rattle.refusals.specs.declared.Answer.TheVariants.{Done}
+use Rattle.refusals.specs.Refusal.{Answer}
+use Rattle.std.specs.Prelude.{Ok}
 use Rattle.relay_settings.specs.declared.DrawRule.TheVariants.{ByShot, SeedXorLeg}
 use Rattle.relay_settings.specs.declared.GammaSource.TheVariants.{Seeded}
 use Rattle.relay_settings.specs.declared.Settings.{Settings}
@@ -213,7 +213,7 @@ offset_after [] offset = offset
 offset_after (r ∷ rs) offset = offset_after rs ((offset + (6 + length r.payload)) % 2 ^ 64)
 
 -- what the reader says at the end of the input: whether bytes are left over, and at which offset
-pub ends_at : {X : Type 0} (g : ℕ → Answer → X) → ((a b : ℕ) → g a Done ≡ g b Done)
+pub ends_at : {X : Type 0} (g : ℕ → Answer → X) → ((a b : ℕ) → g a (Ok tt) ≡ g b (Ok tt))
     → (rs : List Rec) (rest : List ℕ) (offset : ℕ) (room : List ℕ) → AllSayable rs → AreBytes rest → is_complete rest ≡ false
     → end_of g (fed (stream rs ++ rest) (held (fresh offset) room)).reader ≡ g (offset_after rs offset) (left_over rest)
 unfolding stream at_end left_over opened
@@ -247,9 +247,9 @@ pub record StreamedBack (c : ℕ) (ms : List Mechanism) (ds : List ℕ) (kind : 
   pub sayable : AllSayable (all_records c ms ds kind s xs)
   pub apart : (t : Apart (stream (all_records c ms ds kind s xs))) → (t.records ≡ all_records c ms ds kind s xs) × (t.rest ≡ [])
   pub met : (room : List ℕ) → met (stream (all_records c ms ds kind s xs)) (held (fresh 0) room) ≡ to_meet (all_records c ms ds kind s xs) 0 room
-  pub model_good : judge false false 1 (encode_model c ms ds) ≡ Done
-  pub settings_good : judge true false kind (encode_settings s) ≡ Done
-  pub shots_good : (i : ℕ) → i < length xs → judge true true 3 (shot_payload (get_or xs i no_shot)) ≡ Done
+  pub model_good : judge false false 1 (encode_model c ms ds) ≡ Ok tt
+  pub settings_good : judge true false kind (encode_settings s) ≡ Ok tt
+  pub shots_good : (i : ℕ) → i < length xs → judge true true 3 (shot_payload (get_or xs i no_shot)) ≡ Ok tt
   pub model_back : ModelRead c ms ds (encode_model c ms ds)
   pub settings_back : SettingsRead s (encode_settings s)
   pub shots_back : (i : ℕ) → i < length xs
@@ -276,12 +276,12 @@ streamed_back c ms ds kind s xs m k t f =
 
 module _ (hasModel hasSettings : Bool) (p : List ℕ) where
   -- a model has at most 128 checks, 256 mechanisms and 512 edges, is as long as its counts say, and its degrees add up to its edges
-  pub model_let_through : judge hasModel hasSettings 1 p ≡ Done → ModelWithin (length p) (checks p) (mechanisms p) (edges p) (degrees (mechanisms p) p)
+  pub model_let_through : judge hasModel hasSettings 1 p ≡ Ok tt → ModelWithin (length p) (checks p) (mechanisms p) (edges p) (degrees (mechanisms p) p)
   unfolding judge
   model_let_through d = let t = passed hasModel hasSettings (claims_of 1 p) d in model_within _ _ _ _ _ _ t.size_good t.room_good_lem
 
   -- settings, of either kind, have 49 bytes and at most 16 relayed legs
-  pub settings_let_through : (kind : ℕ) → is_settings kind ≡ true → judge hasModel hasSettings kind p ≡ Done → (length p ≡ 49) × (legs p ≤ 16)
+  pub settings_let_through : (kind : ℕ) → is_settings kind ≡ true → judge hasModel hasSettings kind p ≡ Ok tt → (length p ≡ 49) × (legs p ≤ 16)
   unfolding judge length_good room_good
   settings_let_through kind h d =
       let t = passed hasModel hasSettings (claims_of kind p) d in
@@ -290,7 +290,7 @@ module _ (hasModel hasSettings : Bool) (p : List ℕ) where
       (eqb-true (length p) 49 size, leb-true (legs p) 16 room)
 
   -- a shot has a seed, at most 128 bytes of a syndrome, and a model and settings before it
-  pub shot_let_through : judge hasModel hasSettings 3 p ≡ Done → (8 ≤ length p) × (length p ≤ 136) × (hasModel ≡ true) × (hasSettings ≡ true)
+  pub shot_let_through : judge hasModel hasSettings 3 p ≡ Ok tt → (8 ≤ length p) × (length p ≤ 136) × (hasModel ≡ true) × (hasSettings ≡ true)
   unfolding judge is_settings length_good time_good room_good
   shot_let_through d =
       let t = passed hasModel hasSettings (claims_of 3 p) d in
@@ -298,7 +298,7 @@ module _ (hasModel hasSettings : Bool) (p : List ℕ) where
       (leb-true 8 (length p) t.size_good, leb-true (length p) 136 t.room_good_lem, b.0, b.1)
 
   -- the offsets of a model are sums of its degrees, exactly
-  pub offsets_exact : (m : ℕ) → judge hasModel hasSettings 1 p ≡ Done → m ≤ mechanisms p → offset p m ≡ degrees m p
+  pub offsets_exact : (m : ℕ) → judge hasModel hasSettings 1 p ≡ Ok tt → m ≤ mechanisms p → offset p m ≡ degrees m p
   unfolding offset
   offsets_exact m d k =
       let w = model_let_through d in

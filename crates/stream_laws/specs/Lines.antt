@@ -1,7 +1,7 @@
 -- What a line that `shots` writes of a shot implies, by the model and the syndrome that it is of. Definitions only. Assumes nothing.
 use Rattle.std.specs.Prelude.{ℕ, suc, ◌≤◌, ◌≡◌, Bool, true, false, List, Float}
 use Rattle.std.proofs.Math.Option.{Option}
-use Rattle.refusals.specs.declared.Answer.TheVariants.{Done}
+use Rattle.std.specs.Prelude.{Ok}
 use Rattle.graph_lists.specs.Graph.{Graph, graph_of, among}
 use Rattle.relay_stores.specs.Stores.{stores_at}
 use Rattle.relay_calls.specs.Calls.{summary}
@@ -57,7 +57,7 @@ pub record LineHolds (shots : ℕ) (model : List ℕ) (settings : Rec) (p text :
         prior = model_priors model;
         syndrome = syndrome p;
         legs = most_legs settings;
-        said = summary Done converged legs total stores weight;
+        said = summary (Ok tt) converged legs total stores weight;
         leg_state = leg_state;
         leg_iterations = leg_iterations;
         leg_weight = leg_weight;

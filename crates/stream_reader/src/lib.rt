@@ -10,7 +10,7 @@ ghost use Rattle.stream_grammar.specs.Stream.{seed, is_of_shot};
 ghost use Rattle.stream_grammar.specs.Fields.{counts_read, model_lists, model_read, settings_read};
 
 use numbers::limits::{ROOM_EDGES, ROOM_MECHANISM_OFFSETS, ROOM_MECHANISMS};
-use refusals::{Answer, Refusal};
+use refusals::Refusal;
 use refusals_tests::{at_most, both, or_else, unless};
 use relay_settings::{Clip, GammaSource, Settings};
 use stream_grammar::{fields, rules};
@@ -68,7 +68,7 @@ pub fn push(r: Reader, byte: u8, payload: &mut [u8]) -> Reader
 
 // 41 to 45 of a record that has been read to its end. Of settings it reads the legs and the schedule off the payload, so that 49 bytes
 // must have been kept.
-pub fn verdict(r: Reader, payload: &[u8], has_model: bool, has_settings: bool) -> Answer
+pub fn verdict(r: Reader, payload: &[u8], has_model: bool, has_settings: bool) -> Result<(), Refusal>
     ensures { result ≡ verdict_of has_model has_settings r payload.now }
 {
     let fits = rules::length_good(r.kind, r.length, r.mechanisms, r.edges, r.degrees);
@@ -87,7 +87,7 @@ pub fn verdict(r: Reader, payload: &[u8], has_model: bool, has_settings: bool) -
 }
 
 // At the end of the input: 40, unless it ends with a whole record or holds nothing.
-pub fn at_end(r: Reader) -> Answer
+pub fn at_end(r: Reader) -> Result<(), Refusal>
     ensures { result ≡ at_end r }
 {
     let open = step::opened(r);

@@ -2,8 +2,8 @@
 use Rattle.std.proofs.Common.{◌≡◌, ℕ, Bool, true, false, cond, List, length, take, sym, ap, ◌∙◌, eq-eqb, ne_eqb}
 use Rattle.numbers.specs.Loops.{over}
 use Rattle.refusals.specs.declared.Refusal.{Refusal}
-use Rattle.refusals.specs.declared.Answer.{Answer}
-use Rattle.refusals.specs.declared.Answer.TheVariants.{Done, Refused}
+use Rattle.refusals.specs.Refusal.{Answer}
+use Rattle.std.specs.Prelude.{Ok, Err}
 use Rattle.refusals.specs.Refusal.{number_of}
 use Rattle.stream_grammar.specs.Stream.{is_settings, is_of_shot}
 use Rattle.stream_reader.specs.declared.Reader.{Reader}
@@ -27,12 +27,12 @@ pub text_written : (s : Session) (text line after : List ℕ) (n : ℕ) → end_
 text_written s text line after n e f g = (rw (f, e), rw (g, e))
 
 -- 40 is the last text, or the shots are
-pub cut_text : (s : Session) (a : Answer) (r : Refusal) (code : ℕ) → s.stopped ≡ false → a ≡ at_end s.reader → a ≡ Refused r → code ≡ number_of r
+pub cut_text : (s : Session) (a : Answer) (r : Refusal) (code : ℕ) → s.stopped ≡ false → a ≡ at_end s.reader → a ≡ Err r → code ≡ number_of r
     → end_text s ≡ stopped_line code s.reader.offset
 unfolding end_text
 cut_text s a r code h e q k = rw (h, sym e, q, k)
 
-pub shots_text : (s : Session) (a : Answer) → s.stopped ≡ false → a ≡ at_end s.reader → a ≡ Done → end_text s ≡ end_line s.shots
+pub shots_text : (s : Session) (a : Answer) → s.stopped ≡ false → a ≡ at_end s.reader → a ≡ Ok tt → end_text s ≡ end_line s.shots
 unfolding end_text
 shots_text s a h e q = rw (h, sym e, q)
 

@@ -5,8 +5,8 @@ use Rattle.std.specs.Prelude.{ℕ, ◌+◌, ◌%◌, ◌^◌, Bool, true, false,
 use Rattle.std.proofs.Math.Option.{Option, none, some}
 use Rattle.numbers.specs.Limits.{room_mechanisms}
 use Rattle.refusals.specs.declared.Refusal.{Refusal}
-use Rattle.refusals.specs.declared.Answer.{Answer}
-use Rattle.refusals.specs.declared.Answer.TheVariants.{Done, Refused}
+use Rattle.refusals.specs.Refusal.{Answer}
+use Rattle.std.specs.Prelude.{Ok, Err}
 use Rattle.refusals.specs.Refusal.{number_of}
 use Rattle.relay_settings.specs.declared.Settings.{Settings}
 use Rattle.relay_calls.specs.declared.Decoded.{Decoded}
@@ -69,13 +69,13 @@ ends_run offset r = said (stopped_line (number_of r) offset) none
 
 -- a model, which the table answers so: it replaces an earlier one, and the settings stay
 abbrev pub model_said : Heard → ℕ → List ℕ → Answer → Said
-model_said h offset p Done = said [] (some (heard (some p) h.settings h.shots))
-model_said h offset p (Refused r) = ends_run offset r
+model_said h offset p (Ok tt) = said [] (some (heard (some p) h.settings h.shots))
+model_said h offset p (Err r) = ends_run offset r
 
 -- settings: they replace earlier ones, of either kind, and the model stays
 abbrev pub settings_said : Heard → ℕ → Rec → Answer → Said
-settings_said h offset q Done = said [] (some (heard h.model (some q) h.shots))
-settings_said h offset q (Refused r) = ends_run offset r
+settings_said h offset q (Ok tt) = said [] (some (heard h.model (some q) h.shots))
+settings_said h offset q (Err r) = ends_run offset r
 
 -- a shot's line, and the next shot has the next number
 unfoldable pub line_said : Heard → List ℕ → Said
@@ -100,8 +100,8 @@ payload_said h offset kind p =
 
 -- a record, which 41 to 45 answer so
 abbrev pub judged_said : Heard → ℕ → ℕ → List ℕ → Answer → Said
-judged_said h offset kind p Done = payload_said h offset kind p
-judged_said h offset kind p (Refused r) = ends_run offset r
+judged_said h offset kind p (Ok tt) = payload_said h offset kind p
+judged_said h offset kind p (Err r) = ends_run offset r
 
 -- a record at an offset
 unfoldable pub record_said : Heard → ℕ → ℕ → List ℕ → Said

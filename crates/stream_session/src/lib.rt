@@ -11,7 +11,7 @@ ghost use Rattle.numbers.specs.Loops.{over};
 ghost use Rattle.stream_session.specs.Shots.{start_session, told, taken, left, byte_taken, end_text};
 
 use numbers::limits::ROOM_LINE;
-use refusals::{Answer, number_of};
+use refusals::{Refusal, number_of};
 use relay_settings::Settings;
 use stream_reader::Reader;
 
@@ -90,7 +90,7 @@ pub fn finish(s: Session, line: &mut [u8; ROOM_LINE]) -> usize
     let reader = s.reader;
     let a = stream_reader::at_end(reader);
     match a {
-        Answer::Refused(r) => stream_lines::stopped_line(number_of(r), s.reader.offset, line),
-        Answer::Done => stream_lines::end_line(s.shots, line),
+        Err(r) => stream_lines::stopped_line(number_of(r), s.reader.offset, line),
+        Ok(()) => stream_lines::end_line(s.shots, line),
     }
 }

@@ -6,7 +6,7 @@ ghost use Rattle.stream_table.specs.Table.{model_fault, settings_answer, shot_de
 
 use crate::{Known, Session, telling};
 use numbers::limits::{ROOM_LINE, ROOM_MECHANISMS};
-use refusals::Answer;
+use refusals::Refusal;
 
 // Settings: they replace earlier ones, of either kind, and the model stays.
 fn take_settings(s: Session, payload: &[u8], line: &mut [u8; ROOM_LINE]) -> Session
@@ -17,8 +17,8 @@ fn take_settings(s: Session, payload: &[u8], line: &mut [u8; ROOM_LINE]) -> Sess
     let a = stream_table::settings_answer(kind, payload);
     let k = s.known;
     match a {
-        Answer::Refused(r) => telling::stop(s, r, line),
-        Answer::Done => telling::goes_on(
+        Err(r) => telling::stop(s, r, line),
+        Ok(()) => telling::goes_on(
             s,
             Known {
                 model_length: k.model_length,
@@ -53,8 +53,8 @@ fn take_model(s: Session, payload: &[u8], model: &mut [u8], line: &mut [u8; ROOM
     let k = s.known;
     let settings = k.settings;
     match a {
-        Answer::Refused(r) => telling::stop(s, r, line),
-        Answer::Done => {
+        Err(r) => telling::stop(s, r, line),
+        Ok(()) => {
             keep(payload, model);
             telling::goes_on(
                 s,
@@ -134,7 +134,7 @@ pub(crate) fn take_record(
     let reader = s.reader;
     let a = stream_reader::verdict(reader, kept, s.known.has_model, s.known.has_settings);
     match a {
-        Answer::Refused(r) => telling::stop(s, r, line),
-        Answer::Done => take_accepted(s, kept, model, line),
+        Err(r) => telling::stop(s, r, line),
+        Ok(()) => take_accepted(s, kept, model, line),
     }
 }

@@ -7,8 +7,8 @@ use lib.Ieee.{Float}
 use lib.ListN.{length, take, drop, drop_of_length-le}
 use lib.Seq.{take_all, take-length, drop-length}
 use Rattle.refusals.specs.declared.Refusal.TheVariants.{BeyondRoom}
-use Rattle.refusals.specs.declared.Answer.{Answer}
-use Rattle.refusals.specs.declared.Answer.TheVariants.{Refused}
+use Rattle.refusals.specs.Refusal.{Answer}
+use Rattle.std.specs.Prelude.{Err}
 use Rattle.refusals.specs.Tests.{unless, or_else}
 use Rattle.graph_lists.specs.Graph.{Graph}
 use Rattle.graph_lists.specs.Model.{build_outcome, build_sparse}
@@ -40,7 +40,7 @@ module _ (c : Counts) (p : List ℕ) (w : Bool) (e : c ≡ counts_read p) (f : w
   unfolding model_fault or_else unless
   model_within a h q = rw (← e, sym f ∙ h, q)
 
-  pub model_beyond : w ≡ false → Refused BeyondRoom ≡ model_fault p
+  pub model_beyond : w ≡ false → Err BeyondRoom ≡ model_fault p
   unfolding model_fault or_else unless
   model_beyond h = rw (← e, sym f ∙ h)
 

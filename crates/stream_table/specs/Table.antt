@@ -4,7 +4,7 @@ use Rattle.std.specs.Prelude.{ℕ, suc, ◌+◌, ◌*◌, Bool, cond, List, [], 
 use Rattle.numbers.specs.Limits.{room_checks, room_mechanisms, room_edges, room_legs}
 use Rattle.numbers.specs.Floats.{zero⁺}
 use Rattle.refusals.specs.declared.Refusal.TheVariants.{BeyondRoom}
-use Rattle.refusals.specs.declared.Answer.{Answer}
+use Rattle.refusals.specs.Refusal.{Answer}
 use Rattle.refusals.specs.Tests.{unless, or_else}
 use Rattle.graph_lists.specs.Graph.{Graph, graph}
 use Rattle.graph_lists.specs.Model.{BuildOutcome, build_sparse}

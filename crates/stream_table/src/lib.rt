@@ -16,7 +16,7 @@ use numbers::limits::{
     ROOM_ALL_LEGS, ROOM_CHECK_OFFSETS, ROOM_EDGES, ROOM_MECHANISM_OFFSETS, ROOM_MECHANISMS,
     ROOM_ROWS,
 };
-use refusals::{Answer, Refusal};
+use refusals::Refusal;
 use relay_calls::Decoded;
 use relay_settings::Settings;
 use stream_reader::Counts;
@@ -52,7 +52,7 @@ fn built(
     var_check: &mut [u32],
     var_message: &mut [u32],
     var_offset: &mut [u32],
-) -> Answer
+) -> Result<(), Refusal>
     ensures { let g = graph size.checks size.mechanisms check_var.old
         check_offset.old var_check.old var_message.old var_offset.old in
         result
@@ -74,7 +74,7 @@ fn built(
 }
 
 // A model within the room, read and built in arrays of its own.
-fn built_within(c: Counts, payload: &[u8]) -> Answer
+fn built_within(c: Counts, payload: &[u8]) -> Result<(), Refusal>
     requires { (c.checks ≤ room_checks) × (c.mechanisms ≤ room_mechanisms) × (c.edges ≤ room_edges) }
     ensures { result ≡ (built_from c.edges payload.now (model_room c) (graph_room c)).answer }
 {
@@ -109,18 +109,18 @@ fn built_within(c: Counts, payload: &[u8]) -> Answer
 }
 
 // A model: 1 to 6.
-pub fn model_fault(payload: &[u8]) -> Answer
+pub fn model_fault(payload: &[u8]) -> Result<(), Refusal>
     ensures { result ≡ model_fault payload.now }
 {
     let c = stream_reader::read_counts(payload);
     if within(c) {
         return built_within(c, payload);
     }
-    Answer::Refused(Refusal::BeyondRoom)
+    Err(Refusal::BeyondRoom)
 }
 
 // Settings: 10 to 16.
-pub fn settings_answer(kind: usize, payload: &[u8]) -> Answer
+pub fn settings_answer(kind: usize, payload: &[u8]) -> Result<(), Refusal>
     ensures { result ≡ settings_answer kind payload.now }
 {
     let none = [0.0; 1];

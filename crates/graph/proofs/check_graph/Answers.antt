@@ -7,7 +7,7 @@ use lib.ListN.{length}
 use borrow.Author.Tests.{not-true, not-false, eqb-true}
 use Rattle.numbers.proofs.Cases.{and_both, was_true, was_false}
 use Rattle.refusals.specs.Tests.{first_of}
-use Rattle.refusals.specs.declared.Answer.{Answer}
+use Rattle.refusals.specs.Refusal.{Answer}
 use Rattle.graph_lists.specs.Graph.{graph}
 use Rattle.graph_lists.specs.Model.{graph_fits, prior_fault, sizes_good}
 use Rattle.graph_lists.proofs.GraphTests.{fault_1, fault_2, fault_4, fault_7, fault_none}

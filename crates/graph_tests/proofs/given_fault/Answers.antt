@@ -6,7 +6,7 @@ use Prim.Native.Nat.{ℕ}
 use lib.Ieee.{Float, nan, le}
 use lib.ListN.{get_or}
 use Rattle.refusals.specs.Tests.{unless}
-use Rattle.refusals.specs.declared.Answer.{Answer}
+use Rattle.refusals.specs.Refusal.{Answer}
 use Rattle.refusals.specs.declared.Refusal.{Refusal}
 use Rattle.probabilities.specs.Calls.{is_probability, probability_fault}
 use Rattle.graph_lists.specs.Model.{prior_good, prior_fault}

@@ -6,7 +6,7 @@ use mathlib.Core.Path.{◌≡◌}
 use Prim.Native.Nat.{ℕ}
 use lib.ListN.{length}
 use Rattle.refusals.specs.Tests.{is_done, or_else, first_of}
-use Rattle.refusals.specs.declared.Answer.{Answer}
+use Rattle.refusals.specs.Refusal.{Answer}
 use Rattle.graph_lists.specs.Model.{detector_fault, mechanism_test}
 use Rattle.graph_tests.proofs.mechanism_fault.Goals as goal
 

@@ -2,13 +2,13 @@
 use mathlib.Core.Path.{◌≡◌}
 use Prim.Native.Nat.{◌-◌, ◌≤◌}
 use Rattle.refusals.specs.Tests.{first_of}
-use Rattle.refusals.specs.declared.Answer.TheVariants.{Done}
+use Rattle.std.specs.Prelude.{Ok}
 use Rattle.graph_lists.specs.Model.{mechanism_fault}
 use Rattle.graph_tests.specs.Numbers.{given_fault}
 use Rattle.graph_tests.proofs.mechanisms_fault.Given as goal
 
 abbrev pub invariant-loop-m : goal.invariant-loop-m
-invariant-loop-m l = (l.m ≤ l.mechanisms) × (first_of l.m (mechanism_fault l.checks (given_fault l.given l.numbers) l.off l.dets) ≡ Done)
+invariant-loop-m l = (l.m ≤ l.mechanisms) × (first_of l.m (mechanism_fault l.checks (given_fault l.given l.numbers) l.off l.dets) ≡ Ok tt)
 
 abbrev pub decreases-loop-m : goal.decreases-loop-m
 decreases-loop-m l = l.mechanisms - l.m

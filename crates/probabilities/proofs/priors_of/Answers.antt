@@ -10,8 +10,8 @@ use lib.Ieee.{Float}
 use lib.ListN.{length}
 use borrow.Author.Tests.{not-true, not-false}
 use Rattle.refusals.specs.declared.Refusal.TheVariants.{ModelListLength}
-use Rattle.refusals.specs.declared.Answer.{Answer}
-use Rattle.refusals.specs.declared.Answer.TheVariants.{Refused}
+use Rattle.refusals.specs.Refusal.{Answer}
+use Rattle.std.specs.Prelude.{Err}
 use Rattle.refusals.specs.Tests.{is_done, unless, or_else, first_of, unless_refused}
 use Rattle.probabilities.specs.Scaled.{scaled_of, prior_of}
 use Rattle.probabilities.specs.Calls.{probability_fault, priors_outcome, priors_fault, priors_of}
@@ -24,7 +24,7 @@ module _ (ps priors : List Float) (scaled : List ℤ) where
   fit = eqb (length priors) (length ps) && eqb (length scaled) (length ps)
 
   -- they are not
-  long : fit ≡ false → priors_outcome (Refused ModelListLength) priors scaled ≡ priors_of ps priors scaled
+  long : fit ≡ false → priors_outcome (Err ModelListLength) priors scaled ≡ priors_of ps priors scaled
   unfolding priors_of priors_fault unless or_else unless_refused
   long h = rw h
 

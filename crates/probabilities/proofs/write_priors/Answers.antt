@@ -10,7 +10,7 @@ use lib.ListN.{length, get_or, length-set}
 use mir.Syntax.{w64}
 use mir.Val.{to_z, of_z}
 use Rattle.numbers.proofs.Turns.{map_turn}
-use Rattle.refusals.specs.declared.Answer.TheVariants.{Done}
+use Rattle.std.specs.Prelude.{Ok}
 use Rattle.refusals.specs.declared.Refusal.TheVariants.{BadProbability}
 use Rattle.refusals.specs.Tests.{first_of}
 use Rattle.refusals.proofs.Tests.{first_all, unless_done}
@@ -20,7 +20,7 @@ use Rattle.probabilities.proofs.Priors.{scaled_held, scaled_back}
 use Rattle.probabilities.proofs.write_priors.Goals as goal
 
 -- each is a probability
-each : (ps : List Float) → first_of (length ps) (probability_fault ps) ≡ Done → (m : ℕ) → m < length ps → is_probability (get_or ps m nan) ≡ true
+each : (ps : List Float) → first_of (length ps) (probability_fault ps) ≡ Ok tt → (m : ℕ) → m < length ps → is_probability (get_or ps m nan) ≡ true
 unfolding probability_fault
 each ps h m l = unless_done (is_probability (get_or ps m nan)) (BadProbability m) (first_all (probability_fault ps) (length ps) h m l)
 

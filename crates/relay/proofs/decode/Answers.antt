@@ -22,7 +22,7 @@ decode_counted-requires c =
       v_to_c = c.args.v_to_c.now;
     }) _
     c.shot_fault-a.ensures
-    c.in-Done.is in
+    c.in-Ok.is in
     record {
       syndrome_len_bound = omega (arith, w.checks_many, w.checks_few);
       reads = w.reads;
@@ -32,8 +32,8 @@ decode_counted-requires c =
       check_var_len_bound = w.edges_few;
     }
 
-pub returns-in-Refused : goal.returns-in-Refused
-returns-in-Refused c =
+pub returns-in-Err : goal.returns-in-Err
+returns-in-Err c =
     index_refused c.args.size.edges c.args.size.checks c.args.size.mechanisms
     c.args.settings c.args.gammas.now c.args.seed c.args.syndrome.now
     c.args.priors.now c.args.check_var.now c.args.check_offset.now c.args.var_check.now c.args.var_message.now c.args.var_offset.now
@@ -50,10 +50,10 @@ returns-in-Refused c =
       v_to_c = c.args.v_to_c.now;
     }) _ _
     c.shot_fault-a.ensures
-    c.in-Refused.is
+    c.in-Err.is
 
-pub returns-in-Done : goal.returns-in-Done
-returns-in-Done c =
+pub returns-in-Ok : goal.returns-in-Ok
+returns-in-Ok c =
     index_ran c.args.size.edges c.args.size.checks c.args.size.mechanisms
     c.args.settings c.args.gammas.now c.args.seed c.args.syndrome.now
     c.args.priors.now c.args.check_var.now c.args.check_offset.now c.args.var_check.now c.args.var_message.now c.args.var_offset.now
@@ -70,5 +70,5 @@ returns-in-Done c =
       v_to_c = c.args.v_to_c.now;
     }) _ _
     c.shot_fault-a.ensures
-    c.in-Done.is
+    c.in-Ok.is
     c.decode_counted.ensures

@@ -20,7 +20,7 @@ decode_taken-requires c =
       v_to_c = c.args.v_to_c.now;
     }) _
     c.taken_fault-a.ensures
-    c.in-Done.is in
+    c.in-Ok.is in
     record {
       reads = w.reads;
       legs_fit = w.legs_fit_lem;
@@ -29,8 +29,8 @@ decode_taken-requires c =
       check_var_len_bound = w.edges_few;
     }
 
-pub returns-in-Refused : goal.returns-in-Refused
-returns-in-Refused c =
+pub returns-in-Err : goal.returns-in-Err
+returns-in-Err c =
     in_order_refused c.args.size.edges c.args.size.checks c.args.size.mechanisms
     c.args.settings c.args.gammas.now c.args.seed c.args.syndrome.now
     c.args.priors.now c.args.check_var.now
@@ -47,10 +47,10 @@ returns-in-Refused c =
       c_to_v = c.args.c_to_v.now;
       v_to_c = c.args.v_to_c.now;
     }) _ _ c.taken_fault-a.ensures
-    c.in-Refused.is
+    c.in-Err.is
 
-pub returns-in-Done : goal.returns-in-Done
-returns-in-Done c =
+pub returns-in-Ok : goal.returns-in-Ok
+returns-in-Ok c =
     in_order_ran c.args.size.edges c.args.size.checks c.args.size.mechanisms
     c.args.settings c.args.gammas.now c.args.seed c.args.syndrome.now
     c.args.priors.now c.args.check_var.now
@@ -66,5 +66,5 @@ returns-in-Done c =
       bias = c.args.bias.now;
       c_to_v = c.args.c_to_v.now;
       v_to_c = c.args.v_to_c.now;
-    }) _ _ c.taken_fault-a.ensures c.in-Done.is
+    }) _ _ c.taken_fault-a.ensures c.in-Ok.is
     c.decode_taken.ensures

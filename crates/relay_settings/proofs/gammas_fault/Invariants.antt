@@ -3,12 +3,12 @@ use mathlib.Core.Path.{◌≡◌}
 use Prim.Native.Nat.{◌-◌, ◌≤◌}
 use lib.ListN.{length}
 use Rattle.refusals.specs.Tests.{first_of}
-use Rattle.refusals.specs.declared.Answer.TheVariants.{Done}
+use Rattle.std.specs.Prelude.{Ok}
 use Rattle.relay_settings.specs.Settings.{gamma_fault}
 use Rattle.relay_settings.proofs.gammas_fault.Given as goal
 
 abbrev pub invariant-loop-i : goal.invariant-loop-i
-invariant-loop-i l = (l.i ≤ length l.gammas) × (first_of l.i (gamma_fault l.gammas) ≡ Done)
+invariant-loop-i l = (l.i ≤ length l.gammas) × (first_of l.i (gamma_fault l.gammas) ≡ Ok tt)
 
 abbrev pub decreases-loop-i : goal.decreases-loop-i
 decreases-loop-i l = length l.gammas - l.i

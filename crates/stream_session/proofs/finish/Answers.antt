@@ -7,11 +7,11 @@ pub returns-then-s : goal.returns-then-s
 unfolding end_text
 returns-then-s c = (rw c.if-s.true, rw c.if-s.true)
 
-pub returns-in-Refused : goal.returns-in-Refused
-returns-in-Refused c =
+pub returns-in-Err : goal.returns-in-Err
+returns-in-Err c =
     text_written _ _ _ _ _ (cut_text _ _ _ _ c.if-s.false
-    c.at_end-a.ensures c.in-Refused.is c.number_of.ensures)
+    c.at_end-a.ensures c.in-Err.is c.number_of.ensures)
     c.stopped_line.ensures.0 c.stopped_line.ensures.1
 
-pub returns-in-Done : goal.returns-in-Done
-returns-in-Done c = text_written _ _ _ _ _ (shots_text _ _ c.if-s.false c.at_end-a.ensures c.in-Done.is) c.end_line.ensures.0 c.end_line.ensures.1
+pub returns-in-Ok : goal.returns-in-Ok
+returns-in-Ok c = text_written _ _ _ _ _ (shots_text _ _ c.if-s.false c.at_end-a.ensures c.in-Ok.is) c.end_line.ensures.0 c.end_line.ensures.1

@@ -2,7 +2,6 @@
 use Rattle.numbers.specs.Draw.{mixed}
 use Rattle.numbers.proofs.SplitMix64.draw.Goals as goal
 
-pub returns : goal.returns
+pub returns-clause-value : goal.returns-clause-value
 unfolding mixed
-returns c =
-    record { value = rw (c.wrapping_mul-b.ensures, c.wrapping_mul-a.ensures, c.wrapping_add_u64-z.ensures.value); next = c.wrapping_add_u64-z.ensures.value }
+returns-clause-value c = rw (c.wrapping_mul-b.ensures, c.wrapping_mul-a.ensures)

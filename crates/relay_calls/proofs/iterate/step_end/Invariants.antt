@@ -4,14 +4,14 @@ use mathlib.Core.Path.{◌≡◌}
 use Prim.Native.Nat.{◌≤◌, ◌-◌}
 use lib.ListN.{length}
 use Rattle.refusals.specs.Tests.{first_of}
-use Rattle.refusals.specs.declared.Answer.TheVariants.{Done}
+use Rattle.std.specs.Prelude.{Ok}
 use Rattle.graph_messages.specs.Needs.{of_variables}
 use Rattle.relay_step.specs.Step.{state}
 use Rattle.relay_calls.specs.Calls.{finite_fault}
 use Rattle.relay_calls.proofs.iterate.step_end.Given as goal
 
 abbrev pub invariant-loop-v : goal.invariant-loop-v
-invariant-loop-v l = (l.v ≤ length l.posterior) × (first_of l.v (finite_fault (of_variables (length l.posterior) l.var_message l.var_offset) (state l.c_to_v l.v_to_c l.posterior)) ≡ Done)
+invariant-loop-v l = (l.v ≤ length l.posterior) × (first_of l.v (finite_fault (of_variables (length l.posterior) l.var_message l.var_offset) (state l.c_to_v l.v_to_c l.posterior)) ≡ Ok tt)
 
 abbrev pub decreases-loop-v : goal.decreases-loop-v
 decreases-loop-v l = length l.posterior - l.v
