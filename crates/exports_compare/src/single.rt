@@ -64,9 +64,9 @@ pub extern "C" fn chowderkite_wrapping_mul(a: u64, b: u64) -> u64
 pub extern "C" fn chowderkite_next_state(state: u64) -> u64
     ensures { result ≡ advanced state }
 {
-    let drawn = SplitMix64::new(state).draw();
-    let next = drawn.next;
-    next.state
+    let mut generator = SplitMix64::new(state);
+    let _ = generator.draw();
+    generator.state
 }
 
 // The draw from a state.
@@ -74,8 +74,7 @@ pub extern "C" fn chowderkite_next_state(state: u64) -> u64
 pub extern "C" fn chowderkite_draw(state: u64) -> u64
     ensures { result ≡ mixed (advanced state) }
 {
-    let drawn = SplitMix64::new(state).draw();
-    drawn.value
+    SplitMix64::new(state).draw()
 }
 
 // `numbers::unit`.

@@ -14,7 +14,7 @@ use relay_settings::{Clip, DrawRule, GammaSource, Schedule, Settings};
 
 // A refusal's code; 30 zeroes the counts and the weight.
 fn tell_refusal(r: Refusal, counts: &mut [u64; 4], weight: &mut [f64; 1]) -> u64
-    ensures code { result ≡ code_of (Refused r) }
+    ensures code { result ≡ code_of (Err r) }
     ensures counts { counts.new ≡ cond (eqb (number_of r) 30) (0 ∷ (0 ∷ (0 ∷ (0 ∷ [])))) counts.old }
     ensures weight { weight.new ≡ cond (eqb (number_of r) 30) (zero⁺ ∷ []) weight.old }
 {

@@ -182,7 +182,7 @@ pub fn answer_run(
     each: u64,
 ) -> Decoded
     requires { total_iterations * each ≤ max_stores }
-    ensures { result ≡ answer_by Done (best_of found weight) executed_legs total_iterations (total_iterations * each) }
+    ensures { result ≡ answer_by (Ok tt) (best_of found weight) executed_legs total_iterations (total_iterations * each) }
 {
     let stores = total_iterations as u64 * each;
     if found {
