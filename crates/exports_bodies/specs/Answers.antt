@@ -1,8 +1,7 @@
 -- What an exported call leaves: the code of its answer, and the lent lists as the call below left them. How an answer is a code: `exports_values` `Codes`. Definitions only. Assumes nothing.
-use Rattle.std.specs.Prelude.{ℕ, List, [], ◌∷◌, ℤ, Float}
-use Rattle.refusals.specs.declared.Answer.TheVariants as Answer
-use Rattle.probabilities.specs.declared.PriorAnswer.{PriorAnswer}
-use Rattle.probabilities.specs.declared.PriorAnswer.TheVariants.{Prior, Refused}
+use Rattle.std.specs.Prelude.{ℕ, List, [], ◌∷◌, ℤ, Float, Result, Ok, Err}
+use Rattle.refusals.specs.declared.Refusal.{Refusal}
+use Rattle.probabilities.specs.declared.Prior.{Prior}
 use Rattle.probabilities.specs.Calls.{PriorsOutcome}
 use Rattle.graph_lists.specs.Graph.{Graph}
 use Rattle.graph_lists.specs.Model.{BuildOutcome}
@@ -56,9 +55,9 @@ abbrev pub priors_left_by : PriorsOutcome → PriorsLeft
 priors_left_by o = priors_left (code_of o.answer) o.priors o.scaled
 
 -- an answer of `prior_of`, over two lists of one as they were
-abbrev pub prior_left_by : PriorAnswer → List Float → List ℤ → PriorsLeft
-prior_left_by (Prior scaled prior) priors whole = priors_left 0 (prior ∷ []) (scaled ∷ [])
-prior_left_by (Refused r) priors whole = priors_left (code_of (Answer.Refused r)) priors whole
+abbrev pub prior_left_by : Result Prior Refusal → List Float → List ℤ → PriorsLeft
+prior_left_by (Ok p) priors whole = priors_left 0 (p.value ∷ []) (p.scaled ∷ [])
+prior_left_by (Err r) priors whole = priors_left (code_of (Err r)) priors whole
 
 -- ---- beliefs
 

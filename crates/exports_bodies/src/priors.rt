@@ -4,20 +4,20 @@ ghost use Rattle.probabilities.specs.Calls.{prior_answer, priors_of};
 ghost use Rattle.exports_bodies.specs.Answers.{priors_left, priors_left_by, prior_left_by};
 
 use exports_values::answers::code;
-use probabilities::PriorAnswer;
+use probabilities::Prior;
 use refusals::Refusal;
 
 // A prior into the lists, or the code of why there is none.
-fn tell_prior(answer: PriorAnswer, prior: &mut [f64; 1], scaled: &mut [i64; 1]) -> u64
+fn tell_prior(answer: Result<Prior, Refusal>, prior: &mut [f64; 1], scaled: &mut [i64; 1]) -> u64
     ensures { priors_left result prior.new scaled.new ≡ prior_left_by answer prior.old scaled.old }
 {
     match answer {
-        PriorAnswer::Prior(s, value) => {
-            *prior = [value];
-            *scaled = [s];
+        Ok(p) => {
+            *prior = [p.value];
+            *scaled = [p.scaled];
             0
         }
-        PriorAnswer::Refused(r) => code(Err(r)),
+        Err(r) => code(Err(r)),
     }
 }
 

@@ -14,7 +14,7 @@ use graph::count_edges;
 use graph_lists::build::from_detectors;
 use graph_lists::dense::from_matrix;
 use graph_tests::{Given, dense_fault, lists_fit, sparse_fault};
-use probabilities::{PriorAnswer, prior_of};
+use probabilities::prior_of;
 use refusals::Refusal;
 use refusals_tests::{both, is_done, same_number};
 
@@ -26,10 +26,7 @@ fn made_prior(p: f64) -> f64
     requires { is_probability p ≡ true }
     ensures { result ≡ prior_of p }
 {
-    match prior_of(p, 0) {
-        PriorAnswer::Prior(_, x) => x,
-        PriorAnswer::Refused(_) => 0.0,
-    }
+    prior_of(p, 0).unwrap().value
 }
 
 // The priors of probabilities that pass 8, in their list.

@@ -1,13 +1,13 @@
 -- What `prior_of` and `priors_of` answer and leave in their lists: 8, and 2 before it. Definitions only. Assumes nothing.
-use Rattle.std.specs.Prelude.{ℕ, Bool, ◌&&◌, cond, List, map, eqb, ℤ, Float, length, get_or}
+use Rattle.std.specs.Prelude.{ℕ, Bool, ◌&&◌, cond, List, map, eqb, ℤ, Float, length, get_or, Result, Ok, Err}
 use Rattle.std.specs.Float.{nan}
 use Rattle.std.specs.Float.Ieee.{le}
 use Rattle.numbers.specs.Floats.{zero⁺, one⁺}
+use Rattle.refusals.specs.declared.Refusal.{Refusal}
 use Rattle.refusals.specs.declared.Refusal.TheVariants.{ModelListLength, BadProbability}
 use Rattle.refusals.specs.Refusal.{Answer}
 use Rattle.refusals.specs.Tests.{unless, or_else, first_of, unless_refused}
-use Rattle.probabilities.specs.declared.PriorAnswer.{PriorAnswer}
-use Rattle.probabilities.specs.declared.PriorAnswer.TheVariants.{Prior, Refused}
+use Rattle.probabilities.specs.declared.Prior.{Prior}
 use Rattle.probabilities.specs.Scaled.{scaled_of, prior_of}
 
 -- p is a number from 0 to 1. Negative zero is 0.
@@ -19,8 +19,8 @@ unfoldable pub probability_fault : List Float → ℕ → Answer
 probability_fault ps m = unless (is_probability (get_or ps m nan)) (BadProbability m)
 
 -- `prior_of`: the prior times 2 ^ 32 with the float made of it, or 8
-unfoldable pub prior_answer : Float → ℕ → PriorAnswer
-prior_answer p mechanism = cond (is_probability p) (Prior (scaled_of p) (prior_of p)) (Refused (BadProbability mechanism))
+unfoldable pub prior_answer : Float → ℕ → Result Prior Refusal
+prior_answer p mechanism = cond (is_probability p) (Ok (record { scaled = scaled_of p; value = prior_of p })) (Err (BadProbability mechanism))
 
 -- an answer, and the two result lists as the call leaves them
 pub record PriorsOutcome : Type 0 where

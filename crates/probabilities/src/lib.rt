@@ -21,10 +21,8 @@ fn nested(u: u64) -> u64
     requires { 9 * u ≤ 2 ^ 32 }
     ensures { result ≡ nested_of terms 0 u }
 {
-    let mut sum: u64 = 0;
-    let mut j: u64 = 10;
-    while 0 < j {
-        j -= 1;
+    let mut sum = 0;
+    for j in (0..10u64).rev() {
         sum = 4294967296 / (2 * j + 1) + u * sum / 4294967296;
     }
     sum
@@ -160,29 +158,26 @@ fn float_of(scaled: i64) -> f64
 pub fn is_probability(p: f64) -> bool
     ensures { result ≡ is_probability p }
 {
-    if 0.0 <= p {
-        return p <= 1.0;
-    }
-    false
+    0.0 <= p && p <= 1.0
 }
 
-// What `prior_of` answers: the prior times 2^32 as a whole number, with the float made of it; or why there is none.
-#[derive(Clone, Copy)]
-pub enum PriorAnswer {
-    Prior(i64, f64),
-    Refused(Refusal),
+// The prior of a probability, times 2^32 as a whole number, and the float made of it.
+#[derive(Clone, Copy, Debug)]
+pub struct Prior {
+    pub scaled: i64,
+    pub value: f64,
 }
 
 // The prior of the probability p of a mechanism. A NaN and a number outside 0 .. 1 are refused.
-pub fn prior_of(p: f64, mechanism: usize) -> PriorAnswer
+pub fn prior_of(p: f64, mechanism: usize) -> Result<Prior, Refusal>
     ensures { result ≡ prior_answer p mechanism }
 {
-    if is_probability(p) {
-        let scaled = scaled_of(p);
-        let value = float_of(scaled);
-        return PriorAnswer::Prior(scaled, value);
+    if !is_probability(p) {
+        return Err(Refusal::BadProbability(mechanism));
     }
-    PriorAnswer::Refused(Refusal::BadProbability(mechanism))
+    let scaled = scaled_of(p);
+    let value = float_of(scaled);
+    Ok(Prior { scaled, value })
 }
 
 // ---- lists of them
@@ -191,12 +186,10 @@ pub fn prior_of(p: f64, mechanism: usize) -> PriorAnswer
 fn probabilities_fault(probabilities: &[f64]) -> Result<(), Refusal>
     ensures { result ≡ first_of (length probabilities.now) (probability_fault probabilities.now) }
 {
-    let mut m = 0;
-    while m < probabilities.len() {
-        if !is_probability(probabilities[m]) {
+    for (m, p) in probabilities.iter().enumerate() {
+        if !is_probability(*p) {
             return Err(Refusal::BadProbability(m));
         }
-        m += 1;
     }
     Ok(())
 }
@@ -209,28 +202,27 @@ fn write_priors(probabilities: &[f64], priors: &mut [f64], scaled: &mut [i64])
     ensures { (priors.new ≡ map prior_of probabilities.now)
         × (scaled.new ≡ map scaled_of probabilities.now) }
 {
-    let mut m = 0;
-    while m < probabilities.len() {
-        let s = scaled_of(probabilities[m]);
+    for (m, p) in probabilities.iter().enumerate() {
+        let s = scaled_of(*p);
         priors[m] = float_of(s);
         scaled[m] = s;
-        m += 1;
     }
 }
 
 // The priors of a list of probabilities, into lists of the same length: as floats, and times 2^32 as whole numbers.
-pub fn priors_of(probabilities: &[f64], priors: &mut [f64], scaled: &mut [i64]) -> Result<(), Refusal>
+pub fn priors_of(
+    probabilities: &[f64],
+    priors: &mut [f64],
+    scaled: &mut [i64],
+) -> Result<(), Refusal>
     ensures { priors_outcome result priors.new scaled.new
         ≡ priors_of probabilities.now priors.old scaled.old }
 {
     let n = probabilities.len();
-    if !both(same_number(priors.len(), n), same_number(scaled.len(), n)) {
+    if priors.len() != n || scaled.len() != n {
         return Err(Refusal::ModelListLength);
     }
-    let a = probabilities_fault(probabilities);
-    if !is_done(a) {
-        return a;
-    }
+    probabilities_fault(probabilities)?;
     write_priors(probabilities, priors, scaled);
-    a
+    Ok(())
 }

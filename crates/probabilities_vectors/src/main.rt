@@ -5,31 +5,16 @@
 ghost use Rattle.std.specs.Prelude.{◌*◌, ◌^◌, ◌≤◌, nat_abs};
 
 use numbers::SplitMix64;
-use probabilities::PriorAnswer;
 use std::io;
-
-// A number without its sign.
-fn magnitude(n: i64) -> u64
-    requires { nat_abs n ≤ 30 * 2 ^ 32 }
-{
-    if n < 0 {
-        return (0 - n) as u64;
-    }
-    n as u64
-}
 
 // One line: the prior times 2^32, or "refused".
 fn write_prior(rt: &impl Print, p: f64) -> io::Result<()> {
-    let answer = probabilities::prior_of(p, 7);
-    match answer {
-        PriorAnswer::Prior(scaled, _) => {
-            if scaled < 0 {
-                print!(rt; "-")?;
-            }
-            let digits = magnitude(scaled);
-            println!(rt; "{digits}")
+    match probabilities::prior_of(p, 7) {
+        Ok(prior) => {
+            let scaled = prior.scaled;
+            println!(rt; "{scaled}")
         }
-        PriorAnswer::Refused(_) => println!(rt; "refused"),
+        Err(_) => println!(rt; "refused"),
     }
 }
 
@@ -37,14 +22,12 @@ fn write_prior(rt: &impl Print, p: f64) -> io::Result<()> {
 fn write_draws(rt: &impl Print, n: u64) -> io::Result<()> {
     let mut generator = SplitMix64::new(1);
     for _ in 0u64..n {
-        let drawn = generator.draw();
-        let p = numbers::unit(drawn.value);
+        let p = numbers::unit(generator.draw());
         write_prior(rt, p)?;
         write_prior(rt, p * 0.001)?;
         write_prior(rt, 1.0 - p * 0.000001)?;
         write_prior(rt, p * 2e-13)?;
         write_prior(rt, 1.0 - p * 2e-13)?;
-        generator = drawn.next;
     }
     Ok(())
 }

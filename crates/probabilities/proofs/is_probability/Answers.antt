@@ -7,6 +7,6 @@ pub returns-then-p : goal.returns-then-p
 unfolding of_bits is_probability
 returns-then-p c = rw c.if-p.true
 
-pub returns : goal.returns
+pub returns-else-p : goal.returns-else-p
 unfolding of_bits is_probability
-returns c = rw c.if-p.false
+returns-else-p c = rw c.if-p.false

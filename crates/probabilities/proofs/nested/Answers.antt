@@ -1,4 +1,4 @@
--- `probabilities::nested` meets its contract. With j terms to go, the sum is that of the terms behind them. Assumes nothing.
+-- `probabilities::nested` meets its contract. Behind n turns the sum is that of the last n terms. Assumes nothing.
 use mathlib.Core.Path.{◌≡◌, refl, sym, ap, ◌∙◌}
 use Prim.Native.Nat.{ℕ, zero, suc, ◌+◌, ◌-◌, ◌*◌, ◌/◌, ◌^◌, ◌≤◌, ◌<◌}
 use native.Mathlib.Nat.{mul-le-mul, div-le_self}
@@ -31,12 +31,11 @@ turn (suc j) u s p h e =
 
 pub loop-j-init : goal.loop-j-init
 unfolding nested
-loop-j-init c = (omega arith, refl)
+loop-j-init c = refl
 
 pub overflow_mul-sum-in-loop-j : goal.overflow_mul-sum-in-loop-j
 overflow_mul-sum-in-loop-j c =
-    record { fits = product_fits (terms - c.loop-j.j) c.loop-j.j c.args.u c.loop-j.sum c.requires c.loop-j.invariant.1 }
+    record { fits = product_fits (terms - c.loop-j.j) c.loop-j.j c.args.u c.loop-j.sum c.requires c.loop-j.invariant }
 
 pub loop-j-preserved : goal.loop-j-preserved
-loop-j-preserved c =
-    (omega arith, turn c.loop-j.j c.args.u c.loop-j.sum c.loop-j-test.true c.loop-j.invariant.0 c.loop-j.invariant.1)
+loop-j-preserved c = turn c.loop-j.j c.args.u c.loop-j.sum c.loop-j-test.true (omega arith) c.loop-j.invariant

@@ -1,10 +1,6 @@
 -- `probabilities::probabilities_fault` meets its contract. The invariant: none of the first m is refused. Assumes nothing.
-use mathlib.Core.Bool.{not}
-use mathlib.Core.Path.{ap}
-use mathlib.Core.Path.{refl}
-use native.Mathlib.Omega.{arith}
-use lib.Ieee.{nan}
-use lib.ListN.{get_or}
+use Rattle.std.proofs.Common.{not, ap, refl, get_or}
+use Rattle.std.specs.Float.{nan}
 use Rattle.refusals.proofs.Tests.{unless_refuse, unless_go}
 use Rattle.refusals.specs.Tests.{first_of}
 use Rattle.refusals.specs.declared.Refusal.TheVariants.{BadProbability}
@@ -13,18 +9,15 @@ use Rattle.probabilities.proofs.probabilities_fault.Goals as goal
 
 pub loop-m-init : goal.loop-m-init
 unfolding first_of
-loop-m-init c = (omega arith, refl)
+loop-m-init c = refl
 
 pub returns-then-not-is_probability : goal.returns-then-not-is_probability
 unfolding probability_fault
 returns-then-not-is_probability c = unless_refuse (λ k. is_probability (get_or c.args.probabilities.now k nan)) BadProbability
     c.loop-m.m _ _ c.loop-m-test.true
-    c.loop-m.invariant.1 c.is_probability.ensures (ap not c.if-not-is_probability.true)
+    c.loop-m.invariant c.is_probability.ensures (ap not c.if-not-is_probability.true)
 
 pub loop-m-preserved : goal.loop-m-preserved
 unfolding probability_fault
-loop-m-preserved c = (
-  omega arith,
-  unless_go (λ k. is_probability (get_or c.args.probabilities.now k nan)) BadProbability
-      c.loop-m.m _ c.loop-m.invariant.1 c.is_probability.ensures (ap not c.if-not-is_probability.false),
-)
+loop-m-preserved c = unless_go (λ k. is_probability (get_or c.args.probabilities.now k nan)) BadProbability
+    c.loop-m.m _ c.loop-m.invariant c.is_probability.ensures (ap not c.if-not-is_probability.false)

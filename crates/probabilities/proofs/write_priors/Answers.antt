@@ -41,9 +41,8 @@ float_of-requires c =
 pub loop-m-preserved : goal.loop-m-preserved
 loop-m-preserved c =
     let e = scaled_back (get_or c.args.probabilities.now c.loop-m.m nan) c.scaled_of-s.result c.scaled_of-s.ensures in (
-      omega arith,
       simp length-set (omega arith),
       simp length-set (omega arith),
-      map_turn prior_of c.args.probabilities.now c.loop-m.priors c.loop-m.m c.float_of.result nan c.loop-m-test.true (omega arith) c.loop-m.invariant.3 (made (get_or c.args.probabilities.now c.loop-m.m nan) (to_z w64 (of_z w64 c.scaled_of-s.result)) c.float_of.result e c.float_of.ensures),
-      map_turn scaled_of c.args.probabilities.now c.loop-m.scaled c.loop-m.m (to_z w64 (of_z w64 c.scaled_of-s.result)) nan c.loop-m-test.true (omega arith) c.loop-m.invariant.4 e,
+      map_turn prior_of c.args.probabilities.now c.loop-m.priors c.loop-m.m c.float_of.result nan c.loop-m-test.true (omega arith) c.loop-m.invariant.2 (made (get_or c.args.probabilities.now c.loop-m.m nan) (to_z w64 (of_z w64 c.scaled_of-s.result)) c.float_of.result e c.float_of.ensures),
+      map_turn scaled_of c.args.probabilities.now c.loop-m.scaled c.loop-m.m (to_z w64 (of_z w64 c.scaled_of-s.result)) nan c.loop-m-test.true (omega arith) c.loop-m.invariant.3 e,
     )
