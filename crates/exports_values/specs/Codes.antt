@@ -37,7 +37,7 @@ place_code (Some place) = 65536 * (place % 4294967296)
 
 -- an answer as one number: the refusal's number plus 65,536 times its place, 0 for none
 abbrev pub code_of : Answer → ℕ
-code_of (Ok tt) = 0
+code_of (Ok _) = 0
 code_of (Err r) = number_of r + place_code (place_of r)
 
 -- a refusal's number, out of its code

@@ -103,7 +103,7 @@ module _ (edges : ℕ) (priors : List Float) (g : Graph) (syndrome : List ℕ) (
       → beliefs_by by_place a edges priors g syndrome iterations scale serial l ≡ beliefs_by (own g) a edges priors g syndrome iterations scale serial l
   unfolding beliefs_fault
   beliefs_past (Err r) h = refl
-  beliefs_past (Ok tt) h = ap (ran edges g) (beliefs_agree g (sound_of edges priors g (or_done _ _ h).0) scale syndrome priors serial iterations)
+  beliefs_past (Ok _) h = ap (ran edges g) (beliefs_agree g (sound_of edges priors g (or_done _ _ h).0) scale syndrome priors serial iterations)
 
   -- `beliefs`
   pub beliefs_equal : beliefs edges priors g syndrome iterations scale serial l ≡ numbered_beliefs edges priors (with_numbers g) syndrome iterations scale serial l
@@ -140,7 +140,7 @@ module _ (edges : ℕ) (prior : List Float) (g : Graph) (schedule : Schedule) (a
   iteration_past : (a : Answer) → step_fault edges prior g alpha clip gamma syndrome order l ≡ a
       → iteration_by by_place a edges prior g schedule alpha clip gamma syndrome order l ≡ iteration_by (own g) a edges prior g schedule alpha clip gamma syndrome order l
   iteration_past (Err r) h = refl
-  iteration_past (Ok tt) h =
+  iteration_past (Ok _) h =
       let t = step_told h in
       ap (stepped edges g) (iteration_agrees g t.0 alpha clip syndrome prior gamma order (names_below t.2) l.now t.1 schedule)
 
@@ -157,7 +157,7 @@ module _ (edges : ℕ) (x : Shot) (l : DecodeLists) where
   decode_past : (a : Answer) → decode_fault edges x l ≡ a → decode_by by_place a edges x l ≡ decode_by (own x.graph) a edges x l
   unfolding decode_fault
   decode_past (Err r) h = refl
-  decode_past (Ok tt) h =
+  decode_past (Ok _) h =
       let a = or_done _ _ h in
       let d = or_done _ _ (or_done _ _ (or_done _ _ (or_done _ _ a.1).1).1).1 in
       let sound = sound_of edges x.prior x.graph a.0 in

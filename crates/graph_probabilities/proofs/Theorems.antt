@@ -95,7 +95,7 @@ module _ (ps priors : List Float) (scaled : List ℤ) (h : (priors_of ps priors 
 
 -- an answer's number, and 0 for none
 abbrev number : Answer → ℕ
-number (Ok tt) = 0
+number (Ok _) = 0
 number (Err r) = number_of r
 
 -- 8 behind 2 is no answer of tests behind 2 that are passed
@@ -111,7 +111,7 @@ no_eight ps priors scaled m n h = eight_behind (eqb (length priors) (length ps) 
 
 -- an answer that is not `Done` refuses
 not_done : (a : Answer) → (a ≡ Ok tt → ⊥) → is_done a ≡ false
-not_done (Ok tt) h = absurd (h refl)
+not_done (Ok _) h = absurd (h refl)
 not_done (Err r) h = refl
 
 -- Where `priors_of` refuses probabilities with 8, at whatever place, building from them is refused too.

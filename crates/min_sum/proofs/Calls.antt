@@ -64,7 +64,7 @@ module _ (checks mechanisms : ℕ) (cv co vc vm vo : List ℕ) (scale : Float) (
 
 -- a call that its tests refuse leaves the lists
 leaves : (a : Answer) (o : BeliefsOutcome) (l : BeliefsLists) → is_done a ≡ false → beliefs_outcome a l ≡ after_beliefs_tests a o l
-leaves (Ok tt) o l h = absurd (true≢false h)
+leaves (Ok _) o l h = absurd (true≢false h)
 leaves (Err r) o l h = refl
 
 -- what a run leaves, however checks, mechanisms and edges are counted

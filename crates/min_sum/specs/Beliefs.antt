@@ -56,7 +56,7 @@ ran edges g posterior =
 
 -- a call that its tests refuse writes nothing
 abbrev pub after_beliefs_tests : Answer → BeliefsOutcome → BeliefsLists → BeliefsOutcome
-after_beliefs_tests (Ok tt) o l = o
+after_beliefs_tests (Ok _) o l = o
 after_beliefs_tests (Err r) o l = beliefs_outcome (Err r) l
 
 -- a call whose tests answer `tested`, with a check's messages had so

@@ -124,10 +124,10 @@ Answer = Result (Unit {0}) Refusal
 
 -- the number of what is refused, and 0 where nothing is
 abbrev pub answer_number : Answer → ℕ
-answer_number (Ok tt) = 0
+answer_number (Ok _) = 0
 answer_number (Err r) = number_of r
 
 -- the place of what is refused
 abbrev pub answer_place : Answer → Option ℕ
-answer_place (Ok tt) = None
+answer_place (Ok _) = None
 answer_place (Err r) = place_of r

@@ -59,7 +59,7 @@ module _ (edges : ℕ) (x : Shot) (l : DecodeLists) (names : names_fault x.graph
   whole_same : (a : Answer) → decode_fault edges x l ≡ a
       → after_decode_tests a (after_legs edges x (decode_legs by_place x) (decode_stores by_place x) l) l
       ≡ after_decode_tests a (after_legs edges (in_index_order x) (decode_legs by_place (in_index_order x)) (decode_stores by_place (in_index_order x)) l) l
-  whole_same (Ok tt) h = legs_same h
+  whole_same (Ok _) h = legs_same h
   whole_same (Err r) h = refl
 
   -- the call in that order is the call in index order

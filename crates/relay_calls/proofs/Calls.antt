@@ -119,7 +119,7 @@ stepped_counted edges edges' checks checks' mechanisms mechanisms' cv co vm vo s
 
 -- a call that its tests refuse leaves the lists
 leaves : (a : Answer) (o : StepOutcome) (l : StepLists) → is_done a ≡ false → step_outcome a l ≡ after_step_tests a o l
-leaves (Ok tt) o l h = absurd (true≢false h)
+leaves (Ok _) o l h = absurd (true≢false h)
 leaves (Err r) o l h = refl
 
 -- what the tests tell where none refuses

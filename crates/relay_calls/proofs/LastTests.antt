@@ -12,13 +12,13 @@ use Rattle.relay_calls.specs.Formula.{taken_fault}
 -- tests are joined either way
 pub or_joined : (a b c : Answer) → or_else (or_else a b) c ≡ or_else a (or_else b c)
 unfolding or_else
-or_joined (Ok tt) b c = refl
+or_joined (Ok _) b c = refl
 or_joined (Err r) b c = refl
 
 -- a test that refuses nothing adds nothing
 pub or_none : (a : Answer) → or_else a (Ok tt) ≡ a
 unfolding or_else
-or_none (Ok tt) = refl
+or_none (Ok _) = refl
 or_none (Err r) = refl
 
 -- the tests of a decode are those before 29, and 29

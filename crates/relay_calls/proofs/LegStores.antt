@@ -112,8 +112,8 @@ module _ (had : Access) (x : Shot) (sound : Sound x.graph) (full : Full had x.gr
   judged_total : (a : Answer) (enough : Bool) (run out : Run) (n r : ℕ) → legs_from had x n (leg_judged a enough run) r ≡ decoded out
       → total_of (leg_judged a enough run) ≡ run.total_iterations
   judged_total (Err z) enough run out n r h = absurd (false≢true (ap is_decoded (sym (legs_over had x n (refused z) r) ∙ h)))
-  judged_total (Ok tt) true run out n r h = refl
-  judged_total (Ok tt) false run out n r h = refl
+  judged_total (Ok _) true run out n r h = refl
+  judged_total (Ok _) false run out n r h = refl
 
   -- n legs from r on
   legs_write : (n : ℕ) (p : Progress) (r : ℕ) (out : Run) → legs_from had x n p r ≡ decoded out → total_of p * each + stores_from had x n p r ≡ out.total_iterations * each

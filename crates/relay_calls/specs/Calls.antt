@@ -105,7 +105,7 @@ stepped edges g s =
 
 -- a call that its tests refuse writes nothing
 abbrev pub after_step_tests : Answer → StepOutcome → StepLists → StepOutcome
-after_step_tests (Ok tt) o l = o
+after_step_tests (Ok _) o l = o
 after_step_tests (Err r) o l = step_outcome (Err r) l
 
 -- a call whose tests answer `tested`, with a check's messages had so
@@ -234,7 +234,7 @@ after_legs edges x (refused r) stores l = decode_outcome (Decoded.Refused r) (ze
 
 -- a call that its tests refuse writes nothing
 abbrev pub after_decode_tests : Answer → DecodeOutcome → DecodeLists → DecodeOutcome
-after_decode_tests (Ok tt) o l = o
+after_decode_tests (Ok _) o l = o
 after_decode_tests (Err r) o l = decode_outcome (Decoded.Refused r) l
 
 -- a call whose tests answer `tested`, with a check's messages had so

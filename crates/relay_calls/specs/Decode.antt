@@ -130,8 +130,8 @@ pub data Progress : Type 0 where
 -- after a leg: refused, or ended once enough have converged, or on to the next
 abbrev pub leg_judged : Answer → Bool → Run → Progress
 leg_judged (Err r) enough run = finished (refused r)
-leg_judged (Ok tt) true run = finished (decoded run)
-leg_judged (Ok tt) false run = running run
+leg_judged (Ok _) true run = finished (decoded run)
+leg_judged (Ok _) false run = running run
 
 -- the leg r, recorded and judged
 unfoldable pub after_leg : Access → Shot → ℕ → Run → Progress

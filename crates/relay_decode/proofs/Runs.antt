@@ -61,17 +61,17 @@ answered_by run stores (some w) = refl
 -- how the legs end, where they do
 abbrev end_of : Answer → Run → Ended
 end_of (Err r) run = refused r
-end_of (Ok tt) run = decoded run
+end_of (Ok _) run = decoded run
 
 judged_end : (a : Answer) (enough : Bool) (run : Run) → (not (is_done a) || enough) ≡ true → leg_judged a enough run ≡ finished (end_of a run)
 judged_end (Err r) enough run h = refl
-judged_end (Ok tt) true run h = refl
-judged_end (Ok tt) false run h = absurd (false≢true h)
+judged_end (Ok _) true run h = refl
+judged_end (Ok _) false run h = absurd (false≢true h)
 
 judged_on : (a : Answer) (enough : Bool) (run : Run) → (not (is_done a) || enough) ≡ false → leg_judged a enough run ≡ running run
 judged_on (Err r) enough run h = absurd (true≢false h)
-judged_on (Ok tt) true run h = absurd (true≢false h)
-judged_on (Ok tt) false run h = refl
+judged_on (Ok _) true run h = absurd (true≢false h)
+judged_on (Ok _) false run h = refl
 
 module _ (x : Shot) where
   -- how many legs there are
@@ -139,7 +139,7 @@ module _ (x : Shot) where
   ends_by : (each : ℕ) (a : Answer) (run : Run) (k : Kept) → kept_of run ≡ k
       → Ends each (end_of a run) (answer_by a k.best k.executed_legs k.total_iterations (k.total_iterations * each)) k
   ends_by each (Err z) run k e = (refl, λ h. absurd (true≢false h))
-  ends_by each (Ok tt) run k e = (
+  ends_by each (Ok _) run k e = (
     ap (λ (z : Kept). answer_by (Ok tt) z.best z.executed_legs z.total_iterations (z.total_iterations * each)) (sym e) ∙ answered_by run _ run.best_weight,
     λ h. ap (λ (z : Kept). lists_of z) (sym e),
   )

@@ -80,11 +80,11 @@ module _ (x : Shot) where
       → (legs_from by_place x n (running (run_after x (suc r))) (suc r) ≡ decoded run → Finished run)
       → legs_from by_place x n (leg_judged a enough (run_after x (suc r))) (suc r) ≡ decoded run → Finished run
   judged_finished n r (Err q) enough run h next e = absurd (let w = legs_over by_place x n (refused q) (suc r) in let z : ◌≡◌ {A = ℕ} 0 1 = cc in omega arith)
-  judged_finished n r (Ok tt) true run h next e =
+  judged_finished n r (Ok _) true run h next e =
       let w = legs_over by_place x n (decoded (run_after x (suc r))) (suc r) in
       let s : run_after x (suc r) ≡ run = cc in
       same_finished run (run_after x (suc r)) s (after_finished (suc r) (omega arith) h)
-  judged_finished n r (Ok tt) false run h next e = next e
+  judged_finished n r (Ok _) false run h next e = next e
 
   -- n legs from the leg r on
   legs_finished : (n r : ℕ) (run : Run) → r + n ≡ many x → legs_from by_place x n (running (run_after x r)) r ≡ decoded run → Finished run
@@ -119,7 +119,7 @@ module _ (edges : ℕ) (x : Shot) (l : DecodeLists) where
   -- whatever the tests say
   tests_behind : (a : Answer) → decode_fault edges x l ≡ a → decode_in_order edges x l ≡ after_decode_tests a (after_legs edges x (decode_legs by_place x) (decode_stores by_place x) l) l
       → (summary_of (after_decode_tests a (after_legs edges x (decode_legs by_place x) (decode_stores by_place x) l) l).answer).refusal ≡ Ok tt → RunBehind
-  tests_behind (Ok tt) t o h = ended_behind (decode_legs by_place x) t refl o h
+  tests_behind (Ok _) t o h = ended_behind (decode_legs by_place x) t refl o h
   tests_behind (Err r) t o h = absurd (let z : ◌≡◌ {A = ℕ} 0 1 = cc in omega arith)
 
   pub run_behind : (summary_of (decode_in_order edges x l).answer).refusal ≡ Ok tt → RunBehind

@@ -35,7 +35,7 @@ only_unless k false q h = only_one k q h
 -- two tests
 only_or : (k : ℕ) (a b : Answer) → Only k a → Only k b → Only k (or_else a b)
 unfolding or_else
-only_or k (Ok tt) b f g = g
+only_or k (Ok _) b f g = g
 only_or k (Err r) b f g = f
 
 -- a row of tests
@@ -58,8 +58,8 @@ data Fair : Progress → Type 0 where
 -- after a leg
 judged_fair : (a : Answer) (enough : Bool) (run : Run) → Only 30 a → Fair (leg_judged a enough run)
 judged_fair (Err r) enough run f = fails r (f r refl)
-judged_fair (Ok tt) true run f = ends run
-judged_fair (Ok tt) false run f = goes run
+judged_fair (Ok _) true run f = ends run
+judged_fair (Ok _) false run f = goes run
 
 after_fair : (x : Shot) (r : ℕ) (run : Run) → Fair (after_leg by_place x r run)
 unfolding after_leg

@@ -151,8 +151,8 @@ module _ (edges : ℕ) (x : Shot) (l : DecodeLists) (others : OthersPass edges x
   -- not refused with 23 or 24: both are passed
   not_refused : (a b : Answer) → a ≡ names → b ≡ exchange → Names a → Exchange b → (refused_with given ≡ 23 → ⊥) → (refused_with given ≡ 24 → ⊥) → OrderGood x
   unfolding or_else
-  not_refused (Ok tt) (Ok tt) ea eb each free f g = passed_good (sym ea) (sym eb)
-  not_refused (Ok tt) (Err r) ea eb each (at c) f g = absurd (g (ap refused_with (answer_refused (OrderExchanged c) (rw (← ea) (sym eb)))))
+  not_refused (Ok _) (Ok _) ea eb each free f g = passed_good (sym ea) (sym eb)
+  not_refused (Ok _) (Err r) ea eb each (at c) f g = absurd (g (ap refused_with (answer_refused (OrderExchanged c) (rw (← ea) (sym eb)))))
   not_refused (Err r) b ea eb not_each w f g = absurd (f (ap refused_with (answer_refused OrderNotEachOnce (rw (← ea)))))
 
   -- demand 3 of the call
@@ -176,7 +176,7 @@ module _ (edges : ℕ) (x : Shot) (l : DecodeLists) (others : OthersPass edges x
 
     placed : (c : ℕ) (b : Answer) → b ≡ exchanged (check_entries x.graph) [] x.order → Exchange b → given ≡ Decoded.Refused (OrderExchanged c)
         → exchanged (check_entries x.graph) [] x.order ≡ Err (OrderExchanged c)
-    placed c (Ok tt) e free h = absurd (passed_other 24 (left_24 ∙ sym e) (ap refused_with h) (λ z. omega arith) (λ z. omega arith))
+    placed c (Ok _) e free h = absurd (passed_other 24 (left_24 ∙ sym e) (ap refused_with h) (λ z. omega arith) (λ z. omega arith))
     placed c (Err r) e (at d) h =
         let q : given ≡ Decoded.Refused (OrderExchanged d) = answer_refused (OrderExchanged d) (left_24 ∙ sym e) in
         let s : d ≡ c = cc in

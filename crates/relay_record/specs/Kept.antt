@@ -166,8 +166,8 @@ is_refused (Decoded.Refused r) = true
 -- what the code answers, from a test's answer and what it kept
 abbrev pub answer_by : Answer → Option Float → ℕ → ℕ → ℕ → Decoded
 answer_by (Err r) best executed total stores = Decoded.Refused r
-answer_by (Ok tt) none executed total stores = Decoded.NotConverged executed total stores
-answer_by (Ok tt) (some weight) executed total stores = Decoded.Converged executed total stores weight
+answer_by (Ok _) none executed total stores = Decoded.NotConverged executed total stores
+answer_by (Ok _) (some weight) executed total stores = Decoded.Converged executed total stores weight
 
 -- the result lists, of num_legs + 1 legs
 pub record Results : Type 0 where

@@ -110,7 +110,7 @@ module _ (s : Session) (model : List ℕ) (h : Heard) (a : Agrees s model h) whe
   -- a model
   model_tells : (answer : Answer) (p line : List ℕ) → length p ≤ 5132 → Tells (model_taken s answer p model line) (model_said h s.reader.offset p answer)
   unfolding goes_on
-  model_tells (Ok tt) p line l =
+  model_tells (Ok _) p line l =
       record {
         text = refl;
         next = onward (record {
@@ -128,7 +128,7 @@ module _ (s : Session) (model : List ℕ) (h : Heard) (a : Agrees s model h) whe
   -- settings
   settings_tells : (answer : Answer) (p line : List ℕ) → Tells (taken (settings_taken s answer p line) model) (settings_said h s.reader.offset (rec s.reader.kind p) answer)
   unfolding goes_on
-  settings_tells (Ok tt) p line =
+  settings_tells (Ok _) p line =
       record {
         text = refl;
         next = onward (record {
@@ -178,7 +178,7 @@ module _ (s : Session) (model : List ℕ) (h : Heard) (a : Agrees s model h) whe
   judged_tells : (answer : Answer) (p line : List ℕ) → (answer ≡ Ok tt → length p ≤ 5132)
       → (answer ≡ Ok tt → eqb s.reader.kind 1 ≡ false → is_settings s.reader.kind ≡ false → (is_there h.model ≡ true) × (is_there h.settings ≡ true))
       → Tells (record_judged s answer p model line) (judged_said h s.reader.offset s.reader.kind p answer)
-  judged_tells (Ok tt) p line l f = kind_tells p line (l refl) (f refl)
+  judged_tells (Ok _) p line l f = kind_tells p line (l refl) (f refl)
   judged_tells (Err r) p line l f = stops_tells s r model line
 
 -- ---- a record

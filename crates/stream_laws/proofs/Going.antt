@@ -37,7 +37,7 @@ module _ (h : Heard) (a : Accepted h) (offset : ℕ) (p : List ℕ) (k : Heard) 
   -- a model
   after_model : (answer : Answer) → model_fault p ≡ answer → (model_said h offset p answer).next ≡ some k → Accepted k
   unfolding ends_run
-  after_model (Ok tt) m e =
+  after_model (Ok _) m e =
       let q : heard (some p) h.settings h.shots ≡ k = cc in
       subst Accepted q
       (record {
@@ -49,7 +49,7 @@ module _ (h : Heard) (a : Accepted h) (offset : ℕ) (p : List ℕ) (k : Heard) 
   -- settings
   after_settings : (kind : ℕ) (answer : Answer) → settings_answer kind p ≡ answer → legs p ≤ 16 → (settings_said h offset (rec kind p) answer).next ≡ some k → Accepted k
   unfolding ends_run
-  after_settings kind (Ok tt) m l e =
+  after_settings kind (Ok _) m l e =
       let q : heard h.model (some (rec kind p)) h.shots ≡ k = cc in
       subst Accepted q
       (record {
@@ -91,7 +91,7 @@ module _ (h : Heard) (a : Accepted h) (offset : ℕ) (p : List ℕ) (k : Heard) 
   -- a record
   after_judged : (kind : ℕ) (answer : Answer) → judge (is_there h.model) (is_there h.settings) kind p ≡ answer → (judged_said h offset kind p answer).next ≡ some k → Accepted k
   unfolding ends_run
-  after_judged kind (Ok tt) j e =
+  after_judged kind (Ok _) j e =
       after_kind kind
       (λ (s : is_settings kind ≡ true). (settings_let_through (is_there h.model) (is_there h.settings) p kind s j).1)
       e

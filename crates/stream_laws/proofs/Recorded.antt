@@ -49,13 +49,13 @@ answers_stays s (Decoded.Refused r) bits line = either_stays (λ (t : Told). t.s
 -- settings
 settings_stays : (s : Session) (a : Answer) (p line : List ℕ) → (settings_taken s a p line).session.reader ≡ s.reader
 unfolding goes_on
-settings_stays s (Ok tt) p line = refl
+settings_stays s (Ok _) p line = refl
 settings_stays s (Err r) p line = stops_stays s r line
 
 -- a model
 model_stays : (s : Session) (a : Answer) (p model line : List ℕ) → (model_taken s a p model line).now.session.reader ≡ s.reader
 unfolding goes_on
-model_stays s (Ok tt) p model line = refl
+model_stays s (Ok _) p model line = refl
 model_stays s (Err r) p model line = stops_stays s r line
 
 -- a shot
@@ -68,7 +68,7 @@ shot_stays s model p line =
 -- a record of any kind, past 41 to 45 or not
 judged_stays : (s : Session) (a : Answer) (p model line : List ℕ) → (record_judged s a p model line).now.session.reader ≡ s.reader
 unfolding kind_taken
-judged_stays s (Ok tt) p model line =
+judged_stays s (Ok _) p model line =
     let x = model_taken s (model_fault p) p model line in
     let y = taken (settings_taken s (settings_answer s.reader.kind p) p line) model in
     let m = take s.known.model_length model in
@@ -114,7 +114,7 @@ record_kept s offset r model line =
 
 -- a refused payload is not looked at
 same_payload : (s : Session) (a : Answer) (q p model line : List ℕ) → (a ≡ Ok tt → q ≡ p) → record_judged s a q model line ≡ record_judged s a p model line
-same_payload s (Ok tt) q p model line h = ap (λ x. kind_taken s x model line) (h refl)
+same_payload s (Ok _) q p model line h = ap (λ x. kind_taken s x model line) (h refl)
 same_payload s (Err r) q p model line h = refl
 
 module _ (r : Rec) (sayable : Sayable r) (offset : ℕ) (room : List ℕ) (large : 5132 ≤ length room) where

@@ -61,7 +61,7 @@ unless_of_lem false x h r e = let q : x ≡ r = cc in subst (λ (y : Refusal). i
 -- two tests
 or_of : (a b : Answer) → OfShot a → OfShot b → OfShot (or_else a b)
 unfolding or_else
-or_of (Ok tt) b f g = g
+or_of (Ok _) b f g = g
 or_of (Err x) b f g = f
 
 -- and a loop of them
@@ -90,8 +90,8 @@ posterior_of g xs = first_of_lem g.mechanisms _ (λ i. unless_of_lem _ (NonFinit
 -- whatever a leg is refused with
 leg_of_lem : (a : Answer) (enough : Bool) (run : Run) → OfShot a → (r : Refusal) → leg_judged a enough run ≡ finished (refused r) → is_of_shot (number_of r) ≡ true
 leg_of_lem (Err x) enough run f r e = let q : x ≡ r = cc in f r (ap Err q)
-leg_of_lem (Ok tt) true run f r e = let z : ◌≡◌ {A = ℕ} 0 1 = cc in absurd (omega arith)
-leg_of_lem (Ok tt) false run f r e = let z : ◌≡◌ {A = ℕ} 0 1 = cc in absurd (omega arith)
+leg_of_lem (Ok _) true run f r e = let z : ◌≡◌ {A = ℕ} 0 1 = cc in absurd (omega arith)
+leg_of_lem (Ok _) false run f r e = let z : ◌≡◌ {A = ℕ} 0 1 = cc in absurd (omega arith)
 
 -- what some legs, and those behind them, are refused with
 legs_of_lem : (x : Shot) (n : ℕ) (p : Progress) (k : ℕ) → ((r : Refusal) → p ≡ finished (refused r) → is_of_shot (number_of r) ≡ true)
@@ -123,7 +123,7 @@ unfolding decode_in_order
 tested_of edges x l f r e = by (decode_fault edges x l) f e
   where
     by : (a : Answer) → OfShot a → (after_decode_tests a (after_legs edges x (decode_legs by_place x) (decode_stores by_place x) l) l).answer ≡ Decoded.Refused r → is_of_shot (number_of r) ≡ true
-    by (Ok tt) g q = ran_of_lem edges x (decode_legs by_place x) (decode_stores by_place x) l (decode_of_lem x) r q
+    by (Ok _) g q = ran_of_lem edges x (decode_legs by_place x) (decode_stores by_place x) l (decode_of_lem x) r q
     by (Err y) g q = let h : y ≡ r = cc in g r (ap Err h)
 
 -- ---- the tests of a shot over what was accepted
@@ -136,7 +136,7 @@ settings_good_lem q m e = (or_done _ _ e).1
 -- a graph that was built has the counts of its lists
 built_counts : (a : Answer) (inc : ℕ → ℕ → Bool) (g : Graph) → (built a inc g).lists.mechanisms ≡ g.mechanisms
 unfolding built unless_refused graph_of
-built_counts (Ok tt) inc g = refl
+built_counts (Ok _) inc g = refl
 built_counts (Err r) inc g = refl
 
 -- of a sparse model

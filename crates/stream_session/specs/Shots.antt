@@ -78,7 +78,7 @@ shot_taken s model p line = tells s (shot_decoded model s.known.settings p (take
 
 -- settings, which the table answers so: they replace earlier ones, of either kind, and the model stays
 abbrev pub settings_taken : Session → Answer → List ℕ → List ℕ → Told
-settings_taken s (Ok tt) p line =
+settings_taken s (Ok _) p line =
     told (goes_on s (known s.known.model_length s.known.has_model (settings_read s.reader.kind p) true)) line
 settings_taken s (Err r) p line = stops s r line
 
@@ -94,7 +94,7 @@ taken t model = record { now = t; model = model }
 
 -- a model, which the table answers so: it replaces an earlier one, and the settings stay
 abbrev pub model_taken : Session → Answer → List ℕ → List ℕ → List ℕ → Taken
-model_taken s (Ok tt) p model line =
+model_taken s (Ok _) p model line =
     taken (told (goes_on s (known (length p) true s.known.settings s.known.has_settings)) line) (payload_kept p model)
 model_taken s (Err r) p model line = taken (stops s r line) model
 
@@ -107,7 +107,7 @@ kind_taken s p model line =
 
 -- a record, which 41 to 45 answer so
 abbrev pub record_judged : Session → Answer → List ℕ → List ℕ → List ℕ → Taken
-record_judged s (Ok tt) p model line = kind_taken s p model line
+record_judged s (Ok _) p model line = kind_taken s p model line
 record_judged s (Err r) p model line = taken (stops s r line) model
 
 -- a whole record: its payload is what was kept of it
@@ -141,7 +141,7 @@ byte_taken s b kept model line =
 
 -- the last line: how many shots there were, or 40 for a record that was cut, with its offset
 abbrev pub last_text : ℕ → ℕ → Answer → List ℕ
-last_text shots offset (Ok tt) = end_line shots
+last_text shots offset (Ok _) = end_line shots
 last_text shots offset (Err r) = stopped_line (number_of r) offset
 
 -- nothing after a run that has ended

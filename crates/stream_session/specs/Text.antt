@@ -69,12 +69,12 @@ ends_run offset r = said (stopped_line (number_of r) offset) none
 
 -- a model, which the table answers so: it replaces an earlier one, and the settings stay
 abbrev pub model_said : Heard → ℕ → List ℕ → Answer → Said
-model_said h offset p (Ok tt) = said [] (some (heard (some p) h.settings h.shots))
+model_said h offset p (Ok _) = said [] (some (heard (some p) h.settings h.shots))
 model_said h offset p (Err r) = ends_run offset r
 
 -- settings: they replace earlier ones, of either kind, and the model stays
 abbrev pub settings_said : Heard → ℕ → Rec → Answer → Said
-settings_said h offset q (Ok tt) = said [] (some (heard h.model (some q) h.shots))
+settings_said h offset q (Ok _) = said [] (some (heard h.model (some q) h.shots))
 settings_said h offset q (Err r) = ends_run offset r
 
 -- a shot's line, and the next shot has the next number
@@ -100,7 +100,7 @@ payload_said h offset kind p =
 
 -- a record, which 41 to 45 answer so
 abbrev pub judged_said : Heard → ℕ → ℕ → List ℕ → Answer → Said
-judged_said h offset kind p (Ok tt) = payload_said h offset kind p
+judged_said h offset kind p (Ok _) = payload_said h offset kind p
 judged_said h offset kind p (Err r) = ends_run offset r
 
 -- a record at an offset
