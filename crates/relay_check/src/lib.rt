@@ -68,10 +68,8 @@ fn send(minus: f64, plus: f64, v_to_c: &[f64], c_to_v: &mut [f64])
     requires { length c_to_v.old ≡ length v_to_c.now }
     ensures { c_to_v.new ≡ by_signs minus plus v_to_c.now (length v_to_c.now) }
 {
-    let mut i = 0;
-    while i < v_to_c.len() {
-        c_to_v[i] = by_sign(v_to_c[i], minus, plus);
-        i += 1;
+    for (i, message) in v_to_c.iter().enumerate() {
+        c_to_v[i] = by_sign(*message, minus, plus);
     }
 }
 

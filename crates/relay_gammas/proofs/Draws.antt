@@ -9,7 +9,7 @@ use native.Mathlib.Omega.{arith}
 use lib.Bits.{bit_xor, xor_lt}
 use lib.Ieee.{Float, nan}
 use lib.ListN.{length, get_or, take, set, replicate, length-append, get_or-append}
-use lib.Seq.{take-suc-set, take_all, get_or-append_seam}
+use lib.Seq.{take-suc-set, get_or-append_seam}
 use Rattle.numbers.proofs.Cases.{last_or_before}
 use Rattle.numbers.specs.Loops.{part}
 use Rattle.numbers.specs.Draw.{advanced, mixed, gamma}
@@ -38,13 +38,6 @@ module _ (low high : Float) (start v s : ℕ) (at : s ≡ (drawn low high start 
       → x ≡ gamma low high m → take (v + 1) (set out v x) ≡ (drawn low high start (v + 1)).gammas
   unfolding drawn drawn_on
   draw_turn out m x h p q e = rw (add-one, take-suc-set, h, p, e, q, at)
-
--- and all of them
-pub draw_done : (low high : Float) (start v n : ℕ) (out : List Float) → length out ≡ n → n ≤ v → v ≤ n → take v out ≡ (drawn low high start v).gammas
-    → out ≡ (drawn low high start n).gammas
-draw_done low high start v n out l h k p =
-    let e : v ≡ n = omega arith in
-    sym (take_all v out (omega arith)) ∙ p ∙ ap (λ i. (drawn low high start i).gammas) e
 
 -- ---- the gammas drawn
 

@@ -65,11 +65,11 @@ fn draw_gammas(low: f64, high: f64, start: u64, gamma: &mut [f64])
     ensures { gamma.new ≡ (drawn low high start (length gamma.old)).gammas }
 {
     let mut generator = SplitMix64::new(start);
-    let mut v = 0;
-    while v < gamma.len() {
+    for g in gamma.iter_mut() {
         let d = generator.draw();
-        gamma[v] = numbers::gamma(low, high, d);
-        v += 1;
+    for g in gamma.iter_mut() {
+        *g = numbers::gamma(low, high, generator.draw());
+    }
     }
 }
 

@@ -28,10 +28,8 @@ pub fn hard_decision(posterior: &[f64], bits: &mut [u8])
     requires { length bits.old ≡ length posterior.now }
     ensures { bits.new ≡ hard_decision posterior.now }
 {
-    let mut v = 0;
-    while v < posterior.len() {
-        bits[v] = hard_bit(posterior[v]);
-        v += 1;
+    for (v, p) in posterior.iter().enumerate() {
+        bits[v] = hard_bit(*p);
     }
 }
 
@@ -41,11 +39,8 @@ fn parity(entries: &[u32], bits: &[u8]) -> u8
     ensures { result ≡ parity_of bits.now entries.now }
 {
     let mut p: u8 = 0;
-    let mut i = 0;
-    while i < entries.len() {
-        let v = at(entries, i);
-        p = p ^ bits[v];
-        i += 1;
+    for v in entries {
+        p ^= bits[*v as usize];
     }
     p
 }
@@ -68,12 +63,10 @@ fn all_match(syndrome: &[u8], check_var: &[u32], check_offset: &[u32], bits: &[u
     ensures { let g = of_checks (length syndrome.now) check_var.now check_offset.now in
         result ≡ every (length syndrome.now) (matches_of g bits.now syndrome.now) }
 {
-    let mut c = 0;
-    while c < syndrome.len() {
+    for c in 0..syndrome.len() {
         if !matches(c, syndrome, check_var, check_offset, bits) {
             return false;
         }
-        c += 1;
     }
     true
 }
@@ -109,10 +102,8 @@ pub fn correction_weight(priors: &[f64], bits: &[u8]) -> f64
     ensures { result ≡ correction_weight priors.now bits.now (length priors.now) }
 {
     let mut weight: f64 = -0.0;
-    let mut v = 0;
-    while v < priors.len() {
-        weight = weight + cost(priors[v], bits[v]);
-        v += 1;
+    for (v, prior) in priors.iter().enumerate() {
+        weight += cost(*prior, bits[v]);
     }
     weight
 }
@@ -160,8 +151,7 @@ pub fn run_leg(
         (satisfied_by gChecks syndrome.now) limit false 0 before }
     ensures bits { 0 < limit → bits.new ≡ hard_decision posterior.new }
 {
-    let mut k = 0;
-    while k < limit {
+    for k in 0..limit {
         step(
             schedule,
             alpha,
@@ -179,16 +169,15 @@ pub fn run_leg(
             v_to_c,
             posterior,
         );
-        k += 1;
         if satisfied(syndrome, check_var, check_offset, posterior, bits) {
             return Leg {
                 converged: true,
-                iterations: k,
+                iterations: k + 1,
             };
         }
     }
     Leg {
         converged: false,
-        iterations: k,
+        iterations: limit,
     }
 }

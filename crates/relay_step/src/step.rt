@@ -26,10 +26,8 @@ fn compute_bias(priors: &[f64], gamma: &[f64], posterior: &[f64], bias: &mut [f6
         × (length bias.old ≡ length priors.now) }
     ensures { bias.new ≡ compute_bias priors.now gamma.now posterior.now }
 {
-    let mut v = 0;
-    while v < priors.len() {
+    for v in 0..priors.len() {
         bias[v] = bias_of(priors[v], gamma[v], posterior[v]);
-        v += 1;
     }
 }
 
@@ -82,11 +80,9 @@ fn check_pass(
         state c_to_v.new v_to_c.now []
         ≡ check_pass by_place g alpha clip syndrome.now order.now before }
 {
-    let mut i = 0;
-    while i < order.len() {
-        let check = at(order, i);
+    for check in order {
         update_one(
-            check,
+            *check as usize,
             alpha,
             clip,
             syndrome,
@@ -95,7 +91,6 @@ fn check_pass(
             v_to_c,
             c_to_v,
         );
-        i += 1;
     }
 }
 
@@ -116,10 +111,8 @@ fn variable_pass(
         state c_to_v.now v_to_c.new posterior.new
         ≡ variable_pass g bias.now before (length bias.now) }
 {
-    let mut v = 0;
-    while v < bias.len() {
+    for v in 0..bias.len() {
         update_variable(v, bias, var_message, var_offset, c_to_v, v_to_c, posterior);
-        v += 1;
     }
 }
 
@@ -238,11 +231,9 @@ fn serial_pass(
         state c_to_v.new v_to_c.new posterior.new
         ≡ serial_pass by_place g alpha clip syndrome.now bias.now order.now before }
 {
-    let mut i = 0;
-    while i < order.len() {
-        let c = at(order, i);
+    for c in order {
         serial_check(
-            c,
+            *c as usize,
             alpha,
             clip,
             syndrome,
@@ -255,7 +246,6 @@ fn serial_pass(
             v_to_c,
             posterior,
         );
-        i += 1;
     }
 }
 

@@ -16,11 +16,9 @@ fn write_messages(entries: &[u32], p: f64, c_to_v: &[f64], v_to_c: &mut [f64])
     requires v_to_c_len { length v_to_c.old ≡ length c_to_v.now }
     ensures { v_to_c.new ≡ written p c_to_v.now v_to_c.old entries.now }
 {
-    let mut i = 0;
-    while i < entries.len() {
-        let m = at(entries, i);
+    for entry in entries {
+        let m = *entry as usize;
         v_to_c[m] = p - c_to_v[m];
-        i += 1;
     }
 }
 
@@ -78,10 +76,15 @@ pub(crate) fn update_variables(
         state c_to_v.now v_to_c.new posterior.new
         ≡ foldl (update_variable g bias.now) before variables.now }
 {
-    let mut i = 0;
-    while i < variables.len() {
-        let v = at(variables, i);
-        update_variable(v, bias, var_message, var_offset, c_to_v, v_to_c, posterior);
-        i += 1;
+    for v in variables {
+        update_variable(
+            *v as usize,
+            bias,
+            var_message,
+            var_offset,
+            c_to_v,
+            v_to_c,
+            posterior,
+        );
     }
 }

@@ -19,12 +19,10 @@ fn squared_degrees(mechanisms: usize, var_message: &[u32], var_offset: &[u32]) -
     ensures few { result ≤ max_edges * max_edges }
 {
     let mut sum = 0u64;
-    let mut v = 0;
-    while v < mechanisms {
+    for v in 0..mechanisms {
         let start = at(var_offset, v);
         let degree = (at(var_offset, v + 1) - start) as u64;
         sum += degree * degree;
-        v += 1;
     }
     sum
 }

@@ -2,7 +2,6 @@
 -- Assumes nothing.
 use mathlib.Core.Path.{◌≡◌}
 use mathlib.Core.Bool.{true}
-use Prim.Native.Nat.{◌≤◌, ◌-◌}
 use lib.ListN.{length}
 use Rattle.numbers.specs.Loops.{every}
 use Rattle.graph_messages.specs.Needs.{of_checks}
@@ -10,7 +9,4 @@ use Rattle.relay_step.specs.Leg.{matches}
 use Rattle.relay_step.proofs.leg.all_match.Given as goal
 
 abbrev pub invariant-loop-c : goal.invariant-loop-c
-invariant-loop-c l = (l.c ≤ length l.syndrome) × (every l.c (matches (of_checks (length l.syndrome) l.check_var l.check_offset) l.bits l.syndrome) ≡ true)
-
-abbrev pub decreases-loop-c : goal.decreases-loop-c
-decreases-loop-c l = length l.syndrome - l.c
+invariant-loop-c l = every l.c (matches (of_checks (length l.syndrome) l.check_var l.check_offset) l.bits l.syndrome) ≡ true

@@ -5,4 +5,4 @@ use Rattle.relay_step.proofs.Legs.{hard_done}
 use Rattle.relay_step.proofs.leg.hard_decision.Goals as goal
 
 pub returns : goal.returns
-returns c = hard_done _ _ c.loop-v.v c.loop-v-test.false (omega arith) c.loop-v.invariant.2
+returns c = hard_done _ _ _ (omega arith) (omega arith) c.loop-v.invariant

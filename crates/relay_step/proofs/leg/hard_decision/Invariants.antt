@@ -2,13 +2,9 @@
 -- Assumes nothing.
 use mathlib.Core.Path.{◌≡◌}
 use mathlib.Core.List.{map}
-use Prim.Native.Nat.{◌≤◌, ◌-◌}
-use lib.ListN.{length, take}
+use lib.ListN.{take}
 use Rattle.relay_step.specs.Leg.{hard_bit}
 use Rattle.relay_step.proofs.leg.hard_decision.Given as goal
 
 abbrev pub invariant-loop-v : goal.invariant-loop-v
-invariant-loop-v l = (l.v ≤ length l.posterior) × (length l.bits ≡ length l.posterior) × (take l.v l.bits ≡ map hard_bit (take l.v l.posterior))
-
-abbrev pub decreases-loop-v : goal.decreases-loop-v
-decreases-loop-v l = length l.posterior - l.v
+invariant-loop-v l = take l.v l.bits ≡ map hard_bit (take l.v l.posterior)

@@ -1,14 +1,13 @@
 -- `relay_step::leg::parity` meets its contract. The invariant: the parity is that of the entries passed.
 -- Assumes nothing.
 use mathlib.Core.Path.{refl}
-use native.Mathlib.Omega.{arith}
 use Rattle.relay_step.specs.Leg.{parity}
 use Rattle.relay_step.proofs.Legs.{parity_turn}
 use Rattle.relay_step.proofs.leg.parity.Goals as goal
 
-pub loop-i-init : goal.loop-i-init
+pub loop-v-init : goal.loop-v-init
 unfolding parity
-loop-i-init c = (omega arith, refl)
+loop-v-init c = refl
 
-pub loop-i-preserved : goal.loop-i-preserved
-loop-i-preserved c = (omega arith, parity_turn _ _ c.loop-i.i _ _ c.loop-i-test.true c.at-v.ensures c.loop-i.invariant.1)
+pub loop-v-preserved : goal.loop-v-preserved
+loop-v-preserved c = parity_turn _ _ c.loop-v.v-index _ _ c.loop-v-test.true refl c.loop-v.invariant

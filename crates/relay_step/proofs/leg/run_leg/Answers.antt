@@ -2,7 +2,6 @@
 -- Assumes nothing.
 use mathlib.Core.Path.{sym, ◌∙◌}
 use Prim.Native.Nat.{◌+◌, ◌-◌}
-use native.Mathlib.Omega.{arith}
 use lib.ListN.{length}
 use Rattle.graph_lists.specs.Messages.{by_place}
 use Rattle.graph_messages.specs.Needs.{walked, of_checks}
@@ -16,23 +15,14 @@ returns-then-satisfied c = record {
   leg = sym (leg_passed (iteration c.args.schedule by_place (walked (length c.args.syndrome.now) (length c.args.priors.now) c.args.check_var.now c.args.check_offset.now c.args.var_message.now c.args.var_offset.now) c.args.alpha c.args.clip c.args.syndrome.now c.args.priors.now c.args.gamma.now c.args.order.now) (satisfied (of_checks (length c.args.syndrome.now) c.args.check_var.now c.args.check_offset.now) c.args.syndrome.now) _
       (c.args.limit -
       (c.loop-k.k + 1)) _) ∙ sym (leg_turn (iteration c.args.schedule by_place (walked (length c.args.syndrome.now) (length c.args.priors.now) c.args.check_var.now c.args.check_offset.now c.args.var_message.now c.args.var_offset.now) c.args.alpha c.args.clip c.args.syndrome.now c.args.priors.now c.args.gamma.now c.args.order.now) (satisfied (of_checks (length c.args.syndrome.now) c.args.check_var.now c.args.check_offset.now) c.args.syndrome.now) (state
-      c.loop-k.c_to_v c.loop-k.v_to_c c.loop-k.posterior) _ _ c.loop-k.k _ c.loop-k-test.true c.step.ensures (sym c.if-satisfied.true ∙ c.satisfied.ensures.test)) ∙ c.loop-k.invariant.6;
+      c.loop-k.c_to_v c.loop-k.v_to_c c.loop-k.posterior) _ _ c.loop-k.k _ c.loop-k-test.true c.step.ensures (sym c.if-satisfied.true ∙ c.satisfied.ensures.test)) ∙ c.loop-k.invariant.0;
   bits = λ h. c.satisfied.ensures.bits;
 }
 
 pub loop-k-preserved : goal.loop-k-preserved
 loop-k-preserved c = (
-  omega (
-    arith,
-    c.loop-k-test.true,
-  ),
-  c.step.auto.bias ∙ c.loop-k.invariant.1,
-  c.step.auto.c_to_v ∙ c.loop-k.invariant.2,
-  c.step.auto.v_to_c ∙ c.loop-k.invariant.3,
-  c.step.auto.posterior ∙ c.loop-k.invariant.4,
-  c.satisfied.auto.bits ∙ c.loop-k.invariant.5,
   sym (leg_turn (iteration c.args.schedule by_place (walked (length c.args.syndrome.now) (length c.args.priors.now) c.args.check_var.now c.args.check_offset.now c.args.var_message.now c.args.var_offset.now) c.args.alpha c.args.clip c.args.syndrome.now c.args.priors.now c.args.gamma.now c.args.order.now)
       (satisfied (of_checks (length c.args.syndrome.now) c.args.check_var.now c.args.check_offset.now) c.args.syndrome.now)
-      (state c.loop-k.c_to_v c.loop-k.v_to_c c.loop-k.posterior) _ _ c.loop-k.k _ c.loop-k-test.true c.step.ensures (sym c.if-satisfied.false ∙ c.satisfied.ensures.test)) ∙ c.loop-k.invariant.6,
+      (state c.loop-k.c_to_v c.loop-k.v_to_c c.loop-k.posterior) _ _ c.loop-k.k _ c.loop-k-test.true c.step.ensures (sym c.if-satisfied.false ∙ c.satisfied.ensures.test)) ∙ c.loop-k.invariant.0,
   λ h. c.satisfied.ensures.bits,
 )

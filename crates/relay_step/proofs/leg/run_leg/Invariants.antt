@@ -2,7 +2,7 @@
 -- Assumes nothing.
 use mathlib.Core.Path.{◌≡◌}
 use mathlib.Core.Bool.{false}
-use Prim.Native.Nat.{◌≤◌, ◌<◌, ◌-◌}
+use Prim.Native.Nat.{◌<◌, ◌-◌}
 use lib.ListN.{length}
 use Rattle.graph_lists.specs.Messages.{by_place}
 use Rattle.graph_messages.specs.Needs.{walked, of_checks}
@@ -11,12 +11,9 @@ use Rattle.relay_step.specs.Leg.{hard_decision, satisfied, run_leg}
 use Rattle.relay_step.proofs.leg.run_leg.Given as goal
 
 abbrev pub invariant-loop-k : goal.invariant-loop-k
-invariant-loop-k l = (l.k ≤ l.limit) × (length l.bias ≡ length l.initial.bias) × (length l.c_to_v ≡ length l.initial.c_to_v) × (length l.v_to_c ≡ length l.initial.v_to_c) × (length l.posterior ≡ length l.initial.posterior) × (length l.bits ≡ length l.initial.bits)
-    × (run_leg (iteration l.schedule by_place (walked (length l.syndrome) (length l.priors) l.check_var l.check_offset l.var_message l.var_offset) l.alpha l.clip l.syndrome l.priors l.gamma l.order)
+invariant-loop-k l =
+    (run_leg (iteration l.schedule by_place (walked (length l.syndrome) (length l.priors) l.check_var l.check_offset l.var_message l.var_offset) l.alpha l.clip l.syndrome l.priors l.gamma l.order)
     (satisfied (of_checks (length l.syndrome) l.check_var l.check_offset) l.syndrome) (l.limit - l.k) false l.k (state l.c_to_v l.v_to_c l.posterior)
     ≡ run_leg (iteration l.schedule by_place (walked (length l.syndrome) (length l.priors) l.check_var l.check_offset l.var_message l.var_offset) l.alpha l.clip l.syndrome l.priors l.gamma l.order)
     (satisfied (of_checks (length l.syndrome) l.check_var l.check_offset) l.syndrome) l.limit false 0 (state l.initial.c_to_v l.initial.v_to_c l.initial.posterior))
     × (0 < l.k → l.bits ≡ hard_decision l.posterior)
-
-abbrev pub decreases-loop-k : goal.decreases-loop-k
-decreases-loop-k l = l.limit - l.k

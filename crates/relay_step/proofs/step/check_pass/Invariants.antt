@@ -2,16 +2,12 @@
 -- Assumes nothing.
 use mathlib.Core.Path.{◌≡◌}
 use mathlib.Core.List.{[]}
-use Prim.Native.Nat.{◌≤◌, ◌-◌}
 use lib.ListN.{length, take}
 use Rattle.graph_lists.specs.Messages.{by_place}
 use Rattle.graph_messages.specs.Needs.{of_checks}
 use Rattle.relay_step.specs.Step.{state, check_pass}
 use Rattle.relay_step.proofs.step.check_pass.Given as goal
 
-abbrev pub invariant-loop-i : goal.invariant-loop-i
-invariant-loop-i l = (l.i ≤ length l.order) × (length l.c_to_v ≡ length l.initial.c_to_v)
-    × (state l.c_to_v l.v_to_c [] ≡ check_pass by_place (of_checks (length l.syndrome) l.check_var l.check_offset) l.alpha l.clip l.syndrome (take l.i l.order) (state l.initial.c_to_v l.v_to_c []))
-
-abbrev pub decreases-loop-i : goal.decreases-loop-i
-decreases-loop-i l = length l.order - l.i
+abbrev pub invariant-loop-check : goal.invariant-loop-check
+invariant-loop-check l =
+    state l.c_to_v l.v_to_c [] ≡ check_pass by_place (of_checks (length l.syndrome) l.check_var l.check_offset) l.alpha l.clip l.syndrome (take l.check-index l.order) (state l.initial.c_to_v l.v_to_c [])
