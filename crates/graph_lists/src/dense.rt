@@ -27,10 +27,8 @@ fn mark_row(bytes: &[u8], start: usize, out: &mut [u32]) -> usize
         × (take result out.new ≡ take start out.old ++ marks bytes.now) }
 {
     let mut place = start;
-    let mut m = 0;
-    while m < bytes.len() {
-        place = mark(bytes[m], m, place, out);
-        m += 1;
+    for (m, byte) in bytes.iter().enumerate() {
+        place = mark(*byte, m, place, out);
     }
     place
 }
@@ -52,12 +50,10 @@ fn mark_rows(
     put(check_offset, 0, 0);
     let mut base = 0;
     let mut place = 0;
-    let mut c = 0;
-    while c < checks {
+    for c in 0..checks {
         let end = base + mechanisms;
         place = mark_row(&matrix[base..end], place, check_var);
-        c += 1;
-        put(check_offset, c, place);
+        put(check_offset, c + 1, place);
         base = end;
     }
 }

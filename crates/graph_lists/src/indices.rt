@@ -28,15 +28,11 @@ pub fn put_within(xs: &mut [u32], i: usize, v: usize)
     }
 }
 
-// `xs.fill(0)`.
+// All zeroed.
 pub fn clear(xs: &mut [u32])
     ensures { xs.new ≡ replicate (length xs.old) 0 }
 {
-    let mut i = 0;
-    while i < xs.len() {
-        xs[i] = 0;
-        i += 1;
-    }
+    xs.fill(0);
 }
 
 // Each its own place: 0, 1, 2 and so on.
@@ -44,9 +40,7 @@ pub fn number(xs: &mut [u32])
     requires { length xs.old < 4294967296 }
     ensures { xs.new ≡ upto (length xs.old) }
 {
-    let mut i = 0;
-    while i < xs.len() {
-        put(xs, i, i);
-        i += 1;
+    for (i, x) in xs.iter_mut().enumerate() {
+        *x = i as u32;
     }
 }

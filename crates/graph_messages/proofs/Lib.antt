@@ -1,5 +1,4 @@
 -- The laws that stand by themselves, for the proofs of this crate and of those above it.
-pub mod Turns
 pub mod Parts
 pub mod Least
 pub mod Walks

@@ -14,9 +14,7 @@ ghost use Rattle.graph_lists.specs.Messages.{total as total_of, value_fault};
 ghost use Rattle.graph_lists.specs.Sound.{Keys};
 ghost use Rattle.graph_messages.specs.Needs.{Ordered};
 
-use graph_lists::indices::at;
 use refusals::Refusal;
-use refusals_tests::is_done;
 
 // What the first pass over a check's messages knows: the total sign, the least and the next magnitude, and whose the least is.
 #[derive(Clone, Copy)]
@@ -132,10 +130,8 @@ pub fn scan_check(odd: bool, messages: &[f64]) -> Scan
     ensures { scan_of result.total_sign result.min1 result.min2 result.least ≡ scan_to odd messages.now (length messages.now) }
 {
     let mut s = start_scan(odd, 0xFFFFFFFFFFFFFFFF);
-    let mut i = 0;
-    while i < messages.len() {
-        s = scanned(s, i, messages[i]);
-        i += 1;
+    for (i, message) in messages.iter().enumerate() {
+        s = scanned(s, i, *message);
     }
     s
 }
@@ -146,27 +142,20 @@ pub fn total(entries: &[u32], c_to_v: &[f64]) -> f64
     ensures { result ≡ total_of c_to_v.now entries.now }
 {
     let mut sum: f64 = -0.0;
-    let mut i = 0;
-    while i < entries.len() {
-        let m = at(entries, i);
-        sum = sum + c_to_v[m];
-        i += 1;
+    for m in entries {
+        sum += c_to_v[*m as usize];
     }
     sum
 }
 
-// `xs.fill(x)`.
+// All set to x.
 pub fn fill(x: f64, xs: &mut [f64])
     ensures { xs.new ≡ replicate (length xs.old) x }
 {
-    let mut i = 0;
-    while i < xs.len() {
-        xs[i] = x;
-        i += 1;
-    }
+    xs.fill(x);
 }
 
-// `xs.fill(0.0)`.
+// All zeroed.
 pub fn clear(xs: &mut [f64])
     ensures { xs.new ≡ replicate (length xs.old) zero⁺ }
 {
@@ -179,24 +168,17 @@ pub fn from_variables(check_var: &[u32], values: &[f64], v_to_c: &mut [f64])
     requires v_to_c_len { length v_to_c.old ≡ length check_var.now }
     ensures { v_to_c.new ≡ map (λ v. get_or values.now v nan) check_var.now }
 {
-    let mut i = 0;
-    while i < check_var.len() {
-        let v = at(check_var, i);
-        v_to_c[i] = values[v];
-        i += 1;
+    for (i, v) in check_var.iter().enumerate() {
+        v_to_c[i] = values[*v as usize];
     }
 }
 
-// `to.copy_from_slice(from)`.
+// One list written over another.
 pub fn copy(from: &[f64], to: &mut [f64])
     requires { length to.old ≡ length from.now }
     ensures { to.new ≡ from.now }
 {
-    let mut i = 0;
-    while i < from.len() {
-        to[i] = from[i];
-        i += 1;
-    }
+    to.copy_from_slice(from);
 }
 
 // 30 for one mechanism.
@@ -213,13 +195,8 @@ fn value_fault(v: usize, value: f64) -> Result<(), Refusal>
 pub fn first_not_finite(values: &[f64]) -> Result<(), Refusal>
     ensures { result ≡ first_of (length values.now) (value_fault values.now) }
 {
-    let mut v = 0;
-    while v < values.len() {
-        let a = value_fault(v, values[v]);
-        if !is_done(a) {
-            return a;
-        }
-        v += 1;
+    for (v, value) in values.iter().enumerate() {
+        value_fault(v, *value)?;
     }
     Ok(())
 }

@@ -31,10 +31,8 @@ fn send(scale: f64, total_sign: f64, minimum: f64, v_to_c: &[f64], c_to_v: &mut 
     ensures { c_to_v.new
         ≡ sent_to scale (scan_of total_sign minimum minimum 0) v_to_c.now (length v_to_c.now) }
 {
-    let mut i = 0;
-    while i < v_to_c.len() {
-        c_to_v[i] = sent_at(scale, total_sign, minimum, v_to_c[i]);
-        i += 1;
+    for (i, message) in v_to_c.iter().enumerate() {
+        c_to_v[i] = sent_at(scale, total_sign, minimum, *message);
     }
 }
 

@@ -52,10 +52,8 @@ pub fn parallel_checks(
         messages c_to_v.new v_to_c.now
         ≡ checks_to by_place g scale syndrome.now before (length syndrome.now) }
 {
-    let mut c = 0;
-    while c < syndrome.len() {
+    for c in 0..syndrome.len() {
         parallel_check(c, scale, syndrome, check_var, check_offset, v_to_c, c_to_v);
-        c += 1;
     }
 }
 
@@ -86,8 +84,7 @@ pub fn update_and_average(
         ewa_posterior.new
         ≡ averaged g priors.now weight (messages c_to_v.now []) ewa_posterior.old }
 {
-    let mut v = 0;
-    while v < priors.len() {
+    for (v, x) in ewa_posterior.iter_mut().enumerate() {
         let sum = crate::variable::update_variable(
             v,
             priors,
@@ -96,8 +93,7 @@ pub fn update_and_average(
             c_to_v,
             v_to_c,
         );
-        ewa_posterior[v] = running_average(weight, ewa_posterior[v], sum);
-        v += 1;
+        *x = running_average(weight, *x, sum);
     }
 }
 
@@ -116,11 +112,9 @@ pub fn average(
         ewa_posterior.new
         ≡ averaged g priors.now weight (messages c_to_v.now []) ewa_posterior.old }
 {
-    let mut v = 0;
-    while v < priors.len() {
+    for (v, x) in ewa_posterior.iter_mut().enumerate() {
         let sum = crate::variable::raw_posterior(v, priors, var_message, var_offset, c_to_v);
-        ewa_posterior[v] = running_average(weight, ewa_posterior[v], sum);
-        v += 1;
+        *x = running_average(weight, *x, sum);
     }
 }
 
@@ -191,8 +185,7 @@ pub fn serial_checks(
         messages c_to_v.new v_to_c.new
         ≡ serial_to by_place g scale syndrome.now priors.now before (length syndrome.now) }
 {
-    let mut c = 0;
-    while c < syndrome.len() {
+    for c in 0..syndrome.len() {
         serial_check(
             c,
             scale,
@@ -205,6 +198,5 @@ pub fn serial_checks(
             c_to_v,
             v_to_c,
         );
-        c += 1;
     }
 }

@@ -20,11 +20,9 @@ fn write_messages(entries: &[u32], sum: f64, c_to_v: &[f64], v_to_c: &mut [f64])
     requires v_to_c_len { length v_to_c.old ≡ length c_to_v.now }
     ensures { v_to_c.new ≡ damped_messages sum c_to_v.now v_to_c.old entries.now }
 {
-    let mut i = 0;
-    while i < entries.len() {
-        let m = graph_lists::indices::at(entries, i);
+    for entry in entries {
+        let m = *entry as usize;
         v_to_c[m] = damped(sum, c_to_v[m], v_to_c[m]);
-        i += 1;
     }
 }
 
@@ -98,10 +96,7 @@ pub(crate) fn update_variables(
         messages c_to_v.now v_to_c.new
         ≡ foldl (update_variable g priors.now) before variables.now }
 {
-    let mut i = 0;
-    while i < variables.len() {
-        let v = graph_lists::indices::at(variables, i);
-        update_variable(v, priors, var_message, var_offset, c_to_v, v_to_c);
-        i += 1;
+    for v in variables {
+        update_variable(*v as usize, priors, var_message, var_offset, c_to_v, v_to_c);
     }
 }

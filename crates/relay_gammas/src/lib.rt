@@ -66,10 +66,8 @@ fn draw_gammas(low: f64, high: f64, start: u64, gamma: &mut [f64])
 {
     let mut generator = SplitMix64::new(start);
     for g in gamma.iter_mut() {
-        let d = generator.draw();
-    for g in gamma.iter_mut() {
-        *g = numbers::gamma(low, high, generator.draw());
-    }
+        let draw = generator.draw();
+        *g = numbers::gamma(low, high, draw);
     }
 }
 

@@ -1,28 +1,21 @@
 -- `graph_messages::first_not_finite` meets its contract. The invariant: the values passed are finite. Assumes nothing.
-use mathlib.Core.Bool.{not}
-use mathlib.Core.Path.{ap}
 use mathlib.Core.Path.{refl}
-use native.Mathlib.Omega.{arith}
+use Rattle.std.proofs.lemmas.Result.{err_from_is_err_and}
 use Rattle.refusals.specs.Tests.{first_of}
-use Rattle.refusals.proofs.Tests.{first_refuse, first_go}
+use Rattle.refusals.proofs.Tests.{first_err, first_ok}
 use Rattle.graph_lists.specs.Messages.{value_fault}
 use Rattle.graph_messages.proofs.first_not_finite.Goals as goal
 
 pub loop-v-init : goal.loop-v-init
 unfolding first_of
-loop-v-init c = (omega arith, refl)
+loop-v-init c = refl
 
-pub returns-then-not-is_done : goal.returns-then-not-is_done
+pub returns-in_err-value_fault : goal.returns-in_err-value_fault
 unfolding value_fault
-returns-then-not-is_done c =
-    first_refuse (value_fault c.args.values.now)
-    c.loop-v.v _ _ _ c.loop-v-test.true c.loop-v.invariant.1 c.value_fault-a.ensures c.is_done.ensures
-    (ap not c.if-not-is_done.true)
+returns-in_err-value_fault c =
+    let p = err_from_is_err_and c.from_residual.result c.from_residual.ensures.1 in
+    rw (p.1, p.2) (first_err (value_fault c.args.values.now) c.loop-v.v _ _ c.loop-v-test.true c.loop-v.invariant c.in_err-value_fault.ensures)
 
 pub loop-v-preserved : goal.loop-v-preserved
 unfolding value_fault
-loop-v-preserved c = (
-  omega arith,
-  first_go (value_fault c.args.values.now)
-      c.loop-v.v _ _ c.loop-v.invariant.1 c.value_fault-a.ensures c.is_done.ensures (ap not c.if-not-is_done.false),
-)
+loop-v-preserved c = first_ok (value_fault c.args.values.now) c.loop-v.v c.loop-v.invariant c.in_ok-value_fault.ensures

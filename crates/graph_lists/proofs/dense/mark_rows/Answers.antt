@@ -18,37 +18,33 @@ use Rattle.graph_lists.proofs.dense.mark_rows.Goals.{In-loop-c}
 room : (c : In-loop-c) → c.loop-c.base + c.args.mechanisms ≤
     length c.args.matrix.now
 room c =
-    rows_room c.args.checks c.args.mechanisms c.args.matrix.now c.requires.matrix_len c.loop-c.c c.loop-c.base _ c.loop-c-test.true c.loop-c.invariant.1 refl
+    rows_room c.args.checks c.args.mechanisms c.args.matrix.now c.requires.matrix_len c.loop-c.c c.loop-c.base _ c.loop-c-test.true c.loop-c.invariant.0 refl
 
 -- what it marks has room
 space : (c : In-loop-c)
     → c.loop-c.place + length (marks (take (c.loop-c.base + c.args.mechanisms - c.loop-c.base) (drop c.loop-c.base c.args.matrix.now))) ≤ count_edges c.args.matrix.now
 space c =
-    rows_place c.args.checks c.args.mechanisms c.args.matrix.now c.requires.matrix_len c.loop-c.c c.loop-c.base _ c.loop-c-test.true c.loop-c.invariant.1 refl c.loop-c.place c.loop-c.invariant.2
+    rows_place c.args.checks c.args.mechanisms c.args.matrix.now c.requires.matrix_len c.loop-c.c c.loop-c.base _ c.loop-c-test.true c.loop-c.invariant.0 refl c.loop-c.place c.loop-c.invariant.1
 
 pub loop-c-init : goal.loop-c-init
 loop-c-init c =
     let f = mechanisms_of c.args.mechanisms (marked c.args.mechanisms c.args.matrix.now) in
     let n = rows_none c.args.mechanisms f c.args.check_var.now in (
-      omega arith,
       n.0,
       n.1,
       n.2,
-      c.requires.check_var_len.0,
-      c.put.auto.xs ∙ c.requires.check_var_len.1,
       offset_none f c.args.check_offset.now _ (omega arith) c.put.ensures,
     )
 
 pub mark_row-place-requires : goal.mark_row-place-requires
 mark_row-place-requires c =
-    (omega (arith, space (goal.at.mark_row-place-requires c).In-loop-c, c.loop-c.invariant.4), omega (arith, length_part c.loop-c.base (c.loop-c.base + c.args.mechanisms) c.args.matrix.now (room (goal.at.mark_row-place-requires c).In-loop-c), c.requires.mechanisms_bound.0))
+    (omega (arith, space (goal.at.mark_row-place-requires c).In-loop-c), omega (arith, length_part c.loop-c.base (c.loop-c.base + c.args.mechanisms) c.args.matrix.now (room (goal.at.mark_row-place-requires c).In-loop-c), c.requires.mechanisms_bound.0))
 
 pub put-requires-in-loop-c : goal.put-requires-in-loop-c
 put-requires-in-loop-c c = omega (
   arith,
   space (goal.at.put-requires-in-loop-c c).In-loop-c,
   c.mark_row-place.ensures.0,
-  c.loop-c.invariant.5,
   c.requires.mechanisms_bound.1,
 )
 
@@ -56,15 +52,12 @@ pub loop-c-preserved : goal.loop-c-preserved
 loop-c-preserved c =
     let f = mechanisms_of c.args.mechanisms (marked c.args.mechanisms c.args.matrix.now) in
     let t =
-    rows_turn c.args.checks c.args.mechanisms c.args.matrix.now c.requires.matrix_len c.loop-c.c c.loop-c.base _ c.loop-c-test.true c.loop-c.invariant.1 refl c.loop-c.place _ c.loop-c.check_var _ c.loop-c.invariant.2 c.loop-c.invariant.3 c.mark_row-place.ensures.0
+    rows_turn c.args.checks c.args.mechanisms c.args.matrix.now c.requires.matrix_len c.loop-c.c c.loop-c.base _ c.loop-c-test.true c.loop-c.invariant.0 refl c.loop-c.place _ c.loop-c.check_var _ c.loop-c.invariant.1 c.loop-c.invariant.2 c.mark_row-place.ensures.0
     c.mark_row-place.ensures.1 in (
-      omega arith,
-      rows_base c.args.checks c.args.mechanisms c.args.matrix.now c.requires.matrix_len c.loop-c.c c.loop-c.base _ c.loop-c-test.true c.loop-c.invariant.1 refl,
+      rows_base c.args.checks c.args.mechanisms c.args.matrix.now c.requires.matrix_len c.loop-c.c c.loop-c.base _ c.loop-c-test.true c.loop-c.invariant.0 refl,
       t.0,
       t.1,
-      c.mark_row-place.auto.out ∙ c.loop-c.invariant.4,
-      c.put-in-loop-c.auto.xs ∙ c.loop-c.invariant.5,
-      filled_turn (start f) c.loop-c.check_offset _ (c.loop-c.c + 1) _ (omega (arith, c.loop-c.invariant.5)) c.put-in-loop-c.ensures t.0 c.loop-c.invariant.6,
+      filled_turn (start f) c.loop-c.check_offset _ (c.loop-c.c + 1) _ (omega arith) c.put-in-loop-c.ensures t.0 c.loop-c.invariant.3,
     )
 
 pub returns : goal.returns
@@ -72,7 +65,7 @@ unfolding offsets
 returns c =
     let f = mechanisms_of c.args.mechanisms (marked c.args.mechanisms c.args.matrix.now) in (
       rows_end c.args.checks c.args.mechanisms c.args.matrix.now
-          c.requires.matrix_len c.loop-c.c c.loop-c.place _ (omega arith) c.loop-c.invariant.2 c.loop-c.invariant.3
-          c.loop-c.invariant.4,
-      is_table (suc c.args.checks) (start f) _ c.loop-c.invariant.5 (λ k h. c.loop-c.invariant.6 k (omega arith)),
+          c.requires.matrix_len c.loop-c.c c.loop-c.place _ (omega arith) c.loop-c.invariant.1 c.loop-c.invariant.2
+          (c.loop-c.auto.check_var ∙ c.requires.check_var_len.0),
+      is_table (suc c.args.checks) (start f) _ (c.loop-c.auto.check_offset ∙ c.put.auto.xs ∙ c.requires.check_var_len.1) (λ k h. c.loop-c.invariant.3 k (omega arith)),
     )

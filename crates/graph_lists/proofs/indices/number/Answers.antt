@@ -4,4 +4,4 @@ use Rattle.numbers.proofs.Loops.{is_table}
 use Rattle.graph_lists.proofs.indices.number.Goals as goal
 
 pub returns : goal.returns
-returns c = is_table _ _ _ c.loop-i.invariant.1 (λ k l. c.loop-i.invariant.2 k (omega arith))
+returns c = is_table _ _ _ c.loop-i.auto.xs (λ k l. c.loop-i.invariant k (omega arith))

@@ -2,7 +2,7 @@
 use mathlib.Core.Path.{refl, ◌∙◌}
 use Prim.Native.Nat.{◌<◌}
 use native.Mathlib.Omega.{arith}
-use lib.ListN.{length, length-set}
+use lib.ListN.{length}
 use Rattle.numbers.proofs.Turns.{table_turn}
 use Rattle.min_sum_pass.specs.MinSum.{sent_to}
 use Rattle.min_sum_pass.proofs.Sends.{one_minimum}
@@ -10,10 +10,10 @@ use Rattle.min_sum_pass.proofs.check.send.Goals as goal
 
 pub loop-i-init : goal.loop-i-init
 unfolding sent_to
-loop-i-init c = (omega arith, omega arith, refl)
+loop-i-init c = refl
 
 pub loop-i-preserved : goal.loop-i-preserved
 unfolding sent_to
 loop-i-preserved c =
     let h : c.loop-i.i < length c.loop-i.c_to_v = omega arith in
-    (omega arith, simp length-set (omega arith), table_turn _ _ c.loop-i.i _ h c.loop-i.invariant.2 (c.sent_at.ensures ∙ one_minimum _ _ _ _ c.loop-i.i))
+    table_turn _ _ c.loop-i.i _ h c.loop-i.invariant (c.sent_at.ensures ∙ one_minimum _ _ _ _ c.loop-i.i)

@@ -2,17 +2,13 @@
 -- new, and the others are old. Assumes nothing.
 use mathlib.Core.Path.{◌≡◌}
 use mathlib.Core.List.{[]}
-use Prim.Native.Nat.{◌≤◌, ◌-◌}
 use lib.ListN.{length, take, drop}
 use Rattle.graph_messages.specs.Needs.{of_variables}
 use Rattle.min_sum_pass.specs.MinSum.{messages, variables_to, averaged_to}
 use Rattle.min_sum_pass.proofs.pass.update_and_average.Given as goal
 
 abbrev pub invariant-loop-v : goal.invariant-loop-v
-invariant-loop-v l = (l.v ≤ length l.priors) × (length l.v_to_c ≡ length l.initial.v_to_c) × (length l.ewa_posterior ≡ length l.priors)
-    × (messages l.c_to_v l.v_to_c ≡ variables_to (of_variables (length l.priors) l.var_message l.var_offset) l.priors (messages l.c_to_v l.initial.v_to_c) l.v)
+invariant-loop-v l =
+    (messages l.c_to_v l.v_to_c ≡ variables_to (of_variables (length l.priors) l.var_message l.var_offset) l.priors (messages l.c_to_v l.initial.v_to_c) l.v)
     × (take l.v l.ewa_posterior ≡ averaged_to (of_variables (length l.priors) l.var_message l.var_offset) l.priors l.weight (messages l.c_to_v []) l.initial.ewa_posterior l.v)
     × (drop l.v l.ewa_posterior ≡ drop l.v l.initial.ewa_posterior)
-
-abbrev pub decreases-loop-v : goal.decreases-loop-v
-decreases-loop-v l = length l.priors - l.v
