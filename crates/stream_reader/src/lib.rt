@@ -11,7 +11,6 @@ ghost use Rattle.stream_grammar.specs.Fields.{counts_read, model_lists, model_re
 
 use numbers::limits::{ROOM_EDGES, ROOM_MECHANISM_OFFSETS, ROOM_MECHANISMS};
 use refusals::Refusal;
-use refusals_tests::{at_most, both, or_else, unless};
 use relay_settings::{Clip, GammaSource, Settings};
 use stream_grammar::{fields, rules};
 
@@ -35,7 +34,7 @@ impl Reader {
         ensures { result ≡ fresh offset }
     {
         Self {
-            offset: offset,
+            offset,
             taken: 0,
             length: 0,
             kind: 0,
@@ -48,13 +47,11 @@ impl Reader {
 }
 
 // Whether the record has been read to its end.
+#[tactic(auto, unfolding(crate::specs::Reading::is_whole))]
 pub fn is_whole(r: Reader) -> bool
     ensures { result ≡ is_whole r }
 {
-    if r.taken < 6 {
-        return false;
-    }
-    r.taken - 6 == r.length
+    r.taken >= 6 && r.taken - 6 == r.length
 }
 
 // One byte of the stream. Past a whole record the next begins.
@@ -68,30 +65,44 @@ pub fn push(r: Reader, byte: u8, payload: &mut [u8]) -> Reader
 
 // 41 to 45 of a record that has been read to its end. Of settings it reads the legs and the schedule off the payload, so that 49 bytes
 // must have been kept.
-pub fn verdict(r: Reader, payload: &[u8], has_model: bool, has_settings: bool) -> Result<(), Refusal>
+#[tactic(auto, unfolding(crate::specs::Reading::verdict, stream_grammar::specs::Stream::tested, refusals::specs::Tests::or_else, refusals::specs::Tests::unless))]
+pub fn verdict(
+    r: Reader,
+    payload: &[u8],
+    has_model: bool,
+    has_settings: bool,
+) -> Result<(), Refusal>
     ensures { result ≡ verdict_of has_model has_settings r payload.now }
 {
-    let fits = rules::length_good(r.kind, r.length, r.mechanisms, r.edges, r.degrees);
+    if !rules::kind_good(r.kind) {
+        return Err(Refusal::UnknownKind);
+    }
+    if !rules::length_good(r.kind, r.length, r.mechanisms, r.edges, r.degrees) {
+        return Err(Refusal::PayloadLength);
+    }
+    if !rules::time_good(r.kind, has_model, has_settings) {
+        return Err(Refusal::ShotTooEarly);
+    }
     let legs = fields::legs(payload);
-    let within = rules::room_good(r.kind, r.length, r.checks, r.mechanisms, r.edges, legs);
-    let known = rules::schedule_good(r.kind, fields::schedule_byte(payload));
-    let kind = unless(rules::kind_good(r.kind), Refusal::UnknownKind);
-    let size = unless(fits, Refusal::PayloadLength);
-    let time = unless(
-        rules::time_good(r.kind, has_model, has_settings),
-        Refusal::ShotTooEarly,
-    );
-    let room = unless(within, Refusal::BeyondRoom);
-    let schedule = unless(known, Refusal::BadSchedule);
-    or_else(kind, or_else(size, or_else(time, or_else(room, schedule))))
+    if !rules::room_good(r.kind, r.length, r.checks, r.mechanisms, r.edges, legs) {
+        return Err(Refusal::BeyondRoom);
+    }
+    if !rules::schedule_good(r.kind, fields::schedule_byte(payload)) {
+        return Err(Refusal::BadSchedule);
+    }
+    Ok(())
 }
 
 // At the end of the input: 40, unless it ends with a whole record or holds nothing.
+#[tactic(auto, unfolding(crate::specs::Reading::at_end, refusals::specs::Tests::unless))]
 pub fn at_end(r: Reader) -> Result<(), Refusal>
     ensures { result ≡ at_end r }
 {
     let open = step::opened(r);
-    unless(open.taken == 0, Refusal::CutRecord)
+    if open.taken != 0 {
+        return Err(Refusal::CutRecord);
+    }
+    Ok(())
 }
 
 // A model's counts.
@@ -120,14 +131,10 @@ pub fn read_model(
         ≡ model_read payload.now (model_lists priors.old detector_offsets.old detectors.old) }
 {
     let mechanisms = priors.len();
-    let fit = both(
-        at_most(mechanisms, ROOM_MECHANISMS),
-        both(
-            at_most(detector_offsets.len(), ROOM_MECHANISM_OFFSETS),
-            at_most(detectors.len(), ROOM_EDGES),
-        ),
-    );
-    if !fit {
+    if mechanisms > ROOM_MECHANISMS
+        || detector_offsets.len() > ROOM_MECHANISM_OFFSETS
+        || detectors.len() > ROOM_EDGES
+    {
         return;
     }
     fields::priors_in(payload, priors);
@@ -162,17 +169,9 @@ pub fn read_seed(payload: &[u8]) -> u64
 }
 
 // Whether a refusal is one that a shot's line has: any other ends the run.
+#[tactic(auto, unfolding(stream_grammar::specs::Stream::is_of_shot))]
 pub fn is_of_shot(code: usize) -> bool
     ensures { result ≡ is_of_shot code }
 {
-    if code == 20 {
-        return true;
-    }
-    if code == 21 {
-        return true;
-    }
-    if code == 27 {
-        return true;
-    }
-    code == 30
+    matches!(code, 20 | 21 | 27 | 30)
 }

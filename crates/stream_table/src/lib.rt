@@ -27,10 +27,7 @@ pub fn front(list: &[u8], n: usize) -> usize
         × (take result list.now ≡ take n list.now)
         × (drop result list.now ≡ drop n list.now) }
 {
-    if n <= list.len() {
-        return n;
-    }
-    list.len()
+    n.min(list.len())
 }
 
 // Whether a model is within the room.
@@ -78,13 +75,15 @@ fn built_within(c: Counts, payload: &[u8]) -> Result<(), Refusal>
     requires { (c.checks ≤ room_checks) × (c.mechanisms ≤ room_mechanisms) × (c.edges ≤ room_edges) }
     ensures { result ≡ (built_from c.edges payload.now (model_room c) (graph_room c)).answer }
 {
-    let checks = c.checks;
-    let mechanisms = c.mechanisms;
-    let edges = c.edges;
+    let Counts {
+        checks,
+        mechanisms,
+        edges,
+    } = c;
     let size = Size {
-        checks: checks,
-        mechanisms: mechanisms,
-        edges: edges,
+        checks,
+        mechanisms,
+        edges,
     };
     let mut priors = [0.0; ROOM_MECHANISMS];
     let mut detector_offsets = [0u32; ROOM_MECHANISM_OFFSETS];
@@ -113,10 +112,10 @@ pub fn model_fault(payload: &[u8]) -> Result<(), Refusal>
     ensures { result ≡ model_fault payload.now }
 {
     let c = stream_reader::read_counts(payload);
-    if within(c) {
-        return built_within(c, payload);
+    if !within(c) {
+        return Err(Refusal::BeyondRoom);
     }
-    Err(Refusal::BeyondRoom)
+    built_within(c, payload)
 }
 
 // Settings: 10 to 16.
@@ -163,7 +162,7 @@ fn decoded(
         (model_lists priors.old detector_offsets.old detectors.old) g before) }
 {
     stream_reader::read_model(model, priors, detector_offsets, detectors);
-    graph::build_sparse(
+    let _ = graph::build_sparse(
         size,
         priors,
         detector_offsets,
@@ -214,13 +213,15 @@ fn decoded_within(
         ≡ found (decoded_from c.edges model.now settings syndrome.now seed (model_room c) (graph_room c)
         (shot_room c correction.old)) }
 {
-    let checks = c.checks;
-    let mechanisms = c.mechanisms;
-    let edges = c.edges;
+    let Counts {
+        checks,
+        mechanisms,
+        edges,
+    } = c;
     let size = Size {
-        checks: checks,
-        mechanisms: mechanisms,
-        edges: edges,
+        checks,
+        mechanisms,
+        edges,
     };
     let mut priors = [0.0; ROOM_MECHANISMS];
     let mut detector_offsets = [0u32; ROOM_MECHANISM_OFFSETS];
