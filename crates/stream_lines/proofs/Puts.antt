@@ -5,8 +5,10 @@ use Prim.Native.Nat.{ℕ, zero, suc, ◌+◌, ◌-◌, ◌/◌, ◌%◌, ◌<◌
 use native.Mathlib.Numerals.{add-one}
 use native.Mathlib.Omega.{arith}
 use lib.ListN.{length, get_or, set, take, drop, take-append-drop}
-use lib.Seq.{take-suc-set, take-suc, take_all, drop-set-lt, drop-drop, length-take-le}
+use lib.Seq.{take-suc-set, take-suc, drop-set-lt, drop-drop, length-take-le}
 use borrow.Author.Tests.{lt-ltb, le-ltb}
+use borrow.Rule.Slice.PartMut.{put_mid}
+use Rattle.std.proofs.lemmas.Slice.{take-put_mid, drop-put_mid}
 use Rattle.numbers.specs.Loops.{over}
 use Rattle.stream_lines.specs.Lines.{digits, space, bit_digit, bits_after}
 use Rattle.stream_lines.specs.Writing.{Put}
@@ -47,11 +49,19 @@ line w old new r p h e =
 pub put_one : (out : List ℕ) (at b : ℕ) → at < length out → Put (b ∷ []) out at (set out at b) (at + 1)
 put_one out at b h = record { front = rw (add-one, take-suc-set, h); rest = drop-set-lt (at + 1) out at b (omega arith); on = omega arith }
 
--- ---- bytes one after the other
+-- ---- a word
 
--- before the first
-pub bytes_none : (f : ℕ → ℕ) (word out : List ℕ) (at : ℕ) → Put (map f (take 0 word)) out at out (at + 0)
-bytes_none f word out at = let z : at + 0 ≡ at = omega arith in rw z (nothing out at)
+-- copied into its part
+pub put_part : (word old part : List ℕ) (at next : ℕ) → next ≡ at + length word → next ≤ length old → part ≡ word → Put word old at (put_mid at (next - at) old part) next
+put_part word old part at next n h e =
+    let l : length part ≡ next - at = ap length e ∙ omega arith in
+    record {
+      front = take-put_mid at (next - at) old part next (omega arith) (omega arith) ∙ ap (λ t. take at old ++ t) e;
+      rest = drop-put_mid at (next - at) old part next (omega arith) (omega arith) l;
+      on = omega arith;
+    }
+
+-- ---- bytes one after the other
 
 -- one further
 pub bytes_turn : (f : ℕ → ℕ) (word old out : List ℕ) (at i x : ℕ) → i < length word → at + i < length out → x ≡ f (get_or word i 0)
@@ -61,11 +71,6 @@ bytes_turn f word old out at i x h k e p =
     let t : map f (take i word) ++ (x ∷ []) ≡ map f (take (i + 1) word) =
     rw (add-one, take-suc word i 0 h, map-append f (take i word) (get_or word i 0 ∷ []), e) in
     rw j (retext _ _ old (set out (at + i) x) at (at + i + 1) t (then (map f (take i word)) (x ∷ []) old out (set out (at + i) x) at (at + i) (at + i + 1) p (put_one out (at + i) x k)))
-
--- at the end
-pub bytes_done : (f : ℕ → ℕ) (word old out : List ℕ) (at i : ℕ) → length word ≤ i → i ≤ length word → Put (map f (take i word)) old at out (at + i)
-    → (at + i ≡ at + length word) × Put (map f word) old at out (at + i)
-bytes_done f word old out at i h k p = (omega arith, retext _ _ old out at (at + i) (ap (map f) (take_all i word h)) p)
 
 -- ---- digits
 

@@ -23,12 +23,9 @@ fn put_word(word: &[u8], out: &mut [u8], at: usize) -> usize
     requires { at + length word.now ≤ length out.old }
     ensures { (result ≡ at + length word.now) × Put word.now out.old at out.new result }
 {
-    let mut i = 0;
-    while i < word.len() {
-        out[at + i] = word[i];
-        i += 1;
-    }
-    at + i
+    let next = at + word.len();
+    out[at..next].copy_from_slice(word);
+    next
 }
 
 // The byte of a digit.
@@ -77,12 +74,10 @@ fn put_bits(bits: &[u8], out: &mut [u8], at: usize) -> usize
     requires { at + length bits.now ≤ length out.old }
     ensures { (result ≡ at + length bits.now) × Put (map bit_digit bits.now) out.old at out.new result }
 {
-    let mut i = 0;
-    while i < bits.len() {
-        out[at + i] = bit_digit(bits[i]);
-        i += 1;
+    for (i, bit) in bits.iter().enumerate() {
+        out[at + i] = bit_digit(*bit);
     }
-    at + i
+    at + bits.len()
 }
 
 // Writes them after a space; nothing where there are none.
