@@ -1,19 +1,24 @@
 -- One turn of each loop of a leg, as the code has it. Assumes nothing.
-use mathlib.Core.Path.{◌≡◌, refl, sym, ap, ◌∙◌}
+use mathlib.Core.Path.{◌≡◌, refl, sym, ap, subst, ◌∙◌}
 use mathlib.Core.Bool.{Bool, true, false}
 use mathlib.Core.List.{List, map}
 use Prim.Native.Nat.{ℕ, zero, suc, ◌+◌, ◌-◌, ◌<◌, ◌≤◌}
-use native.Mathlib.Nat.{sub-zero, sub-eq-zero_of_le}
+use native.Mathlib.Nat.{zero-add}
 use native.Mathlib.Numerals.{add-one}
 use native.Mathlib.Omega.{arith}
 use lib.Bits.{bit_xor}
 use lib.Dec.{eqb}
 use lib.Ieee.{Float, nan}
-use lib.ListN.{length, get_or, take, set}
+use lib.ListN.{length, get_or, take}
 use lib.Seq.{take_all}
+use Rattle.std.specs.Bool.{MatchBool}
+use Rattle.std.specs.List.{range_with_len, AllWithin, HoldsAt}
+use Rattle.std.proofs.lemmas.List.FromFn.{length-range_with_len, get_or-range_with_len}
 use Rattle.numbers.specs.Floats.{◌+ᶠ◌}
-use Rattle.numbers.specs.Loops.{part}
-use Rattle.numbers.proofs.Turns.{fold_turn, fold_done, turns_turn, map_turn}
+use Rattle.numbers.specs.Loops.{part, every}
+use Rattle.numbers.proofs.Cases.{every_stop}
+use Rattle.numbers.proofs.Loops.{every_true}
+use Rattle.numbers.proofs.Turns.{fold_turn, turns_turn}
 use Rattle.graph_messages.specs.Needs.{of_checks}
 use Rattle.relay_step.specs.Step.{State}
 use Rattle.relay_step.specs.Leg.{leg, hard_bit, hard_decision, parity, matches, cost, correction_weight, run_leg}
@@ -23,11 +28,6 @@ pub weight_turn : (prior : List Float) (bits : List ℕ) (v : ℕ) (w x : Float)
     → w +ᶠ x ≡ correction_weight prior bits (v + 1)
 unfolding correction_weight
 weight_turn prior bits v w x p q = turns_turn _ _ w (w +ᶠ x) v p (ap (λ y. w +ᶠ y) q)
-
--- the hard decision, one bit further
-pub hard_turn : (posterior : List Float) (out : List ℕ) (v b : ℕ) → v < length posterior → v < length out → take v out ≡ map hard_bit (take v posterior)
-    → b ≡ hard_bit (get_or posterior v nan) → take (v + 1) (set out v b) ≡ map hard_bit (take (v + 1) posterior)
-hard_turn posterior out v b h k p q = map_turn hard_bit posterior out v b nan h k p q
 
 -- and all of it
 pub hard_done : (posterior : List Float) (out : List ℕ) (v : ℕ) → length posterior ≤ v → length out ≤ v → take v out ≡ map hard_bit (take v posterior) → out ≡ hard_decision posterior
@@ -39,16 +39,24 @@ pub parity_turn : (bits entries : List ℕ) (i v p : ℕ) → i < length entries
 unfolding parity
 parity_turn bits entries i v p h e q = fold_turn _ _ p _ entries i v 0 h e q refl
 
--- and of all
-pub parity_done : (bits entries : List ℕ) (i p : ℕ) → length entries ≤ i → p ≡ parity bits (take i entries) → p ≡ parity bits entries
-unfolding parity
-parity_done bits entries i p h q = fold_done _ _ p entries i h q
-
 -- one check's test, from its part as the code reads it
 pub matches_is : (checks : ℕ) (cv co bits syndrome : List ℕ) (c a e p : ℕ) → a ≡ get_or co c 0 → e ≡ get_or co (c + 1) 0 → p ≡ parity bits (part a e cv)
     → eqb p (get_or syndrome c 0) ≡ matches (of_checks checks cv co) bits syndrome c
 unfolding matches
 matches_is checks cv co bits syndrome c a e p h k q = rw (q, h, k, add-one)
+
+-- `all` over the numbers below n is every test
+pub every_is : (p : ℕ → Bool) (n : ℕ) (r : Bool)
+    → MatchBool r (AllWithin (λ k. p k ≡ true) (range_with_len 0 n) 0 (length (range_with_len 0 n)))
+    ((k : ℕ) × (k < length (range_with_len 0 n)) × HoldsAt (λ k. p k ≡ false) (range_with_len 0 n) k)
+    → r ≡ every n p
+every_is p n true h = sym (every_true n p (λ i l. subst (λ j. p j ≡ true) (place i l) (h i 0 (omega arith) (rw length-range_with_len l))))
+  where
+    place : (i : ℕ) → i < n → get_or (range_with_len 0 n) i 0 ≡ i
+    place i l = get_or-range_with_len 0 n i 0 l ∙ zero-add i
+every_is p n false h =
+    let l : h.0 < n = rw length-range_with_len at h.1 in
+    sym (every_stop p h.0 n l (subst (λ j. p j ≡ false) (get_or-range_with_len 0 n h.0 0 l ∙ zero-add h.0) (h.2 0)))
 
 -- ---- `run_leg`
 
@@ -57,15 +65,7 @@ module _ (step : State → State) (test : List Float → Bool) where
   pub leg_turn : (s t : State) (n k : ℕ) (b : Bool) → k < n → t ≡ step s → b ≡ test t.posterior → run_leg step test (n - k) false k s ≡ run_leg step test (n - (k + 1)) b (k + 1) t
   leg_turn s t n k b h p q = let e : n - k ≡ suc (n - (k + 1)) = omega arith in rw (e, q, p, add-one)
 
-  -- before the first
-  pub leg_start : (s : State) (n : ℕ) → run_leg step test (n - 0) false 0 s ≡ run_leg step test n false 0 s
-  leg_start s n = rw sub-zero
-
   -- the way out where the test is passed
   pub leg_passed : (s : State) (n k : ℕ) → run_leg step test n true k s ≡ leg true k s
   leg_passed s zero k = refl
   leg_passed s (suc n) k = refl
-
-  -- and where the limit is reached
-  pub leg_over : (s : State) (n k : ℕ) → n ≤ k → run_leg step test (n - k) false k s ≡ leg false k s
-  leg_over s n k h = rw (sub-eq-zero_of_le h)

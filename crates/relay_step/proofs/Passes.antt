@@ -2,13 +2,13 @@
 use mathlib.Core.Path.{◌≡◌, ap, ◌∙◌}
 use mathlib.Core.Bool.{not}
 use mathlib.Core.List.{List, [], ◌∷◌, foldl}
-use Prim.Native.Nat.{ℕ, ◌+◌, ◌<◌, ◌≤◌}
+use Prim.Native.Nat.{ℕ, ◌+◌, ◌<◌}
 use native.Mathlib.Numerals.{add-one}
 use lib.Dec.{eqb}
 use lib.Ieee.{Float, nan}
 use lib.ListN.{length, get_or, take, set}
 use Rattle.numbers.specs.Loops.{part, spliced}
-use Rattle.numbers.proofs.Turns.{fold_turn, fold_done, turns_turn, table_turn}
+use Rattle.numbers.proofs.Turns.{fold_turn, turns_turn, table_turn}
 use Rattle.graph_lists.specs.Graph.{Graph}
 use Rattle.graph_lists.specs.Messages.{by_place}
 use Rattle.graph_messages.specs.Needs.{walked, of_checks, of_variables}
@@ -30,12 +30,6 @@ pub checks_turn : (g : Graph) (alpha : Float) (clip : Clip) (syndrome : List ℕ
 unfolding check_pass
 checks_turn g alpha clip syndrome s t u order i c h e p q = fold_turn _ s t u order i c 0 h e p q
 
--- and all of them
-pub checks_done : (g : Graph) (alpha : Float) (clip : Clip) (syndrome : List ℕ) (s t : State) (order : List ℕ) (i : ℕ) → length order ≤ i
-    → t ≡ check_pass by_place g alpha clip syndrome (take i order) s → t ≡ check_pass by_place g alpha clip syndrome order s
-unfolding check_pass
-checks_done g alpha clip syndrome s t order i h p = fold_done _ s t order i h p
-
 -- one variable further
 pub variable_pass_turn : (g : Graph) (bias : List Float) (s t u : State) (v : ℕ) → t ≡ variable_pass g bias s v → u ≡ update_variable g bias t v → u ≡ variable_pass g bias s (v + 1)
 unfolding variable_pass
@@ -47,12 +41,6 @@ pub serial_turn : (g : Graph) (alpha : Float) (clip : Clip) (syndrome : List ℕ
     → u ≡ serial_pass by_place g alpha clip syndrome bias (take (i + 1) order) s
 unfolding serial_pass
 serial_turn g alpha clip syndrome bias s t u order i c h e p q = fold_turn _ s t u order i c 0 h e p q
-
--- and all of them
-pub serial_done : (g : Graph) (alpha : Float) (clip : Clip) (syndrome : List ℕ) (bias : List Float) (s t : State) (order : List ℕ) (i : ℕ) → length order ≤ i
-    → t ≡ serial_pass by_place g alpha clip syndrome bias (take i order) s → t ≡ serial_pass by_place g alpha clip syndrome bias order s
-unfolding serial_pass
-serial_done g alpha clip syndrome bias s t order i h p = fold_done _ s t order i h p
 
 -- ---- one check, with its part as the code reads it
 

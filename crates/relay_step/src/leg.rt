@@ -63,12 +63,7 @@ fn all_match(syndrome: &[u8], check_var: &[u32], check_offset: &[u32], bits: &[u
     ensures { let g = of_checks (length syndrome.now) check_var.now check_offset.now in
         result ≡ every (length syndrome.now) (matches_of g bits.now syndrome.now) }
 {
-    for c in 0..syndrome.len() {
-        if !matches(c, syndrome, check_var, check_offset, bits) {
-            return false;
-        }
-    }
-    true
+    (0..syndrome.len()).all(|c| matches(c, syndrome, check_var, check_offset, bits))
 }
 
 // `update_hard_decision_and_check`.
@@ -102,8 +97,8 @@ pub fn correction_weight(priors: &[f64], bits: &[u8]) -> f64
     ensures { result ≡ correction_weight priors.now bits.now (length priors.now) }
 {
     let mut weight: f64 = -0.0;
-    for (v, prior) in priors.iter().enumerate() {
-        weight += cost(*prior, bits[v]);
+    for (prior, bit) in priors.iter().zip(bits) {
+        weight += cost(*prior, *bit);
     }
     weight
 }
