@@ -1,9 +1,8 @@
 -- One turn of each loop of a leg, as the code has it. Assumes nothing.
-use mathlib.Core.Path.{◌≡◌, refl, sym, ap, subst, ◌∙◌}
+use mathlib.Core.Path.{◌≡◌, refl, sym, ap, ◌∙◌}
 use mathlib.Core.Bool.{Bool, true, false}
 use mathlib.Core.List.{List, map}
 use Prim.Native.Nat.{ℕ, zero, suc, ◌+◌, ◌-◌, ◌<◌, ◌≤◌}
-use native.Mathlib.Nat.{zero-add}
 use native.Mathlib.Numerals.{add-one}
 use native.Mathlib.Omega.{arith}
 use lib.Bits.{bit_xor}
@@ -11,13 +10,8 @@ use lib.Dec.{eqb}
 use lib.Ieee.{Float, nan}
 use lib.ListN.{length, get_or, take}
 use lib.Seq.{take_all}
-use Rattle.std.specs.Bool.{MatchBool}
-use Rattle.std.specs.List.{range_with_len, AllWithin, HoldsAt}
-use Rattle.std.proofs.lemmas.List.FromFn.{length-range_with_len, get_or-range_with_len}
 use Rattle.numbers.specs.Floats.{◌+ᶠ◌}
-use Rattle.numbers.specs.Loops.{part, every}
-use Rattle.numbers.proofs.Cases.{every_stop}
-use Rattle.numbers.proofs.Loops.{every_true}
+use Rattle.numbers.specs.Loops.{part}
 use Rattle.numbers.proofs.Turns.{fold_turn, turns_turn}
 use Rattle.graph_messages.specs.Needs.{of_checks}
 use Rattle.relay_step.specs.Step.{State}
@@ -44,19 +38,6 @@ pub matches_is : (checks : ℕ) (cv co bits syndrome : List ℕ) (c a e p : ℕ)
     → eqb p (get_or syndrome c 0) ≡ matches (of_checks checks cv co) bits syndrome c
 unfolding matches
 matches_is checks cv co bits syndrome c a e p h k q = rw (q, h, k, add-one)
-
--- `all` over the numbers below n is every test
-pub every_is : (p : ℕ → Bool) (n : ℕ) (r : Bool)
-    → MatchBool r (AllWithin (λ k. p k ≡ true) (range_with_len 0 n) 0 (length (range_with_len 0 n)))
-    ((k : ℕ) × (k < length (range_with_len 0 n)) × HoldsAt (λ k. p k ≡ false) (range_with_len 0 n) k)
-    → r ≡ every n p
-every_is p n true h = sym (every_true n p (λ i l. subst (λ j. p j ≡ true) (place i l) (h i 0 (omega arith) (rw length-range_with_len l))))
-  where
-    place : (i : ℕ) → i < n → get_or (range_with_len 0 n) i 0 ≡ i
-    place i l = get_or-range_with_len 0 n i 0 l ∙ zero-add i
-every_is p n false h =
-    let l : h.0 < n = rw length-range_with_len at h.1 in
-    sym (every_stop p h.0 n l (subst (λ j. p j ≡ false) (get_or-range_with_len 0 n h.0 0 l ∙ zero-add h.0) (h.2 0)))
 
 -- ---- `run_leg`
 

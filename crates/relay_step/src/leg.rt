@@ -63,7 +63,13 @@ fn all_match(syndrome: &[u8], check_var: &[u32], check_offset: &[u32], bits: &[u
     ensures { let g = of_checks (length syndrome.now) check_var.now check_offset.now in
         result ≡ every (length syndrome.now) (matches_of g bits.now syndrome.now) }
 {
-    (0..syndrome.len()).all(|c| matches(c, syndrome, check_var, check_offset, bits))
+    // Stays: tried, `all` over the range proves, but a leg then takes 2.7 in 100 more instructions.
+    for c in 0..syndrome.len() {
+        if !matches(c, syndrome, check_var, check_offset, bits) {
+            return false;
+        }
+    }
+    true
 }
 
 // `update_hard_decision_and_check`.

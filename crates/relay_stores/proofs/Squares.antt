@@ -1,15 +1,12 @@
--- The formula as the code has it: squared degrees by the offsets, within the edges squared, and a product that is tested by division. Assumes nothing.
+-- The formula as the code has it: squared degrees by the offsets, within the edges squared. Assumes nothing.
 use mathlib.Core.Path.{◌≡◌, refl, sym, ap, ◌∙◌}
-use mathlib.Core.Bool.{Bool, true, false}
 use mathlib.Core.List.{List, []}
-use Prim.Native.Nat.{ℕ, zero, suc, ◌+◌, ◌-◌, ◌*◌, ◌/◌, ◌<◌, ◌≤◌}
-use native.Mathlib.Nat.{mul-le-mul, mul-zero, le-div_iff_mul-le}
+use Prim.Native.Nat.{ℕ, zero, suc, ◌+◌, ◌-◌, ◌*◌, ◌<◌, ◌≤◌}
+use native.Mathlib.Nat.{mul-le-mul}
 use native.Mathlib.Numerals.{add-one}
 use native.Mathlib.Omega.{arith}
-use lib.Dec.{leb}
 use lib.ListN.{length, get_or}
-use borrow.Author.Tests.{leb-true, le-leb}
-use Rattle.numbers.specs.Limits.{max_edges, max_count}
+use Rattle.numbers.specs.Limits.{max_edges}
 use Rattle.numbers.specs.Loops.{turns}
 use Rattle.numbers.proofs.Turns.{turns_turn}
 use Rattle.graph_lists.specs.Graph.{Graph, graph}
@@ -19,7 +16,7 @@ use Rattle.graph_lists.proofs.Passes.{row_length}
 use Rattle.graph_messages.specs.Needs.{walked, of_variables}
 use Rattle.relay_settings.specs.declared.Schedule.{Schedule}
 use Rattle.relay_settings.specs.declared.Schedule.TheVariants.{Flooding, CheckSerial}
-use Rattle.relay_stores.specs.Stores.{degree, squared_degrees, stores_each, max_stores}
+use Rattle.relay_stores.specs.Stores.{degree, squared_degrees, stores_each}
 
 -- the squared degrees of the first n mechanisms
 abbrev pub squares_to : Graph → ℕ → ℕ
@@ -48,10 +45,6 @@ module _ (mechanisms : ℕ) (vm vo : List ℕ) (o : Offsets mechanisms (length v
       omega (arith, squares_within v l, mul-le-mul e e)
 
   module _ (v sum start end : ℕ) (h : v < mechanisms) (from : start ≡ get_or vo v 0) (to : end ≡ get_or vo (v + 1) 0) where
-    -- the offsets rise
-    pub start_first : start ≤ end
-    start_first = rw (from, to, add-one) (o.rises v h)
-
     -- one mechanism further
     pub squares_turn : sum ≡ squares_to (of_variables mechanisms vm vo) v → sum + (end - start) * (end - start) ≡ squares_to (of_variables mechanisms vm vo) (v + 1)
     squares_turn e =
@@ -70,27 +63,6 @@ module _ (mechanisms : ℕ) (vm vo : List ℕ) (o : Offsets mechanisms (length v
       let all : v ≡ mechanisms = omega arith in
       (e ∙ ap (squares_to (of_variables mechanisms vm vo)) all, omega (arith, e, squares_few max_edges few v h))
 
--- a product with a factor 0 fits
-pub fits_zero : (n each : ℕ) → each ≡ 0 → true ≡ leb (n * each) max_stores
-fits_zero n each e = sym (le-leb (n * each) max_stores (rw (e, mul-zero) (omega arith)))
-
--- by the quotient, whatever its test says
-fits_by : (n each : ℕ) → 0 < each → (b : Bool) → leb n (max_stores / each) ≡ b → b ≡ leb (n * each) max_stores
-fits_by n each h true e = sym (le-leb (n * each) max_stores ((le-div_iff_mul-le h).0 (leb-true n (max_stores / each) e)))
-fits_by n each h false e = go (leb (n * each) max_stores) refl
-  where
-    go : (b : Bool) → leb (n * each) max_stores ≡ b → false ≡ b
-    go false q = refl
-    go true q = sym e ∙ le-leb n (max_stores / each) ((le-div_iff_mul-le h).1 (leb-true (n * each) max_stores q))
-
--- else the quotient tells
-pub fits_quotient : (n each : ℕ) → 0 < each → leb n (max_stores / each) ≡ leb (n * each) max_stores
-fits_quotient n each h = fits_by n each h (leb n (max_stores / each)) refl
-
--- as many iterations as there can be
-pub most_few : (pre legs each : ℕ) → (pre ≤ max_count) × (legs ≤ max_count) × (each ≤ max_count) → legs * each ≤ max_count * max_count
-most_few pre legs each h = mul-le-mul h.1 h.2
-
 module _ (schedule : Schedule) (mechanisms : ℕ) (cv vm vo : List ℕ) where
   -- what an iteration writes goes by the edges and by the mechanisms' messages: the checks make no difference
   pub each_same : (c c' : ℕ) (co co' vc vc' : List ℕ) → stores_each schedule (graph c mechanisms cv co vc vm vo) ≡ stores_each schedule (graph c' mechanisms cv co' vc' vm vo)
@@ -101,11 +73,7 @@ module _ (schedule : Schedule) (mechanisms : ℕ) (cv vm vo : List ℕ) where
       by Flooding = refl
       by CheckSerial = refl
 
-  -- what an iteration writes, as the code has it: Flooding
-  pub each_flooding : schedule ≡ Flooding → 2 * length cv ≡ stores_each schedule (walked 0 mechanisms cv [] vm vo)
-  each_flooding e = ap (λ s. stores_each s (walked 0 mechanisms cv [] vm vo)) (sym e)
-
-  -- and CheckSerial
+  -- what an iteration of CheckSerial writes, as the code has it
   pub each_serial : (r : ℕ) → schedule ≡ CheckSerial → r ≡ squared_degrees (of_variables mechanisms vm vo)
       → length cv + r ≡ stores_each schedule (walked 0 mechanisms cv [] vm vo)
   unfolding squared_degrees degree

@@ -10,14 +10,11 @@ use Rattle.relay_step.specs.Leg.{satisfied}
 use Rattle.relay_step.proofs.Legs.{leg_turn, leg_passed}
 use Rattle.relay_step.proofs.leg.run_leg.Goals as goal
 
-pub returns-then-satisfied : goal.returns-then-satisfied
-returns-then-satisfied c = record {
-  leg = sym (leg_passed (iteration c.args.schedule by_place (walked (length c.args.syndrome.now) (length c.args.priors.now) c.args.check_var.now c.args.check_offset.now c.args.var_message.now c.args.var_offset.now) c.args.alpha c.args.clip c.args.syndrome.now c.args.priors.now c.args.gamma.now c.args.order.now) (satisfied (of_checks (length c.args.syndrome.now) c.args.check_var.now c.args.check_offset.now) c.args.syndrome.now) _
-      (c.args.limit -
-      (c.loop-k.k + 1)) _) ∙ sym (leg_turn (iteration c.args.schedule by_place (walked (length c.args.syndrome.now) (length c.args.priors.now) c.args.check_var.now c.args.check_offset.now c.args.var_message.now c.args.var_offset.now) c.args.alpha c.args.clip c.args.syndrome.now c.args.priors.now c.args.gamma.now c.args.order.now) (satisfied (of_checks (length c.args.syndrome.now) c.args.check_var.now c.args.check_offset.now) c.args.syndrome.now) (state
-      c.loop-k.c_to_v c.loop-k.v_to_c c.loop-k.posterior) _ _ c.loop-k.k _ c.loop-k-test.true c.step.ensures (sym c.if-satisfied.true ∙ c.satisfied.ensures.test)) ∙ c.loop-k.invariant.0;
-  bits = λ h. c.satisfied.ensures.bits;
-}
+pub returns-then-satisfied-clause-leg : goal.returns-then-satisfied-clause-leg
+returns-then-satisfied-clause-leg c = sym (leg_passed (iteration c.args.schedule by_place (walked (length c.args.syndrome.now) (length c.args.priors.now) c.args.check_var.now c.args.check_offset.now c.args.var_message.now c.args.var_offset.now) c.args.alpha c.args.clip c.args.syndrome.now c.args.priors.now c.args.gamma.now c.args.order.now) (satisfied (of_checks (length c.args.syndrome.now) c.args.check_var.now c.args.check_offset.now) c.args.syndrome.now) _
+    (c.args.limit -
+    (c.loop-k.k + 1)) _) ∙ sym (leg_turn (iteration c.args.schedule by_place (walked (length c.args.syndrome.now) (length c.args.priors.now) c.args.check_var.now c.args.check_offset.now c.args.var_message.now c.args.var_offset.now) c.args.alpha c.args.clip c.args.syndrome.now c.args.priors.now c.args.gamma.now c.args.order.now) (satisfied (of_checks (length c.args.syndrome.now) c.args.check_var.now c.args.check_offset.now) c.args.syndrome.now) (state
+    c.loop-k.c_to_v c.loop-k.v_to_c c.loop-k.posterior) _ _ c.loop-k.k _ c.loop-k-test.true c.step.ensures (sym c.if-satisfied.true ∙ c.satisfied.ensures.test)) ∙ c.loop-k.invariant.0
 
 pub loop-k-preserved : goal.loop-k-preserved
 loop-k-preserved c = (
