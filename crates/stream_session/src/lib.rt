@@ -87,9 +87,7 @@ pub fn finish(s: Session, line: &mut [u8; ROOM_LINE]) -> usize
     if s.stopped {
         return 0;
     }
-    let reader = s.reader;
-    let a = stream_reader::at_end(reader);
-    match a {
+    match stream_reader::at_end(s.reader) {
         Err(r) => stream_lines::stopped_line(number_of(r), s.reader.offset, line),
         Ok(()) => stream_lines::end_line(s.shots, line),
     }

@@ -14,17 +14,14 @@ fn take_settings(s: Session, payload: &[u8], line: &mut [u8; ROOM_LINE]) -> Sess
         ≡ settings_taken s (settings_answer s.reader.kind payload.now) payload.now line.old }
 {
     let kind = s.reader.kind;
-    let a = stream_table::settings_answer(kind, payload);
-    let k = s.known;
-    match a {
+    match stream_table::settings_answer(kind, payload) {
         Err(r) => telling::stop(s, r, line),
         Ok(()) => telling::goes_on(
             s,
             Known {
-                model_length: k.model_length,
-                has_model: k.has_model,
                 settings: stream_reader::read_settings(kind, payload),
                 has_settings: true,
+                ..s.known
             },
         ),
     }
@@ -34,13 +31,11 @@ fn take_settings(s: Session, payload: &[u8], line: &mut [u8; ROOM_LINE]) -> Sess
 fn keep(payload: &[u8], list: &mut [u8])
     ensures { list.new ≡ payload_kept payload.now list.old }
 {
-    let mut i = 0;
-    while i < list.len() {
+    for (i, kept) in list.iter_mut().enumerate() {
         if payload.len() <= i {
             return;
         }
-        list[i] = payload[i];
-        i += 1;
+        *kept = payload[i];
     }
 }
 
@@ -49,10 +44,7 @@ fn take_model(s: Session, payload: &[u8], model: &mut [u8], line: &mut [u8; ROOM
     ensures { taken (told result line.new) model.new
         ≡ model_taken s (model_fault payload.now) payload.now model.old line.old }
 {
-    let a = stream_table::model_fault(payload);
-    let k = s.known;
-    let settings = k.settings;
-    match a {
+    match stream_table::model_fault(payload) {
         Err(r) => telling::stop(s, r, line),
         Ok(()) => {
             keep(payload, model);
@@ -61,8 +53,7 @@ fn take_model(s: Session, payload: &[u8], model: &mut [u8], line: &mut [u8; ROOM
                 Known {
                     model_length: payload.len(),
                     has_model: true,
-                    settings: settings,
-                    has_settings: k.has_settings,
+                    ..s.known
                 },
             )
         }
@@ -81,9 +72,7 @@ fn shot_told(
         ≡ tells s (shot_decoded model.now s.known.settings payload.now correction.old)
         line.old }
 {
-    let k = s.known;
-    let settings = k.settings;
-    let d = stream_table::decode_shot(model, settings, payload, correction);
+    let d = stream_table::decode_shot(model, s.known.settings, payload, correction);
     telling::answered(s, d, correction, line)
 }
 

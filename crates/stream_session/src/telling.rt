@@ -12,13 +12,10 @@ use stream_reader::Reader;
 pub(crate) fn goes_on(s: Session, k: Known) -> Session
     ensures { result ≡ goes_on s k }
 {
-    let reader = s.reader;
     Session {
-        reader: reader,
         known: k,
-        shots: s.shots,
-        stopped: s.stopped,
         said: 0,
+        ..s
     }
 }
 
@@ -26,13 +23,10 @@ pub(crate) fn goes_on(s: Session, k: Known) -> Session
 pub(crate) fn reads(s: Session, r: Reader) -> Session
     ensures { result ≡ reads_on s r }
 {
-    let known = s.known;
     Session {
         reader: r,
-        known: known,
-        shots: s.shots,
-        stopped: s.stopped,
         said: 0,
+        ..s
     }
 }
 
@@ -41,14 +35,10 @@ pub(crate) fn stop(s: Session, r: Refusal, line: &mut [u8; ROOM_LINE]) -> Sessio
     ensures { told result line.new ≡ stops s r line.old }
 {
     let n = stream_lines::stopped_line(number_of(r), s.reader.offset, line);
-    let reader = s.reader;
-    let known = s.known;
     Session {
-        reader: reader,
-        known: known,
-        shots: s.shots,
         stopped: true,
         said: n,
+        ..s
     }
 }
 
@@ -56,14 +46,10 @@ pub(crate) fn stop(s: Session, r: Refusal, line: &mut [u8; ROOM_LINE]) -> Sessio
 fn counted(s: Session, n: usize) -> Session
     ensures { result ≡ session s.reader s.known ((s.shots + 1) % 2 ^ 64) s.stopped n }
 {
-    let reader = s.reader;
-    let known = s.known;
     Session {
-        reader: reader,
-        known: known,
-        shots: std::num::wrapping_add_usize(s.shots, 1),
-        stopped: s.stopped,
+        shots: s.shots.wrapping_add(1),
         said: n,
+        ..s
     }
 }
 
