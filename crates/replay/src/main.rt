@@ -2,10 +2,10 @@
 // standard input, which the file stdin holds.
 #![tactic(auto)]
 
-use replay_cases::{Counts, count, line_end, read_whole, report, text_room, word_at};
+use replay_cases::{Counts, Words, count, read_whole, report, text_room};
 use std::io;
 
-#[derive(Clone, Copy)]
+#[derive(Clone, Copy, Default)]
 struct Totals {
     graphs: Counts,
     beliefs: Counts,
@@ -13,57 +13,40 @@ struct Totals {
 }
 
 // The totals with the case of a line, by its first word: 0 a sparse graph, 1 a dense one, 2 beliefs, 3 a decode. A line of any other kind
-// is not the same, and stands with the decodes.
+// is not the same, and stands with the decodes; neither is a line that ends too early.
 fn counted(totals: Totals, line: &[u8]) -> Totals {
-    let graphs = totals.graphs;
-    let beliefs = totals.beliefs;
-    let decodes = totals.decodes;
-    let kind = word_at(line, 0);
-    if kind.value < 2 {
-        return Totals {
-            graphs: count(graphs, replay_graphs::case(line, 0)),
-            beliefs: beliefs,
-            decodes: decodes,
-        };
-    }
-    if kind.value == 2 {
-        return Totals {
-            graphs: graphs,
-            beliefs: count(beliefs, replay_beliefs::case(line, kind.next)),
-            decodes: decodes,
-        };
-    }
-    if kind.value == 3 {
-        return Totals {
-            graphs: graphs,
-            beliefs: beliefs,
-            decodes: count(decodes, replay_decodes::case(line, kind.next)),
-        };
-    }
-    Totals {
-        graphs: graphs,
-        beliefs: beliefs,
-        decodes: count(decodes, false),
+    let mut words = Words::of(line);
+    match words.next() {
+        Some(0) => Totals {
+            graphs: count(totals.graphs, replay_graphs::case(&mut words, false)),
+            ..totals
+        },
+        Some(1) => Totals {
+            graphs: count(totals.graphs, replay_graphs::case(&mut words, true)),
+            ..totals
+        },
+        Some(2) => Totals {
+            beliefs: count(totals.beliefs, replay_beliefs::case(&mut words)),
+            ..totals
+        },
+        Some(3) => Totals {
+            decodes: count(totals.decodes, replay_decodes::case(&mut words)),
+            ..totals
+        },
+        _ => Totals {
+            decodes: count(totals.decodes, None),
+            ..totals
+        },
     }
 }
 
 // Every case, from the second line on: the first has their number.
 fn replay(text: &[u8]) -> Totals {
-    let none = Counts { same: 0, other: 0 };
-    let mut totals = Totals {
-        graphs: none,
-        beliefs: none,
-        decodes: none,
-    };
-    let mut at = line_end(text, 0);
-    while at < text.len() {
-        // `at` is at the end of the line before.
-        let start = at + 1;
-        let end = line_end(text, start);
-        if start < end {
-            totals = counted(totals, &text[start..end]);
+    let mut totals = Totals::default();
+    for line in text.split(|b| *b == b'\n').skip(1) {
+        if !line.is_empty() {
+            totals = counted(totals, line);
         }
-        at = end;
     }
     totals
 }

@@ -4,37 +4,27 @@
 
 use graph::Size;
 use refusals::Refusal;
-use refusals_tests::{both, is_done};
+use refusals_tests::is_done;
 use replay_cases::{
-    Same, float, is_answer, is_cleared, read_bytes, read_graph, read_sizes, same_floats, word_at,
+    Words, float, is_answer, is_cleared, read_bytes, read_graph, read_sizes, same_floats,
 };
 
-// Whether the line goes on with this answer and, where the run took place, with this posterior, and then ends.
-fn answered(line: &[u8], at: usize, a: Result<(), Refusal>, posterior: &[f64]) -> bool {
-    let number = word_at(line, at);
-    let place = word_at(line, number.next);
-    if !is_answer(a, number.value, place.value) {
-        return false;
+// Whether the line goes on with this answer and, where the run took place, with this posterior, and then ends. None where it ends too
+// early, here as in all that follows.
+fn answered(words: &mut Words<'_>, a: Result<(), Refusal>, posterior: &[f64]) -> Option<bool> {
+    let number = words.next()?;
+    let place = words.next()?;
+    if !is_answer(a, number, place) {
+        return Some(false);
     }
     // 20 comes before the run: nothing follows.
-    if number.value == 20 {
-        return place.next == line.len();
-    }
-    let start = Same {
-        same: true,
-        next: place.next,
-    };
-    let all = same_floats(line, start, posterior);
-    if !all.same {
-        return false;
-    }
-    all.next == line.len()
+    let same = number == 20 || same_floats(words, posterior);
+    Some(same && words.next().is_none())
 }
 
 // The run, in lists that fit. Its work lists must be clear after it.
 fn believed(
-    line: &[u8],
-    at: usize,
+    words: &mut Words<'_>,
     size: Size,
     priors: &[f64],
     check_var: &[u32],
@@ -47,10 +37,10 @@ fn believed(
     ewa_posterior: &mut [f64],
     c_to_v: &mut [f64],
     v_to_c: &mut [f64],
-) -> bool {
-    let iterations = word_at(line, at);
-    let scale = word_at(line, iterations.next);
-    let serial = word_at(line, scale.next);
+) -> Option<bool> {
+    let iterations = words.next()?;
+    let scale = words.next()?;
+    let serial = words.next()?;
     let a = min_sum::beliefs(
         size,
         priors,
@@ -60,25 +50,21 @@ fn believed(
         var_message,
         var_offset,
         syndrome,
-        iterations.value as usize,
-        float(scale.value),
-        serial.value == 1,
+        iterations as usize,
+        float(scale),
+        serial == 1,
         posterior,
         ewa_posterior,
         c_to_v,
         v_to_c,
     );
-    let cleared = both(
-        is_cleared(ewa_posterior),
-        both(is_cleared(c_to_v), is_cleared(v_to_c)),
-    );
-    both(cleared, answered(line, serial.next, a, posterior))
+    let cleared = is_cleared(ewa_posterior) && is_cleared(c_to_v) && is_cleared(v_to_c);
+    Some(answered(words, a, posterior)? && cleared)
 }
 
 // With room for the beliefs.
 fn with_beliefs(
-    line: &[u8],
-    at: usize,
+    words: &mut Words<'_>,
     size: Size,
     priors: &[f64],
     check_var: &[u32],
@@ -87,22 +73,21 @@ fn with_beliefs(
     var_message: &[u32],
     var_offset: &[u32],
     syndrome: &[u8],
-) -> bool {
+) -> Option<bool> {
     let mechanisms = size.mechanisms;
     let edges = size.edges;
     if mechanisms > 63 {
-        return false;
+        return Some(false);
     }
     if edges > 128 {
-        return false;
+        return Some(false);
     }
     let mut posterior = [0.0; 64];
     let mut ewa_posterior = [0.0; 64];
     let mut c_to_v = [0.0; 128];
     let mut v_to_c = [0.0; 128];
     believed(
-        line,
-        at,
+        words,
         size,
         priors,
         check_var,
@@ -120,8 +105,7 @@ fn with_beliefs(
 
 // The syndrome read into a list of its length.
 fn syndrome_read(
-    line: &[u8],
-    at: usize,
+    words: &mut Words<'_>,
     size: Size,
     priors: &[f64],
     check_var: &[u32],
@@ -130,11 +114,10 @@ fn syndrome_read(
     var_message: &[u32],
     var_offset: &[u32],
     syndrome: &mut [u8],
-) -> bool {
-    let next = read_bytes(line, at, syndrome);
+) -> Option<bool> {
+    read_bytes(words, syndrome)?;
     with_beliefs(
-        line,
-        next,
+        words,
         size,
         priors,
         check_var,
@@ -148,8 +131,7 @@ fn syndrome_read(
 
 // With room for the syndrome.
 fn with_syndrome(
-    line: &[u8],
-    at: usize,
+    words: &mut Words<'_>,
     size: Size,
     priors: &[f64],
     check_var: &[u32],
@@ -157,16 +139,14 @@ fn with_syndrome(
     var_check: &[u32],
     var_message: &[u32],
     var_offset: &[u32],
-) -> bool {
-    let length = word_at(line, at);
-    let bytes = length.value as usize;
+) -> Option<bool> {
+    let bytes = words.next()? as usize;
     if bytes > 64 {
-        return false;
+        return Some(false);
     }
     let mut syndrome = [0u8; 64];
     syndrome_read(
-        line,
-        length.next,
+        words,
         size,
         priors,
         check_var,
@@ -180,8 +160,7 @@ fn with_syndrome(
 
 // The graph built into lists that fit.
 fn built(
-    line: &[u8],
-    at: usize,
+    words: &mut Words<'_>,
     size: Size,
     priors: &mut [f64],
     offsets: &mut [u32],
@@ -191,10 +170,9 @@ fn built(
     var_check: &mut [u32],
     var_message: &mut [u32],
     var_offset: &mut [u32],
-) -> bool {
-    let b = read_graph(
-        line,
-        at,
+) -> Option<bool> {
+    let a = read_graph(
+        words,
         size,
         priors,
         offsets,
@@ -204,14 +182,12 @@ fn built(
         var_check,
         var_message,
         var_offset,
-    );
-    let a = b.answer;
+    )?;
     if !is_done(a) {
-        return false;
+        return Some(false);
     }
     with_syndrome(
-        line,
-        b.next,
+        words,
         size,
         priors,
         check_var,
@@ -223,18 +199,18 @@ fn built(
 }
 
 // With room for the model and its graph.
-fn with_graph(line: &[u8], at: usize, size: Size) -> bool {
+fn with_graph(words: &mut Words<'_>, size: Size) -> Option<bool> {
     let checks = size.checks;
     let mechanisms = size.mechanisms;
     let edges = size.edges;
     if checks > 63 {
-        return false;
+        return Some(false);
     }
     if mechanisms > 63 {
-        return false;
+        return Some(false);
     }
     if edges > 128 {
-        return false;
+        return Some(false);
     }
     let mut priors = [0.0; 64];
     let mut offsets = [0u32; 64];
@@ -245,8 +221,7 @@ fn with_graph(line: &[u8], at: usize, size: Size) -> bool {
     let mut var_message = [0u32; 128];
     let mut var_offset = [0u32; 64];
     built(
-        line,
-        at,
+        words,
         size,
         &mut priors[..mechanisms],
         &mut offsets[..mechanisms + 1],
@@ -259,9 +234,8 @@ fn with_graph(line: &[u8], at: usize, size: Size) -> bool {
     )
 }
 
-// Whether the code answers as the line says from a place on, where its model begins.
-pub fn case(line: &[u8], at: usize) -> bool {
-    let sizes = read_sizes(line, at);
-    let size = sizes.size;
-    with_graph(line, sizes.next, size)
+// Whether the code answers as the line says from its model on.
+pub fn case(words: &mut Words<'_>) -> Option<bool> {
+    let size = read_sizes(words)?;
+    with_graph(words, size)
 }

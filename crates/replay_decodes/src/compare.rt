@@ -3,12 +3,8 @@
 use graph::Size;
 use numbers::wrapping_mul;
 use refusals::Refusal;
-use refusals_tests::both;
 use relay::Decoded;
-use replay_cases::{
-    Left, Same, float, is_answer, left_at, left_bytes, left_floats, same_float, wide, word_at,
-};
-use std::num::wrapping_add_usize;
+use replay_cases::{Left, Words, float, is_answer, left_at, left_bytes, left_floats, same_float};
 
 // What the lists were lent full of: as a number, and as a float's bits.
 const LENT: u64 = 7;
@@ -69,11 +65,10 @@ fn product(a: usize, b: usize) -> usize {
     wrapping_mul(a as u64, b as u64) as usize
 }
 
-// Where the lists begin on the line, and how much of each must be written and cleared: of the leg lists, of the rows, of the other results,
-// and of the work lists of mechanisms and of edges.
+// How much of each list must be written and cleared: of the leg lists, of the rows, of the other results, and of the work lists of
+// mechanisms and of edges.
 #[derive(Clone, Copy)]
 struct Expected {
-    start: Same,
     legs: Left,
     rows: Left,
     results: Left,
@@ -83,7 +78,6 @@ struct Expected {
 
 // How much of every list is written, and cleared, where that many legs, mechanisms and edges are.
 fn expected_at(
-    start: Same,
     executed: usize,
     written: usize,
     legs: usize,
@@ -91,7 +85,6 @@ fn expected_at(
     edges: usize,
 ) -> Expected {
     Expected {
-        start: start,
         legs: Left {
             written: executed,
             cleared: legs,
@@ -115,131 +108,79 @@ fn expected_at(
     }
 }
 
-// Whether the next words are this answer, where nothing was refused.
-fn same_answer(line: &[u8], before: Same, t: Outcome) -> Same {
-    let converged = word_at(line, before.next);
-    let executed = word_at(line, converged.next);
-    let total = word_at(line, executed.next);
-    let stores = word_at(line, total.next);
-    let weight = word_at(line, stores.next);
-    let found = both(
-        converged.value == t.converged,
-        same_float(float(weight.value), t.weight),
-    );
-    let counted = both(
-        executed.value == t.executed as u64,
-        both(total.value == t.total as u64, stores.value == t.stores),
-    );
-    Same {
-        same: both(before.same, both(found, counted)),
-        next: weight.next,
-    }
+// Whether the next words are this answer, where nothing was refused. None where the line ends too early.
+fn same_answer(words: &mut Words<'_>, t: Outcome) -> Option<bool> {
+    let converged = words.next()?;
+    let executed = words.next()?;
+    let total = words.next()?;
+    let stores = words.next()?;
+    let weight = words.next()?;
+    Some(
+        converged == t.converged
+            && executed == t.executed as u64
+            && total == t.total as u64
+            && stores == t.stores
+            && same_float(float(weight), t.weight),
+    )
 }
 
-// A decode that ran to its end writes every list; 30 zeroes every list; any other refusal leaves them.
-fn expects(line: &[u8], at: usize, t: Outcome, num_legs: usize, size: Size) -> Expected {
-    let number = word_at(line, at);
-    let place = word_at(line, number.next);
-    let a = t.answer;
-    let start = Same {
-        same: is_answer(a, number.value, place.value),
-        next: place.next,
-    };
-    let legs = wrapping_add_usize(num_legs, 1);
-    if number.value == 0 {
-        let answered = same_answer(line, start, t);
-        return expected_at(
-            answered,
-            t.executed,
-            size.mechanisms,
-            legs,
-            size.mechanisms,
-            size.edges,
-        );
+// What the lists must hold, where the next words are this answer; None where they are not. A decode that ran to its end writes every list;
+// 30 zeroes every list; any other refusal leaves them.
+fn expects(words: &mut Words<'_>, t: Outcome, num_legs: usize, size: Size) -> Option<Expected> {
+    let number = words.next()?;
+    let place = words.next()?;
+    if !is_answer(t.answer, number, place) {
+        return None;
     }
-    if number.value == 30 {
-        return expected_at(start, 0, 0, legs, size.mechanisms, size.edges);
+    let legs = num_legs.wrapping_add(1);
+    let mechanisms = size.mechanisms;
+    if number == 0 {
+        if !same_answer(words, t)? {
+            return None;
+        }
+        return Some(expected_at(t.executed, mechanisms, legs, mechanisms, size.edges));
     }
-    expected_at(start, 0, 0, 0, 0, 0)
-}
-
-// A list's element, and one that no list holds outside it.
-fn byte_at(list: &[u8], i: usize) -> u64 {
-    if i < list.len() {
-        return wide(list[i]);
+    if number == 30 {
+        return Some(expected_at(0, 0, legs, mechanisms, size.edges));
     }
-    256
-}
-
-fn wide_number(n: u32) -> u64 {
-    n as u64
-}
-
-fn number_at(list: &[u32], i: usize) -> u64 {
-    if i < list.len() {
-        return wide_number(list[i]);
-    }
-    4294967296
-}
-
-fn float_at(list: &[f64], i: usize) -> f64 {
-    if i < list.len() {
-        return list[i];
-    }
-    -1.0
+    Some(expected_at(0, 0, 0, 0, 0))
 }
 
 // Whether the leg i was left so. The line has a leg's state, iterations and weight together.
 fn same_leg(
-    line: &[u8],
-    before: Same,
+    words: &mut Words<'_>,
     left: Left,
     i: usize,
-    leg_state: u64,
-    leg_iterations: u64,
+    leg_state: u8,
+    leg_iterations: u32,
     leg_weight: f64,
-) -> Same {
-    let state = left_at(line, before.next, left, i, LENT);
-    let iterations = left_at(line, state.next, left, i, LENT);
-    let weight = left_at(line, iterations.next, left, i, LENT_FLOAT);
-    let counted = both(state.value == leg_state, iterations.value == leg_iterations);
-    let weighed = same_float(float(weight.value), leg_weight);
-    Same {
-        same: both(before.same, both(counted, weighed)),
-        next: weight.next,
-    }
+) -> bool {
+    left_at(words, left, i, LENT) == Some(u64::from(leg_state))
+        && left_at(words, left, i, LENT) == Some(u64::from(leg_iterations))
+        && left_at(words, left, i, LENT_FLOAT).is_some_and(|w| same_float(float(w), leg_weight))
 }
 
 // Whether the leg lists were left so.
 fn same_legs(
-    line: &[u8],
-    before: Same,
+    words: &mut Words<'_>,
     left: Left,
-    leg_state: &[u8],
-    leg_iterations: &[u32],
-    leg_weight: &[f64],
-) -> Same {
-    let mut legs = before;
-    let mut i = 0;
-    while i < leg_state.len() {
-        legs = same_leg(
-            line,
-            legs,
-            left,
-            i,
-            byte_at(leg_state, i),
-            number_at(leg_iterations, i),
-            float_at(leg_weight, i),
-        );
-        i += 1;
-    }
-    legs
+    leg_state: &[u8; 64],
+    leg_iterations: &[u32; 64],
+    leg_weight: &[f64; 64],
+) -> bool {
+    leg_state
+        .iter()
+        .zip(leg_iterations)
+        .zip(leg_weight)
+        .enumerate()
+        .all(|(i, ((state, iterations), weight))| {
+            same_leg(words, left, i, *state, *iterations, *weight)
+        })
 }
 
 // Whether the line goes on with this answer and these lists, and then ends.
 pub(crate) fn same_decode(
-    line: &[u8],
-    at: usize,
+    words: &mut Words<'_>,
     d: Decoded,
     num_legs: usize,
     size: Size,
@@ -254,14 +195,16 @@ pub(crate) fn same_decode(
     c_to_v: &[f64; 128],
     v_to_c: &[f64; 128],
 ) -> bool {
-    let e = expects(line, at, told(d), num_legs, size);
-    let legs = same_legs(line, e.start, e.legs, leg_state, leg_iterations, leg_weight);
-    let row = left_bytes(line, legs, e.rows, LENT, rows);
-    let corrected = left_bytes(line, row, e.results, LENT, correction);
-    let believed = left_floats(line, corrected, e.results, LENT_FLOAT, posterior);
-    let g = left_floats(line, believed, e.work, LENT_FLOAT, gamma);
-    let b = left_floats(line, g, e.work, LENT_FLOAT, bias);
-    let c = left_floats(line, b, e.messages, LENT_FLOAT, c_to_v);
-    let v = left_floats(line, c, e.messages, LENT_FLOAT, v_to_c);
-    both(v.same, v.next == line.len())
+    let Some(e) = expects(words, told(d), num_legs, size) else {
+        return false;
+    };
+    same_legs(words, e.legs, leg_state, leg_iterations, leg_weight)
+        && left_bytes(words, e.rows, LENT, rows)
+        && left_bytes(words, e.results, LENT, correction)
+        && left_floats(words, e.results, LENT_FLOAT, posterior)
+        && left_floats(words, e.work, LENT_FLOAT, gamma)
+        && left_floats(words, e.work, LENT_FLOAT, bias)
+        && left_floats(words, e.messages, LENT_FLOAT, c_to_v)
+        && left_floats(words, e.messages, LENT_FLOAT, v_to_c)
+        && words.next().is_none()
 }

@@ -9,7 +9,7 @@ use graph::Size;
 use numbers::wrapping_mul;
 use refusals_tests::is_done;
 use relay_settings::{Clip, DrawRule, GammaSource, Schedule, Settings};
-use replay_cases::{float, read_bytes, read_floats, read_graph, read_sizes, word_at};
+use replay_cases::{Words, float, read_bytes, read_floats, read_graph, read_sizes};
 
 fn schedule_of(number: u64) -> Schedule {
     if number == 1 {
@@ -35,52 +35,40 @@ fn source_of(number: u64, sets: usize) -> GammaSource {
     GammaSource::Seeded(DrawRule::ByShot)
 }
 
-// Settings that were read, with the number of sets of gammas, and where the first of these begins.
-#[derive(Clone, Copy)]
-struct Read {
-    settings: Settings,
-    sets: u64,
-    next: usize,
-}
-
-fn read_settings(line: &[u8], at: usize) -> Read {
-    let schedule = word_at(line, at);
-    let alpha = word_at(line, schedule.next);
-    let clip_on = word_at(line, alpha.next);
-    let clip = word_at(line, clip_on.next);
-    let gamma0 = word_at(line, clip.next);
-    let pre_iterations = word_at(line, gamma0.next);
-    let num_legs = word_at(line, pre_iterations.next);
-    let leg_iterations = word_at(line, num_legs.next);
-    let low = word_at(line, leg_iterations.next);
-    let high = word_at(line, low.next);
-    let stop = word_at(line, high.next);
-    let source = word_at(line, stop.next);
-    let sets = word_at(line, source.next);
+// The settings, with the number of sets of gammas. None where the line ends too early, here as in all that follows.
+fn read_settings(words: &mut Words<'_>) -> Option<(Settings, u64)> {
+    let schedule = words.next()?;
+    let alpha = words.next()?;
+    let clip_on = words.next()?;
+    let clip = words.next()?;
+    let gamma0 = words.next()?;
+    let pre_iterations = words.next()?;
+    let num_legs = words.next()?;
+    let leg_iterations = words.next()?;
+    let low = words.next()?;
+    let high = words.next()?;
+    let stop = words.next()?;
+    let source = words.next()?;
+    let sets = words.next()?;
     let settings = Settings {
-        schedule: schedule_of(schedule.value),
-        alpha: float(alpha.value),
-        clip: clip_of(clip_on.value, float(clip.value)),
-        gamma0: float(gamma0.value),
-        pre_iterations: pre_iterations.value as usize,
-        num_legs: num_legs.value as usize,
-        leg_iterations: leg_iterations.value as usize,
-        gamma_low: float(low.value),
-        gamma_high: float(high.value),
-        stop_after_converged: stop.value as usize,
-        gamma_source: source_of(source.value, sets.value as usize),
+        schedule: schedule_of(schedule),
+        alpha: float(alpha),
+        clip: clip_of(clip_on, float(clip)),
+        gamma0: float(gamma0),
+        pre_iterations: pre_iterations as usize,
+        num_legs: num_legs as usize,
+        leg_iterations: leg_iterations as usize,
+        gamma_low: float(low),
+        gamma_high: float(high),
+        stop_after_converged: stop as usize,
+        gamma_source: source_of(source, sets as usize),
     };
-    Read {
-        settings: settings,
-        sets: sets.value,
-        next: sets.next,
-    }
+    Some((settings, sets))
 }
 
 // The decode, with room for its lists.
 fn decoded(
-    line: &[u8],
-    at: usize,
+    words: &mut Words<'_>,
     size: Size,
     priors: &[f64],
     check_var: &[u32],
@@ -91,14 +79,14 @@ fn decoded(
     settings: Settings,
     gammas: &[f64],
     syndrome: &[u8],
-) -> bool {
+) -> Option<bool> {
     let mechanisms = size.mechanisms;
     let edges = size.edges;
     if mechanisms > 63 {
-        return false;
+        return Some(false);
     }
     if edges > 128 {
-        return false;
+        return Some(false);
     }
     let mut leg_state = [7u8; 64];
     let mut leg_iterations = [7u32; 64];
@@ -110,7 +98,7 @@ fn decoded(
     let mut bias = [7.0; 64];
     let mut c_to_v = [7.0; 128];
     let mut v_to_c = [7.0; 128];
-    let seed = word_at(line, at);
+    let seed = words.next()?;
     let d = relay::decode(
         size,
         priors,
@@ -122,7 +110,7 @@ fn decoded(
         settings,
         gammas,
         syndrome,
-        seed.value,
+        seed,
         &mut leg_state,
         &mut leg_iterations,
         &mut leg_weight,
@@ -134,9 +122,8 @@ fn decoded(
         &mut c_to_v[..edges],
         &mut v_to_c[..edges],
     );
-    same_decode(
-        line,
-        seed.next,
+    Some(same_decode(
+        words,
         d,
         settings.num_legs,
         size,
@@ -150,13 +137,12 @@ fn decoded(
         &bias,
         &c_to_v,
         &v_to_c,
-    )
+    ))
 }
 
 // The syndrome read into a list of its length.
 fn syndrome_read(
-    line: &[u8],
-    at: usize,
+    words: &mut Words<'_>,
     size: Size,
     priors: &[f64],
     check_var: &[u32],
@@ -167,11 +153,10 @@ fn syndrome_read(
     settings: Settings,
     gammas: &[f64],
     syndrome: &mut [u8],
-) -> bool {
-    let next = read_bytes(line, at, syndrome);
+) -> Option<bool> {
+    read_bytes(words, syndrome)?;
     decoded(
-        line,
-        next,
+        words,
         size,
         priors,
         check_var,
@@ -187,8 +172,7 @@ fn syndrome_read(
 
 // The gammas read into a list of their number, and room for the syndrome.
 fn gammas_read(
-    line: &[u8],
-    at: usize,
+    words: &mut Words<'_>,
     size: Size,
     priors: &[f64],
     check_var: &[u32],
@@ -198,17 +182,15 @@ fn gammas_read(
     var_offset: &[u32],
     settings: Settings,
     gammas: &mut [f64],
-) -> bool {
-    let next = read_floats(line, at, gammas);
-    let length = word_at(line, next);
-    let bytes = length.value as usize;
+) -> Option<bool> {
+    read_floats(words, gammas)?;
+    let bytes = words.next()? as usize;
     if bytes > 64 {
-        return false;
+        return Some(false);
     }
     let mut syndrome = [0u8; 64];
     syndrome_read(
-        line,
-        length.next,
+        words,
         size,
         priors,
         check_var,
@@ -224,8 +206,7 @@ fn gammas_read(
 
 // With room for the gammas.
 fn with_gammas(
-    line: &[u8],
-    at: usize,
+    words: &mut Words<'_>,
     size: Size,
     priors: &[f64],
     check_var: &[u32],
@@ -233,17 +214,15 @@ fn with_gammas(
     var_check: &[u32],
     var_message: &[u32],
     var_offset: &[u32],
-) -> bool {
-    let read = read_settings(line, at);
-    let settings = read.settings;
-    let floats = wrapping_mul(read.sets, size.mechanisms as u64) as usize;
+) -> Option<bool> {
+    let (settings, sets) = read_settings(words)?;
+    let floats = wrapping_mul(sets, size.mechanisms as u64) as usize;
     if floats > 128 {
-        return false;
+        return Some(false);
     }
     let mut gammas = [0.0; 128];
     gammas_read(
-        line,
-        read.next,
+        words,
         size,
         priors,
         check_var,
@@ -257,18 +236,18 @@ fn with_gammas(
 }
 
 // With room for the model and its graph.
-fn with_graph(line: &[u8], at: usize, size: Size) -> bool {
+fn with_graph(words: &mut Words<'_>, size: Size) -> Option<bool> {
     let checks = size.checks;
     let mechanisms = size.mechanisms;
     let edges = size.edges;
     if checks > 63 {
-        return false;
+        return Some(false);
     }
     if mechanisms > 63 {
-        return false;
+        return Some(false);
     }
     if edges > 128 {
-        return false;
+        return Some(false);
     }
     let mut priors = [0.0; 64];
     let mut offsets = [0u32; 64];
@@ -278,9 +257,8 @@ fn with_graph(line: &[u8], at: usize, size: Size) -> bool {
     let mut var_check = [0u32; 128];
     let mut var_message = [0u32; 128];
     let mut var_offset = [0u32; 64];
-    let b = read_graph(
-        line,
-        at,
+    let a = read_graph(
+        words,
         size,
         &mut priors[..mechanisms],
         &mut offsets[..mechanisms + 1],
@@ -290,14 +268,12 @@ fn with_graph(line: &[u8], at: usize, size: Size) -> bool {
         &mut var_check[..edges],
         &mut var_message[..edges],
         &mut var_offset[..mechanisms + 1],
-    );
-    let a = b.answer;
+    )?;
     if !is_done(a) {
-        return false;
+        return Some(false);
     }
     with_gammas(
-        line,
-        b.next,
+        words,
         size,
         &priors[..mechanisms],
         &check_var[..edges],
@@ -308,9 +284,8 @@ fn with_graph(line: &[u8], at: usize, size: Size) -> bool {
     )
 }
 
-// Whether the code answers as the line says from a place on, where its model begins.
-pub fn case(line: &[u8], at: usize) -> bool {
-    let sizes = read_sizes(line, at);
-    let size = sizes.size;
-    with_graph(line, sizes.next, size)
+// Whether the code answers as the line says from its model on.
+pub fn case(words: &mut Words<'_>) -> Option<bool> {
+    let size = read_sizes(words)?;
+    with_graph(words, size)
 }

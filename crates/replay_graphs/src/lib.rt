@@ -6,49 +6,39 @@ use numbers::wrapping_mul;
 use refusals::Refusal;
 use refusals_tests::is_done;
 use replay_cases::{
-    Same, is_answer, read_bytes, read_floats, read_graph, read_sizes, same_numbers, word_at,
+    Words, is_answer, read_bytes, read_floats, read_graph, read_sizes, same_numbers,
 };
 
-// Whether the line goes on with this answer and, where nothing is refused, with these lists, and then ends.
+// Whether the line goes on with this answer and, where nothing is refused, with these lists, and then ends. None where it ends too early,
+// here as in all that follows.
 fn answered(
-    line: &[u8],
-    at: usize,
+    words: &mut Words<'_>,
     a: Result<(), Refusal>,
     check_var: &[u32],
     check_offset: &[u32],
     var_check: &[u32],
     var_message: &[u32],
     var_offset: &[u32],
-) -> bool {
-    let number = word_at(line, at);
-    let place = word_at(line, number.next);
-    if !is_answer(a, number.value, place.value) {
-        return false;
+) -> Option<bool> {
+    let number = words.next()?;
+    let place = words.next()?;
+    if !is_answer(a, number, place) {
+        return Some(false);
     }
-    if !is_done(a) {
-        return place.next == line.len();
-    }
-    let start = Same {
-        same: true,
-        next: place.next,
-    };
-    let cv = same_numbers(line, start, check_var);
-    let co = same_numbers(line, cv, check_offset);
-    let vc = same_numbers(line, co, var_check);
-    let vm = same_numbers(line, vc, var_message);
-    let vo = same_numbers(line, vm, var_offset);
-    if !vo.same {
-        return false;
-    }
-    vo.next == line.len()
+    let same = !is_done(a)
+        || same_numbers(words, check_var)
+            && same_numbers(words, check_offset)
+            && same_numbers(words, var_check)
+            && same_numbers(words, var_message)
+            && same_numbers(words, var_offset);
+    Some(same && words.next().is_none())
 }
 
 // ---- a sparse model: 63 checks and mechanisms and 128 edges at most
 
 // Read and built into lists that fit, and compared.
 fn sparse_built(
-    line: &[u8],
-    at: usize,
+    words: &mut Words<'_>,
     size: Size,
     priors: &mut [f64],
     offsets: &mut [u32],
@@ -58,10 +48,9 @@ fn sparse_built(
     var_check: &mut [u32],
     var_message: &mut [u32],
     var_offset: &mut [u32],
-) -> bool {
-    let b = read_graph(
-        line,
-        at,
+) -> Option<bool> {
+    let a = read_graph(
+        words,
         size,
         priors,
         offsets,
@@ -71,11 +60,9 @@ fn sparse_built(
         var_check,
         var_message,
         var_offset,
-    );
-    let a = b.answer;
+    )?;
     answered(
-        line,
-        b.next,
+        words,
         a,
         check_var,
         check_offset,
@@ -86,18 +73,18 @@ fn sparse_built(
 }
 
 // With room for the model and its graph.
-fn sparse(line: &[u8], at: usize, size: Size) -> bool {
+fn sparse(words: &mut Words<'_>, size: Size) -> Option<bool> {
     let checks = size.checks;
     let mechanisms = size.mechanisms;
     let edges = size.edges;
     if checks > 63 {
-        return false;
+        return Some(false);
     }
     if mechanisms > 63 {
-        return false;
+        return Some(false);
     }
     if edges > 128 {
-        return false;
+        return Some(false);
     }
     let mut priors = [0.0; 64];
     let mut offsets = [0u32; 64];
@@ -108,8 +95,7 @@ fn sparse(line: &[u8], at: usize, size: Size) -> bool {
     let mut var_message = [0u32; 128];
     let mut var_offset = [0u32; 64];
     sparse_built(
-        line,
-        at,
+        words,
         size,
         &mut priors[..mechanisms],
         &mut offsets[..mechanisms + 1],
@@ -126,8 +112,7 @@ fn sparse(line: &[u8], at: usize, size: Size) -> bool {
 
 // Built into lists that fit, and compared.
 fn dense_built(
-    line: &[u8],
-    at: usize,
+    words: &mut Words<'_>,
     size: Size,
     priors: &[f64],
     matrix: &[u8],
@@ -136,7 +121,7 @@ fn dense_built(
     var_check: &mut [u32],
     var_message: &mut [u32],
     var_offset: &mut [u32],
-) -> bool {
+) -> Option<bool> {
     let a = graph::build_dense(
         size.checks,
         size.mechanisms,
@@ -149,8 +134,7 @@ fn dense_built(
         var_offset,
     );
     answered(
-        line,
-        at,
+        words,
         a,
         check_var,
         check_offset,
@@ -161,18 +145,18 @@ fn dense_built(
 }
 
 // With room for the graph.
-fn dense_graph(line: &[u8], at: usize, size: Size, priors: &[f64], matrix: &[u8]) -> bool {
+fn dense_graph(words: &mut Words<'_>, size: Size, priors: &[f64], matrix: &[u8]) -> Option<bool> {
     let checks = size.checks;
     let mechanisms = size.mechanisms;
     let edges = size.edges;
     if checks > 63 {
-        return false;
+        return Some(false);
     }
     if mechanisms > 63 {
-        return false;
+        return Some(false);
     }
     if edges > 128 {
-        return false;
+        return Some(false);
     }
     let mut check_var = [0u32; 128];
     let mut check_offset = [0u32; 64];
@@ -180,8 +164,7 @@ fn dense_graph(line: &[u8], at: usize, size: Size, priors: &[f64], matrix: &[u8]
     let mut var_message = [0u32; 128];
     let mut var_offset = [0u32; 64];
     dense_built(
-        line,
-        at,
+        words,
         size,
         priors,
         matrix,
@@ -194,42 +177,40 @@ fn dense_graph(line: &[u8], at: usize, size: Size, priors: &[f64], matrix: &[u8]
 }
 
 // Read into lists of its sizes.
-fn dense_read(line: &[u8], at: usize, size: Size, priors: &mut [f64], matrix: &mut [u8]) -> bool {
-    let after_priors = read_floats(line, at, priors);
-    let after_matrix = read_bytes(line, after_priors, matrix);
-    dense_graph(line, after_matrix, size, priors, matrix)
+fn dense_read(
+    words: &mut Words<'_>,
+    size: Size,
+    priors: &mut [f64],
+    matrix: &mut [u8],
+) -> Option<bool> {
+    read_floats(words, priors)?;
+    read_bytes(words, matrix)?;
+    dense_graph(words, size, priors, matrix)
 }
 
 // With room for the model.
-fn dense(line: &[u8], at: usize, size: Size) -> bool {
+fn dense(words: &mut Words<'_>, size: Size) -> Option<bool> {
     let mechanisms = size.mechanisms;
     let bytes = wrapping_mul(size.checks as u64, size.mechanisms as u64) as usize;
     if mechanisms > 63 {
-        return false;
+        return Some(false);
     }
     if bytes > 2560 {
-        return false;
+        return Some(false);
     }
     let mut priors = [0.0; 64];
     let mut matrix = [0u8; 2560];
-    dense_read(
-        line,
-        at,
-        size,
-        &mut priors[..mechanisms],
-        &mut matrix[..bytes],
-    )
+    dense_read(words, size, &mut priors[..mechanisms], &mut matrix[..bytes])
 }
 
 // ---- either
 
-// Whether the code answers as the line says from a place on, where its kind stands: 1 is a dense model, and any other a sparse one.
-pub fn case(line: &[u8], at: usize) -> bool {
-    let kind = word_at(line, at);
-    let sizes = read_sizes(line, kind.next);
-    let size = sizes.size;
-    if kind.value == 1 {
-        return dense(line, sizes.next, size);
+// Whether the code answers as the line says from its model on, which is a dense or a sparse one.
+pub fn case(words: &mut Words<'_>, is_dense: bool) -> Option<bool> {
+    let size = read_sizes(words)?;
+    if is_dense {
+        dense(words, size)
+    } else {
+        sparse(words, size)
     }
-    sparse(line, sizes.next, size)
 }

@@ -2,8 +2,6 @@
 // fixed lines in `stdout` are what the published Rust and the stream's rules, written apart, say (`oracle/streams`).
 #![tactic(auto)]
 
-ghost use Rattle.std.specs.Prelude.{◌<◌};
-
 use replay_cases::{read_whole, text_room};
 use std::io;
 use stream_session::Session;
@@ -28,39 +26,16 @@ fn stream(rt: &impl Print, bytes: &[u8]) {
     }
 }
 
-// A byte as a number.
-fn wide(b: u8) -> usize
-    ensures { result < 256 }
-{
-    b as usize
-}
-
-// The length in the 4 bytes from a place on.
-fn length_at(text: &[u8], at: usize) -> usize {
-    if text.len() < 4 {
-        return 0;
-    }
-    if text.len() - 4 < at {
-        return 0;
-    }
-    wide(text[at])
-        + 256 * (wide(text[at + 1]) + 256 * (wide(text[at + 2]) + 256 * wide(text[at + 3])))
-}
-
-// Every stream.
+// Every stream, each behind the 4 bytes of its length.
 fn replay(rt: &impl Print, text: &[u8]) {
-    let mut at = 0;
-    while at < text.len() {
-        let n = length_at(text, at);
-        if text.len() - at < 4 {
+    let mut rest = text;
+    while let Some((length, after)) = rest.split_first_chunk::<4>() {
+        let Some((bytes, others)) = after.split_at_checked(u32::from_le_bytes(*length) as usize)
+        else {
             return;
-        }
-        let start = at + 4;
-        if text.len() - start < n {
-            return;
-        }
-        stream(rt, &text[start..start + n]);
-        at = start + n;
+        };
+        stream(rt, bytes);
+        rest = others;
     }
 }
 

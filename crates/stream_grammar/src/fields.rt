@@ -114,10 +114,8 @@ pub fn priors_in(payload: &[u8], priors: &mut [f64])
     requires { length priors.old ≤ room_mechanisms }
     ensures { priors.new ≡ table (length priors.old) (prior payload.now) }
 {
-    let mut m = 0;
-    while m < priors.len() {
-        priors[m] = float_at(payload, 12 + 12 * m);
-        m += 1;
+    for (m, x) in priors.iter_mut().enumerate() {
+        *x = float_at(payload, 12 + 12 * m);
     }
 }
 
@@ -135,11 +133,9 @@ pub fn offsets_in(payload: &[u8], offsets: &mut [u32])
     ensures { offsets.new ≡ table (length offsets.old) (offset payload.now) }
 {
     let mut sum: u32 = 0;
-    let mut m = 0;
-    while m < offsets.len() {
-        offsets[m] = sum;
-        sum = std::num::wrapping_add_u32(sum, degree(payload, m));
-        m += 1;
+    for (m, x) in offsets.iter_mut().enumerate() {
+        *x = sum;
+        sum = sum.wrapping_add(degree(payload, m));
     }
 }
 
@@ -156,9 +152,7 @@ pub fn detectors_in(payload: &[u8], n: usize, detectors: &mut [u32])
     requires { (n ≤ room_mechanisms) × (length detectors.old ≤ room_edges) }
     ensures { detectors.new ≡ table (length detectors.old) (detector_of n payload.now) }
 {
-    let mut i = 0;
-    while i < detectors.len() {
-        detectors[i] = detector(payload, n, i);
-        i += 1;
+    for (i, x) in detectors.iter_mut().enumerate() {
+        *x = detector(payload, n, i);
     }
 }

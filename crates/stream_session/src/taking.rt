@@ -31,12 +31,8 @@ fn take_settings(s: Session, payload: &[u8], line: &mut [u8; ROOM_LINE]) -> Sess
 fn keep(payload: &[u8], list: &mut [u8])
     ensures { list.new ≡ payload_kept payload.now list.old }
 {
-    for (i, kept) in list.iter_mut().enumerate() {
-        if payload.len() <= i {
-            return;
-        }
-        *kept = payload[i];
-    }
+    let n = payload.len().min(list.len());
+    list[..n].copy_from_slice(&payload[..n]);
 }
 
 // A model: it replaces an earlier one, and the settings stay.

@@ -42,21 +42,19 @@ pub fn piece(
         result.written result.taken (left (taken (told result.session line.new) model.new) payload.new) }
 {
     let mut s = before;
-    let mut i = 0;
-    while i < bytes.len() {
-        s = stream_session::take(s, bytes[i], payload, model, line);
-        i += 1;
+    for (i, byte) in bytes.iter().enumerate() {
+        s = stream_session::take(s, *byte, payload, model, line);
         if !say(rt, line, s.said) {
             return Progress {
                 session: s,
-                taken: i,
+                taken: i + 1,
                 written: false,
             };
         }
     }
     Progress {
         session: s,
-        taken: i,
+        taken: bytes.len(),
         written: true,
     }
 }
@@ -86,8 +84,7 @@ fn heard(
 }
 
 // A whole run: reads standard input piece by piece, to its end or to the refusal that ends the run. A read or a write that fails ends it
-// at once, without a last line, and is the answer. A proved loop has to end, so it counts its turns down, from a number that no run
-// uses up.
+// at once, without a last line, and is the answer. A proved loop has to end, so it counts its turns, up to a number that no run reaches.
 pub fn run(rt: &(impl Input + Print)) -> io::Result<()> {
     let mut payload = [0u8; ROOM_PAYLOAD];
     let mut model = [0u8; ROOM_PAYLOAD];
@@ -96,8 +93,7 @@ pub fn run(rt: &(impl Input + Print)) -> io::Result<()> {
     let mut input = rt.reader();
     let mut written = true;
     let mut s = Session::new();
-    let mut turns = u64::MAX;
-    while turns > 0 {
+    for _ in 0..u64::MAX {
         let n = input.read(&mut room)?;
         if n == 0 {
             if !end(rt, s, &mut line) {
@@ -120,7 +116,6 @@ pub fn run(rt: &(impl Input + Print)) -> io::Result<()> {
         if s.stopped {
             return Ok(());
         }
-        turns -= 1;
     }
     Ok(())
 }
