@@ -61,7 +61,8 @@ pub fn build_sparse_probabilities(
         ≡ build_sparse_probabilities size.edges probabilities.now detector_offsets.now detectors.now
         priors.old g }
 {
-    let fit = priors.len() == size.mechanisms
+    let room = priors.len() == size.mechanisms;
+    let fit = room
         && lists_fit(
             size,
             check_var.len(),
@@ -119,7 +120,8 @@ pub fn build_dense_probabilities(
         mechanisms,
         edges: count_edges(matrix),
     };
-    let fit = priors.len() == mechanisms
+    let room = priors.len() == mechanisms;
+    let fit = room
         && lists_fit(
             size,
             check_var.len(),

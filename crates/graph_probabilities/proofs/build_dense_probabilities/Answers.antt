@@ -17,24 +17,24 @@ use Rattle.graph_tests.specs.Numbers.{given_fault}
 use Rattle.graph_probabilities.specs.Calls.{made_fits}
 use Rattle.graph_probabilities.proofs.Outcomes.{fits_told, dense_done, dense_refused}
 use Rattle.graph_probabilities.proofs.build_dense_probabilities.Goals as goal
-use Rattle.graph_probabilities.proofs.build_dense_probabilities.Goals.{After-dense_fault, then-priors-mechanisms, else-priors-mechanisms}
+use Rattle.graph_probabilities.proofs.build_dense_probabilities.Goals.{After-dense_fault, then-room, else-room}
 
 -- what the flag for the tests says: the lists to be written fit
-fit : (c : After-dense_fault) → c.if-priors-mechanisms.fit ≡ made_fits c.count_edges.result c.args.priors.now
+fit : (c : After-dense_fault) → c.if-room.fit ≡ made_fits c.count_edges.result c.args.priors.now
     (graph c.args.checks c.args.mechanisms c.args.check_var.now c.args.check_offset.now c.args.var_check.now c.args.var_message.now c.args.var_offset.now)
 unfolding made_fits graph_fits
-fit c = elim c.if-priors-mechanisms.branch [ then-priors-mechanisms w ↦ search rules | else-priors-mechanisms w ↦ search rules ]
+fit c = elim c.if-room.branch [ then-room w ↦ search rules | else-room w ↦ search rules ]
 
 -- what the tests tell where they refuse nothing
 told : (c : After-dense_fault) → Ok tt ≡ dense_fault c.args.checks c.args.mechanisms c.count_edges.result (length c.args.probabilities.now)
-    (given_fault Probabilities c.args.probabilities.now) (length c.args.matrix.now) c.if-priors-mechanisms.fit
-    → DenseTold c.args.checks c.args.mechanisms c.count_edges.result (length c.args.probabilities.now) (probability_fault c.args.probabilities.now) (length c.args.matrix.now) c.if-priors-mechanisms.fit
+    (given_fault Probabilities c.args.probabilities.now) (length c.args.matrix.now) c.if-room.fit
+    → DenseTold c.args.checks c.args.mechanisms c.count_edges.result (length c.args.probabilities.now) (probability_fault c.args.probabilities.now) (length c.args.matrix.now) c.if-room.fit
 unfolding given_fault
 told c e = dense_told _ _ _ _ _ _ _ (sym e)
 
 -- and of the lists to be written
 room : (c : After-dense_fault) → Ok tt ≡ dense_fault c.args.checks c.args.mechanisms c.count_edges.result (length c.args.probabilities.now)
-    (given_fault Probabilities c.args.probabilities.now) (length c.args.matrix.now) c.if-priors-mechanisms.fit
+    (given_fault Probabilities c.args.probabilities.now) (length c.args.matrix.now) c.if-room.fit
     → (length c.args.priors.now ≡ c.args.mechanisms) × Long c.count_edges.result
     (graph c.args.checks c.args.mechanisms c.args.check_var.now c.args.check_offset.now c.args.var_check.now c.args.var_message.now c.args.var_offset.now)
 room c e = fits_told _ _ (graph c.args.checks c.args.mechanisms c.args.check_var.now c.args.check_offset.now c.args.var_check.now c.args.var_message.now c.args.var_offset.now) (sym (fit c) ∙ (told c e).fits)

@@ -17,24 +17,24 @@ use Rattle.graph_tests.specs.Numbers.{given_fault}
 use Rattle.graph_probabilities.specs.Calls.{made_fits}
 use Rattle.graph_probabilities.proofs.Outcomes.{fits_told, sparse_done, sparse_refused}
 use Rattle.graph_probabilities.proofs.build_sparse_probabilities.Goals as goal
-use Rattle.graph_probabilities.proofs.build_sparse_probabilities.Goals.{After-sparse_fault, then-priors-size, else-priors-size}
+use Rattle.graph_probabilities.proofs.build_sparse_probabilities.Goals.{After-sparse_fault, then-room, else-room}
 
 -- what the flag for the tests says: the lists to be written fit
-fit : (c : After-sparse_fault) → c.if-priors-size.fit ≡ made_fits c.args.size.edges c.args.priors.now
+fit : (c : After-sparse_fault) → c.if-room.fit ≡ made_fits c.args.size.edges c.args.priors.now
     (graph c.args.size.checks c.args.size.mechanisms c.args.check_var.now c.args.check_offset.now c.args.var_check.now c.args.var_message.now c.args.var_offset.now)
 unfolding made_fits graph_fits
-fit c = elim c.if-priors-size.branch [ then-priors-size w ↦ search rules | else-priors-size w ↦ search rules ]
+fit c = elim c.if-room.branch [ then-room w ↦ search rules | else-room w ↦ search rules ]
 
 -- what the tests tell where they refuse nothing
 told : (c : After-sparse_fault) → Ok tt ≡ sparse_fault c.args.size.checks c.args.size.mechanisms c.args.size.edges (length c.args.probabilities.now)
-    (given_fault Probabilities c.args.probabilities.now) c.args.detector_offsets.now c.args.detectors.now c.if-priors-size.fit
-    → Told c.args.size.checks c.args.size.mechanisms c.args.size.edges (length c.args.probabilities.now) (probability_fault c.args.probabilities.now) c.args.detector_offsets.now c.args.detectors.now c.if-priors-size.fit
+    (given_fault Probabilities c.args.probabilities.now) c.args.detector_offsets.now c.args.detectors.now c.if-room.fit
+    → Told c.args.size.checks c.args.size.mechanisms c.args.size.edges (length c.args.probabilities.now) (probability_fault c.args.probabilities.now) c.args.detector_offsets.now c.args.detectors.now c.if-room.fit
 unfolding given_fault
 told c e = sparse_told _ _ _ _ _ _ _ _ (sym e)
 
 -- and of the lists to be written
 room : (c : After-sparse_fault) → Ok tt ≡ sparse_fault c.args.size.checks c.args.size.mechanisms c.args.size.edges (length c.args.probabilities.now)
-    (given_fault Probabilities c.args.probabilities.now) c.args.detector_offsets.now c.args.detectors.now c.if-priors-size.fit
+    (given_fault Probabilities c.args.probabilities.now) c.args.detector_offsets.now c.args.detectors.now c.if-room.fit
     → (length c.args.priors.now ≡ c.args.size.mechanisms) × Long c.args.size.edges
     (graph c.args.size.checks c.args.size.mechanisms c.args.check_var.now c.args.check_offset.now c.args.var_check.now c.args.var_message.now c.args.var_offset.now)
 room c e = fits_told _ _ (graph c.args.size.checks c.args.size.mechanisms c.args.check_var.now c.args.check_offset.now c.args.var_check.now c.args.var_message.now c.args.var_offset.now) (sym (fit c) ∙ (told c e).lengths.fits)
