@@ -11,7 +11,6 @@ use graph_lists::dense::from_matrix;
 use graph_tests::seven::is_graph;
 use graph_tests::{Given, dense_fault, lists_fit, numbers_fault, sizes_good, sparse_fault};
 use refusals::Refusal;
-use refusals_tests::{both, is_done, same_number};
 
 // How many checks, mechanisms and edges a model has.
 pub type Size = graph_lists::Size;
@@ -43,17 +42,14 @@ pub fn build_sparse(
         var_message.len(),
         var_offset.len(),
     );
-    let a = sparse_fault(
+    sparse_fault(
         size,
         Given::Priors,
         priors,
         detector_offsets,
         detectors,
         fit,
-    );
-    if !is_done(a) {
-        return a;
-    }
+    )?;
     from_detectors(
         size.checks,
         size.mechanisms,
@@ -65,7 +61,7 @@ pub fn build_sparse(
         var_message,
         var_offset,
     );
-    a
+    Ok(())
 }
 
 // How many bytes of a dense model's matrix are not zero: as many edges its graph has.
@@ -73,12 +69,10 @@ pub fn count_edges(matrix: &[u8]) -> usize
     ensures { result ≡ count_edges matrix.now }
 {
     let mut edges = 0;
-    let mut i = 0;
-    while i < matrix.len() {
-        if matrix[i] != 0 {
+    for b in matrix {
+        if *b != 0 {
             edges += 1;
         }
-        i += 1;
     }
     edges
 }
@@ -102,8 +96,8 @@ pub fn build_dense(
         build_outcome result built ≡ build_dense priors.now matrix.now g }
 {
     let size = Size {
-        checks: checks,
-        mechanisms: mechanisms,
+        checks,
+        mechanisms,
         edges: count_edges(matrix),
     };
     let fit = lists_fit(
@@ -114,10 +108,7 @@ pub fn build_dense(
         var_message.len(),
         var_offset.len(),
     );
-    let a = dense_fault(size, Given::Priors, priors, matrix.len(), fit);
-    if !is_done(a) {
-        return a;
-    }
+    dense_fault(size, Given::Priors, priors, matrix.len(), fit)?;
     from_matrix(
         checks,
         mechanisms,
@@ -128,7 +119,7 @@ pub fn build_dense(
         var_message,
         var_offset,
     );
-    a
+    Ok(())
 }
 
 // Whether lent graph lists and their priors are a graph: 1, 2, 4 and 7.
@@ -156,13 +147,10 @@ pub fn check_graph(
         var_message.len(),
         var_offset.len(),
     );
-    if !both(same_number(priors.len(), size.mechanisms), fit) {
+    if priors.len() != size.mechanisms || !fit {
         return Err(Refusal::ModelListLength);
     }
-    let a = numbers_fault(Given::Priors, priors);
-    if !is_done(a) {
-        return a;
-    }
+    numbers_fault(Given::Priors, priors)?;
     if !is_graph(
         size.checks,
         size.mechanisms,

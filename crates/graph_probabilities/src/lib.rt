@@ -16,7 +16,6 @@ use graph_lists::dense::from_matrix;
 use graph_tests::{Given, dense_fault, lists_fit, sparse_fault};
 use probabilities::prior_of;
 use refusals::Refusal;
-use refusals_tests::{both, is_done, same_number};
 
 // How many checks, mechanisms and edges a model has.
 pub type Size = graph_lists::Size;
@@ -35,11 +34,8 @@ fn write_priors(probabilities: &[f64], priors: &mut [f64])
     requires probabilities_value { first_of (length probabilities.now) (probability_fault probabilities.now) ≡ Ok tt }
     ensures { priors.new ≡ map prior_of probabilities.now }
 {
-    let mut m = 0;
-    while m < probabilities.len() {
-        let x = made_prior(probabilities[m]);
-        priors[m] = x;
-        m += 1;
+    for (m, p) in probabilities.iter().enumerate() {
+        priors[m] = made_prior(*p);
     }
 }
 
@@ -65,27 +61,24 @@ pub fn build_sparse_probabilities(
         ≡ build_sparse_probabilities size.edges probabilities.now detector_offsets.now detectors.now
         priors.old g }
 {
-    let lists = lists_fit(
-        size,
-        check_var.len(),
-        check_offset.len(),
-        var_check.len(),
-        var_message.len(),
-        var_offset.len(),
-    );
-    let room = same_number(priors.len(), size.mechanisms);
-    let fit = both(room, lists);
-    let a = sparse_fault(
+    let room = priors.len() == size.mechanisms;
+    let fit = room
+        && lists_fit(
+            size,
+            check_var.len(),
+            check_offset.len(),
+            var_check.len(),
+            var_message.len(),
+            var_offset.len(),
+        );
+    sparse_fault(
         size,
         Given::Probabilities,
         probabilities,
         detector_offsets,
         detectors,
         fit,
-    );
-    if !is_done(a) {
-        return a;
-    }
+    )?;
     write_priors(probabilities, priors);
     from_detectors(
         size.checks,
@@ -98,7 +91,7 @@ pub fn build_sparse_probabilities(
         var_message,
         var_offset,
     );
-    a
+    Ok(())
 }
 
 // The graph and the priors of a dense model, in the caller's lists: the matrix lies check by check, and a byte that is not zero is an
@@ -123,24 +116,21 @@ pub fn build_dense_probabilities(
         ≡ build_dense_probabilities probabilities.now matrix.now priors.old g }
 {
     let size = Size {
-        checks: checks,
-        mechanisms: mechanisms,
+        checks,
+        mechanisms,
         edges: count_edges(matrix),
     };
-    let lists = lists_fit(
-        size,
-        check_var.len(),
-        check_offset.len(),
-        var_check.len(),
-        var_message.len(),
-        var_offset.len(),
-    );
-    let room = same_number(priors.len(), mechanisms);
-    let fit = both(room, lists);
-    let a = dense_fault(size, Given::Probabilities, probabilities, matrix.len(), fit);
-    if !is_done(a) {
-        return a;
-    }
+    let room = priors.len() == mechanisms;
+    let fit = room
+        && lists_fit(
+            size,
+            check_var.len(),
+            check_offset.len(),
+            var_check.len(),
+            var_message.len(),
+            var_offset.len(),
+        );
+    dense_fault(size, Given::Probabilities, probabilities, matrix.len(), fit)?;
     write_priors(probabilities, priors);
     from_matrix(
         checks,
@@ -152,5 +142,5 @@ pub fn build_dense_probabilities(
         var_message,
         var_offset,
     );
-    a
+    Ok(())
 }

@@ -18,7 +18,7 @@ use graph_lists::Size;
 use graph_lists::indices::at;
 use numbers::limits::{MAX_CHECKS, MAX_EDGES, MAX_MECHANISMS};
 use refusals::Refusal;
-use refusals_tests::{at_most, both, is_done, one_more, same_number, unless};
+use refusals_tests::one_more;
 
 // What the numbers are that a model gives for its mechanisms.
 #[derive(Clone, Copy)]
@@ -33,34 +33,28 @@ pub enum Given {
 fn counts_good(checks: usize, mechanisms: usize) -> bool
     ensures { result ≡ counts_good checks mechanisms }
 {
-    both(
-        at_most(checks, MAX_CHECKS),
-        at_most(mechanisms, MAX_MECHANISMS),
-    )
+    checks <= MAX_CHECKS && mechanisms <= MAX_MECHANISMS
 }
 
 // Edges within theirs.
 fn edges_good(edges: usize) -> bool
     ensures { result ≡ edges_good edges }
 {
-    at_most(edges, MAX_EDGES)
+    edges <= MAX_EDGES
 }
 
 // All three.
 pub fn sizes_good(s: Size) -> bool
     ensures { result ≡ sizes_good s.checks s.mechanisms s.edges }
 {
-    both(counts_good(s.checks, s.mechanisms), edges_good(s.edges))
+    counts_good(s.checks, s.mechanisms) && edges_good(s.edges)
 }
 
 // The lengths of a sparse model's three lists.
 fn model_fits(s: Size, numbers: usize, off: usize, dets: usize) -> bool
     ensures { result ≡ sparse_fits s.mechanisms s.edges numbers off dets }
 {
-    both(
-        same_number(numbers, s.mechanisms),
-        both(one_more(off, s.mechanisms), same_number(dets, s.edges)),
-    )
+    numbers == s.mechanisms && one_more(off, s.mechanisms) && dets == s.edges
 }
 
 // The lengths of the five graph lists.
@@ -76,17 +70,11 @@ pub fn lists_fit(
         ≡ graph_lengths s.checks s.mechanisms s.edges check_var check_offset var_check var_message
         var_offset }
 {
-    let v = both(
-        same_number(var_check, s.edges),
-        both(
-            same_number(var_message, s.edges),
-            one_more(var_offset, s.mechanisms),
-        ),
-    );
-    both(
-        same_number(check_var, s.edges),
-        both(one_more(check_offset, s.checks), v),
-    )
+    check_var == s.edges
+        && one_more(check_offset, s.checks)
+        && var_check == s.edges
+        && var_message == s.edges
+        && one_more(var_offset, s.mechanisms)
 }
 
 // ---- 3
@@ -96,14 +84,10 @@ fn rises(rows: usize, off: &[u32]) -> bool
     requires { length off.now ≡ suc rows }
     ensures { result ≡ every rows (rising off.now) }
 {
-    let mut r = 0;
-    while r < rows {
-        let a = at(off, r);
-        let b = at(off, r + 1);
-        if b < a {
+    for r in 0..rows {
+        if off[r + 1] < off[r] {
             return false;
         }
-        r += 1;
     }
     true
 }
@@ -113,10 +97,7 @@ pub(crate) fn offsets_good(rows: usize, n: usize, off: &[u32]) -> bool
     requires { length off.now ≡ suc rows }
     ensures { result ≡ offsets_good rows n off.now }
 {
-    both(
-        same_number(at(off, 0), 0),
-        both(rises(rows, off), same_number(at(off, rows), n)),
-    )
+    at(off, 0) == 0 && rises(rows, off) && at(off, rows) == n
 }
 
 // ---- 4 or 8, 5 and 6
@@ -164,8 +145,10 @@ fn given_fault(given: Given, numbers: &[f64], m: usize) -> Result<(), Refusal>
     requires { m < length numbers.now }
     ensures { result ≡ given_fault given numbers.now m }
 {
-    let good = within(lowest(given), numbers[m], highest(given));
-    unless(good, bad_number(given, m))
+    if !within(lowest(given), numbers[m], highest(given)) {
+        return Err(bad_number(given, m));
+    }
+    Ok(())
 }
 
 // Whether d is among the first i of ds.
@@ -173,14 +156,7 @@ fn repeated(ds: &[u32], i: usize, d: usize) -> bool
     requires { i ≤ length ds.now }
     ensures { result ≡ has (take i ds.now) d }
 {
-    let mut j = 0;
-    while j < i {
-        if at(ds, j) == d {
-            return true;
-        }
-        j += 1;
-    }
-    false
+    ds[..i].iter().any(|x| *x as usize == d)
 }
 
 // The i-th of m's detectors: range before repeat.
@@ -202,13 +178,8 @@ fn detector_fault(checks: usize, m: usize, ds: &[u32], i: usize) -> Result<(), R
 fn detectors_fault_from(checks: usize, m: usize, ds: &[u32], from: usize) -> Result<(), Refusal>
     ensures { result ≡ first_of (length ds.now - from) (λ j. detector_fault checks m ds.now (from + j)) }
 {
-    let mut i = from;
-    while i < ds.len() {
-        let a = detector_fault(checks, m, ds, i);
-        if !is_done(a) {
-            return a;
-        }
-        i += 1;
+    for i in from..ds.len() {
+        detector_fault(checks, m, ds, i)?;
     }
     Ok(())
 }
@@ -218,23 +189,20 @@ fn rises_to(ds: &[u32]) -> usize
     requires { 0 < length ds.now }
     ensures { RisesTo ds.now result }
 {
-    let mut r = 0;
-    while r + 1 < ds.len() {
-        let last = at(ds, r);
-        let d = at(ds, r + 1);
-        if d <= last {
+    let end = ds.len() - 1;
+    for r in 0..end {
+        if ds[r + 1] <= ds[r] {
             return r;
         }
-        r += 1;
     }
-    r
+    end
 }
 
 // All of m's detectors, in list order. Of those that rise none is a repeat, and the last is the highest.
 fn detectors_fault(checks: usize, m: usize, ds: &[u32]) -> Result<(), Refusal>
     ensures { result ≡ first_of (length ds.now) (detector_fault checks m ds.now) }
 {
-    if ds.len() == 0 {
+    if ds.is_empty() {
         return Ok(());
     }
     let r = rises_to(ds);
@@ -247,15 +215,18 @@ fn detectors_fault(checks: usize, m: usize, ds: &[u32]) -> Result<(), Refusal>
 }
 
 // The mechanism m: its number, then its detectors.
-fn mechanism_fault(checks: usize, given: Given, numbers: &[f64], m: usize, ds: &[u32]) -> Result<(), Refusal>
+fn mechanism_fault(
+    checks: usize,
+    given: Given,
+    numbers: &[f64],
+    m: usize,
+    ds: &[u32],
+) -> Result<(), Refusal>
     requires { m < length numbers.now }
     ensures { result ≡ mechanism_test checks m (given_fault given numbers.now m) ds.now }
 {
-    let own = given_fault(given, numbers, m);
-    if is_done(own) {
-        return detectors_fault(checks, m, ds);
-    }
-    own
+    given_fault(given, numbers, m)?;
+    detectors_fault(checks, m, ds)
 }
 
 // All mechanisms.
@@ -273,15 +244,10 @@ fn mechanisms_fault(
         ≡ first_of mechanisms
         (mechanism_fault checks (given_fault given numbers.now) off.now dets.now) }
 {
-    let mut m = 0;
-    while m < mechanisms {
+    for m in 0..mechanisms {
         let start = at(off, m);
         let end = at(off, m + 1);
-        let a = mechanism_fault(checks, given, numbers, m, &dets[start..end]);
-        if !is_done(a) {
-            return a;
-        }
-        m += 1;
+        mechanism_fault(checks, given, numbers, m, &dets[start..end])?;
     }
     Ok(())
 }
@@ -290,13 +256,8 @@ fn mechanisms_fault(
 pub fn numbers_fault(given: Given, numbers: &[f64]) -> Result<(), Refusal>
     ensures { result ≡ first_of (length numbers.now) (given_fault given numbers.now) }
 {
-    let mut m = 0;
-    while m < numbers.len() {
-        let a = given_fault(given, numbers, m);
-        if !is_done(a) {
-            return a;
-        }
-        m += 1;
+    for i in 0..numbers.len() {
+        given_fault(given, numbers, i)?;
     }
     Ok(())
 }
@@ -320,7 +281,7 @@ pub fn sparse_fault(
     if !sizes_good(s) {
         return Err(Refusal::SizeAboveLimit);
     }
-    if !both(model_fits(s, numbers.len(), off.len(), dets.len()), fit) {
+    if !model_fits(s, numbers.len(), off.len(), dets.len()) || !fit {
         return Err(Refusal::ModelListLength);
     }
     if !offsets_good(s.mechanisms, dets.len(), off) {
@@ -333,17 +294,20 @@ pub fn sparse_fault(
 
 // Counts, the lengths of the matrix and the numbers, edges, the lists to be written, the numbers. `bytes`: the matrix's length; the size's
 // edges: how many of its bytes are not zero; `fit`: the lists to be written have their lengths.
-pub fn dense_fault(s: Size, given: Given, numbers: &[f64], bytes: usize, fit: bool) -> Result<(), Refusal>
+pub fn dense_fault(
+    s: Size,
+    given: Given,
+    numbers: &[f64],
+    bytes: usize,
+    fit: bool,
+) -> Result<(), Refusal>
     ensures { let xs = numbers.now in
         result ≡ dense_fault s.checks s.mechanisms s.edges (length xs) (given_fault given xs) bytes fit }
 {
     if !counts_good(s.checks, s.mechanisms) {
         return Err(Refusal::SizeAboveLimit);
     }
-    if !both(
-        same_number(bytes, s.checks * s.mechanisms),
-        same_number(numbers.len(), s.mechanisms),
-    ) {
+    if bytes != s.checks * s.mechanisms || numbers.len() != s.mechanisms {
         return Err(Refusal::ModelListLength);
     }
     if !edges_good(s.edges) {

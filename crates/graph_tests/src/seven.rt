@@ -8,24 +8,18 @@ ghost use Rattle.graph_lists.specs.QuickTest.{rises_below, met_good, entry_good,
 
 use crate::offsets_good;
 use graph_lists::indices::at;
-use refusals_tests::same_number;
 
 // Strictly rising, all below n.
 fn rises_below(n: usize, xs: &[u32]) -> bool
     ensures { result ≡ rises_below n xs.now }
 {
     let mut least = 0;
-    let mut i = 0;
-    while i < xs.len() {
-        let x = at(xs, i);
-        if x < least {
-            return false;
-        }
-        if n <= x {
+    for x in xs {
+        let x = *x as usize;
+        if x < least || n <= x {
             return false;
         }
         least = x + 1;
-        i += 1;
     }
     true
 }
@@ -43,15 +37,7 @@ fn met_good(
     requires c_lt_checks { c < checks }
     ensures { result ≡ met_good check_offset.now check_var.now v c m }
 {
-    let a = at(check_offset, c);
-    if m < a {
-        return false;
-    }
-    let b = at(check_offset, c + 1);
-    if b <= m {
-        return false;
-    }
-    same_number(at(check_var, m), v)
+    at(check_offset, c) <= m && m < at(check_offset, c + 1) && at(check_var, m) == v
 }
 
 // A variable's entries, one by one.
@@ -70,14 +56,10 @@ fn meets_good(
         ≡ every (length cs.now)
         (entry_good check_offset.now check_var.now v cs.now ms.now) }
 {
-    let mut i = 0;
-    while i < cs.len() {
-        let c = at(cs, i);
-        let m = at(ms, i);
-        if !met_good(checks, v, check_offset, check_var, c, m) {
+    for (c, m) in cs.iter().zip(ms) {
+        if !met_good(checks, v, check_offset, check_var, *c as usize, *m as usize) {
             return false;
         }
-        i += 1;
     }
     true
 }
@@ -95,10 +77,7 @@ fn entries_good(
     requires ms_len { length ms.now ≡ length cs.now }
     ensures { result ≡ entries_good checks check_offset.now check_var.now v cs.now ms.now }
 {
-    if !rises_below(checks, cs) {
-        return false;
-    }
-    meets_good(checks, v, check_offset, check_var, cs, ms)
+    rises_below(checks, cs) && meets_good(checks, v, check_offset, check_var, cs, ms)
 }
 
 // The entries of each check.
@@ -106,14 +85,12 @@ fn checks_good(checks: usize, mechanisms: usize, check_offset: &[u32], check_var
     requires { Offsets checks (length check_var.now) check_offset.now }
     ensures { result ≡ every checks (check_good mechanisms check_offset.now check_var.now) }
 {
-    let mut c = 0;
-    while c < checks {
+    for c in 0..checks {
         let start = at(check_offset, c);
         let end = at(check_offset, c + 1);
         if !rises_below(mechanisms, &check_var[start..end]) {
             return false;
         }
-        c += 1;
     }
     true
 }
@@ -135,8 +112,7 @@ fn vars_good(
         var_check.now var_message.now var_offset.now in
         result ≡ every mechanisms (var_good g) }
 {
-    let mut v = 0;
-    while v < mechanisms {
+    for v in 0..mechanisms {
         let start = at(var_offset, v);
         let end = at(var_offset, v + 1);
         if !entries_good(
@@ -149,7 +125,6 @@ fn vars_good(
         ) {
             return false;
         }
-        v += 1;
     }
     true
 }

@@ -1,17 +1,19 @@
 -- The public call: what its tests tell where none refuses, that a run reads four of the five graph lists, and what the call leaves. Assumes nothing.
 use mathlib.Core.Path.{◌≡◌, refl, sym, ap, ◌∙◌}
-use mathlib.Core.Bool.{Bool, true, false, not, true≢false}
+use mathlib.Core.Bool.{Bool, true, false, true≢false, false≢true}
 use mathlib.Core.List.{List}
 use Prim.Native.Nat.{ℕ}
 use lib.Ieee.{Float}
 use lib.ListN.{length, replicate}
-use borrow.Author.Tests.{not-true, not-false, eqb-true}
+use borrow.Author.Tests.{eqb-true}
 use Rattle.numbers.proofs.Cases.{and_both}
 use Rattle.numbers.specs.Floats.{zero⁺}
-use Rattle.refusals.proofs.Tests.{done_is, or_done, unless_done}
+use Rattle.refusals.proofs.Tests.{or_done, unless_done}
+use Rattle.refusals.specs.declared.Refusal.{Refusal}
 use Rattle.refusals.specs.Refusal.{Answer}
 use Rattle.std.specs.Prelude.{Ok, Err}
-use Rattle.refusals.specs.Tests.{is_done, first_of, unless_refused}
+use Rattle.std.specs.Result.{is_err}
+use Rattle.refusals.specs.Tests.{first_of, unless_refused}
 use Rattle.graph_lists.specs.Graph.{Graph, graph}
 use Rattle.graph_lists.specs.Messages.{by_place, cleared, from_variables, value_fault, posterior_fault}
 use Rattle.graph_lists.proofs.GraphTests.{graph_told}
@@ -19,13 +21,24 @@ use Rattle.graph_messages.specs.Needs.{Walks, walked}
 use Rattle.graph_messages.proofs.Parts.{walks_both}
 use Rattle.graph_messages.proofs.Walks.{graph_walks}
 use Rattle.min_sum_pass.specs.MinSum.{skipped, update_check, raw_posterior, update_variable, parallel_check, checks_to, variables_to, parallel_iteration, serial_check, serial_to, serial_iteration, averaged_to, averaged, start_round, iterated, iterated_in, outer_round_to, outer_round, all_rounds, chosen_to, min_sum_bp}
-use Rattle.min_sum.specs.Beliefs.{BeliefsLists, beliefs_lists, BeliefsOutcome, beliefs_outcome, beliefs_lists_fit, beliefs_fault, ran, after_beliefs_tests, beliefs}
+use Rattle.min_sum.specs.Beliefs.{BeliefsLists, beliefs_lists, BeliefsOutcome, beliefs_outcome, beliefs_lists_fit, beliefs_fault, ran, beliefs}
 
 -- ---- what a run leaves
 
-module _ (edges : ℕ) (g : Graph) (m out w c v : List Float) (a : Answer) (b : Bool) (run : out ≡ m) (first : a ≡ first_of (length out) (value_fault out))
-    (many : length out ≡ g.mechanisms) (ws : w ≡ replicate g.mechanisms zero⁺) (cs : c ≡ replicate edges zero⁺) (vs : v ≡ replicate edges zero⁺)
-    (told : b ≡ is_done a) where
+-- a list that is kept where nothing is refused
+kept : (a : Answer) (xs zeros : List Float) → is_err a ≡ false → xs ≡ unless_refused a xs zeros
+unfolding unless_refused
+kept (Ok _) xs zeros h = refl
+kept (Err r) xs zeros h = absurd (true≢false h)
+
+-- and zeroed where something is
+zeroed : (a : Answer) (xs zeros : List Float) → is_err a ≡ true → zeros ≡ unless_refused a xs zeros
+unfolding unless_refused
+zeroed (Ok _) xs zeros h = absurd (false≢true h)
+zeroed (Err r) xs zeros h = refl
+
+module _ (edges : ℕ) (g : Graph) (m out w c v : List Float) (a : Answer) (run : out ≡ m) (first : a ≡ first_of (length out) (value_fault out))
+    (many : length out ≡ g.mechanisms) (ws : w ≡ replicate g.mechanisms zero⁺) (cs : c ≡ replicate edges zero⁺) (vs : v ≡ replicate edges zero⁺) where
   -- a posterior that is as the definition has it
   left : (p : List Float) → p ≡ unless_refused a out (replicate g.mechanisms zero⁺) → beliefs_outcome a (beliefs_lists p w c v) ≡ ran edges g m
   unfolding ran posterior_fault
@@ -34,14 +47,12 @@ module _ (edges : ℕ) (g : Graph) (m out w c v : List Float) (a : Answer) (b : 
       rw (e, ws, cs, vs, q, run)
 
   -- nothing is refused: the posterior stays
-  pub ran_passed : not b ≡ false → beliefs_outcome a (beliefs_lists out w c v) ≡ ran edges g m
-  unfolding unless_refused
-  ran_passed h = left out (rw (sym told ∙ not-false b h))
+  pub ran_passed : is_err a ≡ false → beliefs_outcome a (beliefs_lists out w c v) ≡ ran edges g m
+  ran_passed h = left out (kept a out (replicate g.mechanisms zero⁺) h)
 
   -- 30: it is zeroed
-  pub ran_refused : (p : List Float) → not b ≡ true → p ≡ replicate (length out) zero⁺ → beliefs_outcome a (beliefs_lists p w c v) ≡ ran edges g m
-  unfolding unless_refused
-  ran_refused p h e = left p (rw (sym told ∙ not-true b h) (e ∙ ap (λ n. replicate n zero⁺) many))
+  pub ran_refused : (p : List Float) → is_err a ≡ true → p ≡ replicate (length out) zero⁺ → beliefs_outcome a (beliefs_lists p w c v) ≡ ran edges g m
+  ran_refused p h e = left p (e ∙ ap (λ n. replicate n zero⁺) many ∙ zeroed a out (replicate g.mechanisms zero⁺) h)
 
 -- ---- a run reads four of the five lists
 
@@ -61,11 +72,6 @@ module _ (checks mechanisms : ℕ) (cv co vc vm vo : List ℕ) (scale : Float) (
   same_ran edges serial = rw (same_run serial)
 
 -- ---- the call
-
--- a call that its tests refuse leaves the lists
-leaves : (a : Answer) (o : BeliefsOutcome) (l : BeliefsLists) → is_done a ≡ false → beliefs_outcome a l ≡ after_beliefs_tests a o l
-leaves (Ok _) o l h = absurd (true≢false h)
-leaves (Err r) o l h = refl
 
 -- what a run leaves, however checks, mechanisms and edges are counted
 ran_counted : (edges edges' checks checks' mechanisms mechanisms' : ℕ) (cv co vm vo : List ℕ) (scale : Float) (syndrome : List ℕ) (priors : List Float) (n : ℕ) (serial : Bool)
@@ -88,11 +94,10 @@ pub record Told (edges checks mechanisms : ℕ) (cv co vm vo : List ℕ) (priors
 
 module _ (edges checks mechanisms : ℕ) (cv co vc vm vo : List ℕ) (priors : List Float) (syndrome : List ℕ) (iterations : ℕ) (l : BeliefsLists) where
   -- where none refuses, they tell all that the run asks
-  pub told : (a : Answer) (b : Bool) → a ≡ beliefs_fault edges priors (graph checks mechanisms cv co vc vm vo) syndrome iterations l → b ≡ is_done a
-      → not b ≡ false → Told edges checks mechanisms cv co vm vo priors syndrome l
+  pub told : Ok tt ≡ beliefs_fault edges priors (graph checks mechanisms cv co vc vm vo) syndrome iterations l → Told edges checks mechanisms cv co vm vo priors syndrome l
   unfolding beliefs_fault beliefs_lists_fit
-  told a b e d h =
-      let t1 = or_done _ _ (sym e ∙ done_is a (sym d ∙ not-false b h)) in
+  told e =
+      let t1 = or_done _ _ (sym e) in
       let t2 = or_done _ _ t1.1 in
       let t3 = or_done _ _ t2.1 in
       let g = graph_told edges priors (graph checks mechanisms cv co vc vm vo) t1.0 in
@@ -115,21 +120,19 @@ module _ (edges checks mechanisms : ℕ) (cv co vc vm vo : List ℕ) (priors : L
 
   module _ (scale : Float) (serial : Bool) where
     -- a call that is refused
-    pub beliefs_refused : (a : Answer) (b : Bool) → a ≡ beliefs_fault edges priors (graph checks mechanisms cv co vc vm vo) syndrome iterations l → b ≡ is_done a
-        → not b ≡ true → beliefs_outcome a l ≡ beliefs edges priors (graph checks mechanisms cv co vc vm vo) syndrome iterations scale serial l
+    pub beliefs_refused : (r : Refusal) → Err r ≡ beliefs_fault edges priors (graph checks mechanisms cv co vc vm vo) syndrome iterations l
+        → beliefs_outcome (Err r) l ≡ beliefs edges priors (graph checks mechanisms cv co vc vm vo) syndrome iterations scale serial l
     unfolding beliefs
-    beliefs_refused a b e d h = rw (← e) (leaves a _ l (sym d ∙ not-true b h))
+    beliefs_refused r e = rw (← e)
 
     -- one that is not
-    pub beliefs_ran : (a : Answer) (b : Bool) (o : BeliefsOutcome) → a ≡ beliefs_fault edges priors (graph checks mechanisms cv co vc vm vo) syndrome iterations l
-        → b ≡ is_done a → not b ≡ false
+    pub beliefs_ran : (o : BeliefsOutcome) → Ok tt ≡ beliefs_fault edges priors (graph checks mechanisms cv co vc vm vo) syndrome iterations l
         → o ≡ ran (length cv) (walked (length syndrome) (length priors) cv co vm vo) (min_sum_bp by_place (walked (length syndrome) (length priors) cv co vm vo) serial scale syndrome priors iterations)
         → o ≡ beliefs edges priors (graph checks mechanisms cv co vc vm vo) syndrome iterations scale serial l
     unfolding beliefs
-    beliefs_ran a b o e d h q =
-        let t = told a b e d h in
-        let done : beliefs_fault edges priors (graph checks mechanisms cv co vc vm vo) syndrome iterations l ≡ Ok tt = sym e ∙ done_is a (sym d ∙ not-false b h) in
-        rw done
+    beliefs_ran o e q =
+        let t = told e in
+        rw (← e)
         (q
         ∙ ran_counted _ _ _ _ _ _ cv co vm vo scale syndrome priors iterations serial t.edges_many t.checks_many t.mechanisms_many
         ∙ same_ran checks mechanisms cv co vc vm vo scale syndrome priors iterations edges serial)

@@ -9,7 +9,6 @@ ghost use Rattle.graph_lists.specs.Graph.{graph};
 ghost use Rattle.min_sum.specs.Beliefs.{beliefs_lists, beliefs_outcome, beliefs as beliefs_of};
 
 use refusals::Refusal;
-use refusals_tests::is_done;
 
 // The beliefs after so many iterations, serial or not. The posterior is the result; the running posterior and the messages are for work,
 // and are zero after any run. A call that its tests refuse writes nothing; refusal 30 zeroes the posterior.
@@ -44,7 +43,7 @@ pub fn beliefs(
         c_to_v: c_to_v.len(),
         v_to_c: v_to_c.len(),
     };
-    let a = tests::fault(
+    tests::fault(
         size,
         priors,
         check_var,
@@ -54,10 +53,7 @@ pub fn beliefs(
         var_offset,
         iterations,
         n,
-    );
-    if !is_done(a) {
-        return a;
-    }
+    )?;
     run::ran(
         iterations,
         serial,

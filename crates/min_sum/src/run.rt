@@ -7,13 +7,12 @@ ghost use Rattle.min_sum_pass.specs.MinSum.{all_rounds as all_rounds_of, chosen 
 ghost use Rattle.min_sum.specs.Beliefs.{beliefs_lists, beliefs_outcome, ran as ran_of};
 
 use refusals::Refusal;
-use refusals_tests::{both, is_done, same_number};
 
 // The weight of an iteration: 1 in the very first, else 0.3.
 fn weight(outer: usize, i: usize) -> f64
     ensures { result ≡ weight_of outer i }
 {
-    if both(same_number(i, 0), same_number(outer, 0)) {
+    if i == 0 && outer == 0 {
         return 1.0;
     }
     0.3
@@ -184,8 +183,7 @@ fn outer_round(
 {
     graph_messages::clear(c_to_v);
     graph_messages::from_variables(check_var, ewa_posterior, v_to_c);
-    let mut i = 0;
-    while i < inner {
+    for i in 0..inner {
         iterate(
             serial,
             weight(outer, i),
@@ -200,7 +198,6 @@ fn outer_round(
             v_to_c,
             ewa_posterior,
         );
-        i += 1;
     }
 }
 
@@ -349,11 +346,9 @@ fn choose(
         let before = belief (messages c_to_v.now []) ewa_posterior.now in
         posterior.new ≡ chosen_to g priors.now before (length priors.now) }
 {
-    let mut v = 0;
-    while v < priors.len() {
+    for (v, x) in posterior.iter_mut().enumerate() {
         let raw = min_sum_pass::variable::raw_posterior(v, priors, var_message, var_offset, c_to_v);
-        posterior[v] = chosen(ewa_posterior[v], raw);
-        v += 1;
+        *x = chosen(ewa_posterior[v], raw);
     }
 }
 
@@ -450,7 +445,7 @@ pub(crate) fn ran(
     graph_messages::clear(c_to_v);
     graph_messages::clear(v_to_c);
     let a = graph_messages::first_not_finite(posterior);
-    if !is_done(a) {
+    if a.is_err() {
         graph_messages::clear(posterior);
     }
     a

@@ -8,7 +8,6 @@ ghost use Rattle.graph_lists.specs.Model.{graph_fault};
 
 use numbers::limits::MAX_COUNT;
 use refusals::Refusal;
-use refusals_tests::{at_most, both, is_done, same_number};
 
 // How long the syndrome and the lent lists are.
 #[derive(Clone, Copy)]
@@ -26,12 +25,10 @@ fn lists_fit(size: graph::Size, n: Lengths) -> bool
         ≡ (eqb n.posterior size.mechanisms
         && (eqb n.ewa_posterior size.mechanisms && (eqb n.c_to_v size.edges && eqb n.v_to_c size.edges))) }
 {
-    let messages = both(
-        same_number(n.c_to_v, size.edges),
-        same_number(n.v_to_c, size.edges),
-    );
-    let ewa = both(same_number(n.ewa_posterior, size.mechanisms), messages);
-    both(same_number(n.posterior, size.mechanisms), ewa)
+    n.posterior == size.mechanisms
+        && n.ewa_posterior == size.mechanisms
+        && n.c_to_v == size.edges
+        && n.v_to_c == size.edges
 }
 
 // 12, 20 and 22.
@@ -42,10 +39,10 @@ fn run_fault(size: graph::Size, iterations: usize, n: Lengths) -> Result<(), Ref
         && (eqb n.ewa_posterior size.mechanisms
         && (eqb n.c_to_v size.edges && eqb n.v_to_c size.edges))) LentListLength)) }
 {
-    if !at_most(iterations, MAX_COUNT) {
+    if MAX_COUNT < iterations {
         return Err(Refusal::BadIterations);
     }
-    if !same_number(n.syndrome, size.checks) {
+    if n.syndrome != size.checks {
         return Err(Refusal::SyndromeLength);
     }
     if !lists_fit(size, n) {
@@ -74,7 +71,7 @@ pub(crate) fn fault(
         && (eqb n.ewa_posterior size.mechanisms
         && (eqb n.c_to_v size.edges && eqb n.v_to_c size.edges))) LentListLength))) }
 {
-    let a = graph::check_graph(
+    graph::check_graph(
         size,
         priors,
         check_var,
@@ -82,9 +79,6 @@ pub(crate) fn fault(
         var_check,
         var_message,
         var_offset,
-    );
-    if !is_done(a) {
-        return a;
-    }
+    )?;
     run_fault(size, iterations, n)
 }

@@ -1,77 +1,65 @@
 -- `graph_probabilities::build_sparse_probabilities` meets its contract. Where no test refuses, the model is valid and the lists fit, which is all that writing and building ask; a refusal leaves them. Assumes nothing.
-use mathlib.Core.Path.{◌≡◌, sym, ◌∙◌, ap}
+use mathlib.Core.Path.{◌≡◌, refl, sym, ◌∙◌, ap}
 use Prim.Native.Nat.{ℕ}
 use native.Mathlib.Omega.{arith}
-use lib.Dec.{eqb}
 use lib.ListN.{length}
-use Rattle.numbers.proofs.Cases.{was_true, was_false}
-use Rattle.refusals.proofs.Tests.{done_is}
+use Rattle.std.specs.Prelude.{Ok}
+use Rattle.std.proofs.Common.{rules}
+use Rattle.std.proofs.lemmas.Result.{err_from_is_err_and}
 use Rattle.refusals.specs.Tests.{first_of}
 use Rattle.probabilities.specs.Calls.{probability_fault}
 use Rattle.graph_lists.specs.Graph.{graph}
 use Rattle.graph_lists.specs.Model.{graph_fits, sparse_fault}
 use Rattle.graph_lists.specs.Sound.{Long}
 use Rattle.graph_lists.proofs.SparseTests.{Told, sparse_told}
+use Rattle.graph_tests.specs.declared.Given.TheVariants.{Probabilities}
 use Rattle.graph_tests.specs.Numbers.{given_fault}
 use Rattle.graph_probabilities.specs.Calls.{made_fits}
 use Rattle.graph_probabilities.proofs.Outcomes.{fits_told, sparse_done, sparse_refused}
-use mathlib.Core.Bool.{not}
 use Rattle.graph_probabilities.proofs.build_sparse_probabilities.Goals as goal
-use Rattle.graph_probabilities.proofs.build_sparse_probabilities.Goals.{After-both-fit, After-sparse_fault-a, Else-not-is_done}
+use Rattle.graph_probabilities.proofs.build_sparse_probabilities.Goals.{After-sparse_fault, then-room, else-room}
 
 -- what the flag for the tests says: the lists to be written fit
-fit : (c : After-both-fit) → c.both-fit.result ≡ made_fits c.args.size.edges c.args.priors.now (graph c.args.size.checks c.args.size.mechanisms c.args.check_var.now c.args.check_offset.now c.args.var_check.now c.args.var_message.now c.args.var_offset.now)
+fit : (c : After-sparse_fault) → c.if-room.fit ≡ made_fits c.args.size.edges c.args.priors.now
+    (graph c.args.size.checks c.args.size.mechanisms c.args.check_var.now c.args.check_offset.now c.args.var_check.now c.args.var_message.now c.args.var_offset.now)
 unfolding made_fits graph_fits
-fit c =
-    let many : c.same_number-room.result ≡ eqb (length c.args.priors.now) c.args.size.mechanisms = c.same_number-room.ensures in
-    rw (c.both-fit.ensures, many, c.lists_fit-lists.ensures)
+fit c = elim c.if-room.branch [ then-room w ↦ search rules | else-room w ↦ search rules ]
 
--- what the tests answer
-tests : (c : After-sparse_fault-a) → c.sparse_fault-a.result
-    ≡ sparse_fault c.args.size.checks c.args.size.mechanisms c.args.size.edges (length c.args.probabilities.now) (probability_fault c.args.probabilities.now) c.args.detector_offsets.now c.args.detectors.now c.both-fit.result
+-- what the tests tell where they refuse nothing
+told : (c : After-sparse_fault) → Ok tt ≡ sparse_fault c.args.size.checks c.args.size.mechanisms c.args.size.edges (length c.args.probabilities.now)
+    (given_fault Probabilities c.args.probabilities.now) c.args.detector_offsets.now c.args.detectors.now c.if-room.fit
+    → Told c.args.size.checks c.args.size.mechanisms c.args.size.edges (length c.args.probabilities.now) (probability_fault c.args.probabilities.now) c.args.detector_offsets.now c.args.detectors.now c.if-room.fit
 unfolding given_fault
-tests c = c.sparse_fault-a.ensures
-
--- what the tests_at_told answer
-tests_at_told : (c : Else-not-is_done) → c.sparse_fault-a.result
-    ≡ sparse_fault c.args.size.checks c.args.size.mechanisms c.args.size.edges (length c.args.probabilities.now) (probability_fault c.args.probabilities.now) c.args.detector_offsets.now c.args.detectors.now c.both-fit.result
-unfolding given_fault
-tests_at_told c = c.sparse_fault-a.ensures
-
--- what the tests told
-told : (c : Else-not-is_done)
-    → Told c.args.size.checks c.args.size.mechanisms c.args.size.edges (length c.args.probabilities.now) (probability_fault c.args.probabilities.now) c.args.detector_offsets.now c.args.detectors.now c.both-fit.result
-told c = sparse_told _ _ _ _ _ _ _ _ (sym (tests_at_told c) ∙ done_is _ (was_true _ _ c.is_done.ensures (ap not c.if-not-is_done.false)))
-
--- what the flag for the tests says: the lists to be written fit_at_room
-fit_at_room : (c : Else-not-is_done) → c.both-fit.result ≡ made_fits c.args.size.edges c.args.priors.now (graph c.args.size.checks c.args.size.mechanisms c.args.check_var.now c.args.check_offset.now c.args.var_check.now c.args.var_message.now c.args.var_offset.now)
-unfolding made_fits graph_fits
-fit_at_room c =
-    let many : c.same_number-room.result ≡ eqb (length c.args.priors.now) c.args.size.mechanisms = c.same_number-room.ensures in
-    rw (c.both-fit.ensures, many, c.lists_fit-lists.ensures)
+told c e = sparse_told _ _ _ _ _ _ _ _ (sym e)
 
 -- and of the lists to be written
-room : (c : Else-not-is_done) → (length c.args.priors.now ≡ c.args.size.mechanisms) × Long c.args.size.edges
+room : (c : After-sparse_fault) → Ok tt ≡ sparse_fault c.args.size.checks c.args.size.mechanisms c.args.size.edges (length c.args.probabilities.now)
+    (given_fault Probabilities c.args.probabilities.now) c.args.detector_offsets.now c.args.detectors.now c.if-room.fit
+    → (length c.args.priors.now ≡ c.args.size.mechanisms) × Long c.args.size.edges
     (graph c.args.size.checks c.args.size.mechanisms c.args.check_var.now c.args.check_offset.now c.args.var_check.now c.args.var_message.now c.args.var_offset.now)
-room c = fits_told _ _ (graph c.args.size.checks c.args.size.mechanisms c.args.check_var.now c.args.check_offset.now c.args.var_check.now c.args.var_message.now c.args.var_offset.now)
-    (sym (fit_at_room c) ∙ ((sparse_told _ _ _ _ _ _ _ _ (sym (tests_at_told c) ∙ done_is _ (was_true _ _ c.is_done.ensures (ap not c.if-not-is_done.false))))).lengths.fits)
+room c e = fits_told _ _ (graph c.args.size.checks c.args.size.mechanisms c.args.check_var.now c.args.check_offset.now c.args.var_check.now c.args.var_message.now c.args.var_offset.now) (sym (fit c) ∙ (told c e).lengths.fits)
 
-pub returns-then-not-is_done : goal.returns-then-not-is_done
-returns-then-not-is_done c = sparse_refused _ _ _ _ _ _ _ (graph c.args.size.checks c.args.size.mechanisms c.args.check_var.now c.args.check_offset.now c.args.var_check.now c.args.var_message.now c.args.var_offset.now)
-    (fit (goal.at.returns-then-not-is_done c).After-both-fit) (tests (goal.at.returns-then-not-is_done c).After-sparse_fault-a) (was_false _ _ c.is_done.ensures (ap not c.if-not-is_done.true))
+pub returns-in_err-sparse_fault : goal.returns-in_err-sparse_fault
+unfolding given_fault
+returns-in_err-sparse_fault c =
+    let p = err_from_is_err_and c.from_residual.result c.from_residual.ensures.1 in
+    rw (p.1, p.2) (sparse_refused _ _ _ _ _ _ _ (graph c.args.size.checks c.args.size.mechanisms c.args.check_var.now c.args.check_offset.now c.args.var_check.now c.args.var_message.now c.args.var_offset.now)
+    (fit (goal.at.returns-in_err-sparse_fault c).After-sparse_fault) c.in_err-sparse_fault.ensures refl)
 
 pub write_priors-requires : goal.write_priors-requires
 write_priors-requires c =
-    let t = told (goal.at.write_priors-requires c).Else-not-is_done in
+    let k = (goal.at.write_priors-requires c).After-sparse_fault in
+    let t = told k c.in_ok-sparse_fault.ensures in
     record {
-      priors_len = (room (goal.at.write_priors-requires c).Else-not-is_done).0 ∙ sym t.lengths.numbers_many;
+      priors_len = (room k c.in_ok-sparse_fault.ensures).0 ∙ sym t.lengths.numbers_many;
       probabilities_value = ap (λ (n : ℕ). first_of n (probability_fault c.args.probabilities.now)) t.lengths.numbers_many ∙ t.given_none;
     }
 
 pub from_detectors-requires : goal.from_detectors-requires
 from_detectors-requires c =
-    let t = told (goal.at.from_detectors-requires c).Else-not-is_done in
-    let f = (room (goal.at.from_detectors-requires c).Else-not-is_done).1 in
+    let k = (goal.at.from_detectors-requires c).After-sparse_fault in
+    let t = told k c.in_ok-sparse_fault.ensures in
+    let f = (room k c.in_ok-sparse_fault.ensures).1 in
     let d = t.lengths.dets_many in
     record {
       valid = t.valid;
@@ -81,9 +69,7 @@ from_detectors-requires c =
     }
 
 pub returns : goal.returns
+unfolding given_fault
 returns c =
     sparse_done _ _ _ _ _ _ _ (graph c.args.size.checks c.args.size.mechanisms c.args.check_var.now c.args.check_offset.now c.args.var_check.now c.args.var_message.now c.args.var_offset.now)
-    (fit (goal.at.returns c).After-both-fit) (tests (goal.at.returns c).After-sparse_fault-a) _ _
-    (was_true _ _ c.is_done.ensures (ap not c.if-not-is_done.false))
-    c.write_priors.ensures
-    c.from_detectors.ensures
+    (fit (goal.at.returns c).After-sparse_fault) c.in_ok-sparse_fault.ensures _ _ refl c.write_priors.ensures c.from_detectors.ensures

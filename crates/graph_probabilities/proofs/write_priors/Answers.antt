@@ -4,8 +4,8 @@ use Rattle.refusals.specs.declared.Refusal.TheVariants.{BadProbability}
 use Rattle.probabilities.specs.Calls.{probability_fault}
 use Rattle.graph_probabilities.proofs.write_priors.Goals as goal
 
-pub made_prior-x-requires : goal.made_prior-x-requires
+pub made_prior-requires : goal.made_prior-requires
 unfolding probability_fault
-made_prior-x-requires c =
+made_prior-requires c =
     unless_done _ (BadProbability c.loop-m.m) (first_all (probability_fault c.args.probabilities.now) _
     c.requires.probabilities_value c.loop-m.m c.loop-m-test.true)

@@ -1,13 +1,9 @@
 -- `graph_probabilities::write_priors` meets its contract. The invariant: the priors passed are those of the probabilities passed. Assumes nothing.
 use mathlib.Core.List.{map}
 use mathlib.Core.Path.{◌≡◌}
-use Prim.Native.Nat.{◌-◌, ◌≤◌}
-use lib.ListN.{length, take}
+use lib.ListN.{take}
 use Rattle.probabilities.specs.Scaled.{prior_of}
 use Rattle.graph_probabilities.proofs.write_priors.Given as goal
 
 abbrev pub invariant-loop-m : goal.invariant-loop-m
-invariant-loop-m l = (l.m ≤ length l.probabilities) × (length l.priors ≡ length l.initial.priors) × (take l.m l.priors ≡ map prior_of (take l.m l.probabilities))
-
-abbrev pub decreases-loop-m : goal.decreases-loop-m
-decreases-loop-m l = length l.probabilities - l.m
+invariant-loop-m l = take l.m l.priors ≡ map prior_of (take l.m l.probabilities)

@@ -3,14 +3,15 @@ use mathlib.Core.Path.{◌≡◌, refl, sym, ◌∙◌}
 use Prim.Native.Nat.{◌+◌, ◌-◌}
 use native.Mathlib.Omega.{arith}
 use lib.ListN.{length}
+use Rattle.std.proofs.Common.{rules}
 use Rattle.refusals.specs.Tests.{first_of}
 use Rattle.graph_lists.specs.Model.{detector_fault}
 use Rattle.graph_lists.proofs.ModelTests.{front_rest, front_out}
 use Rattle.graph_tests.proofs.detectors_fault.Goals as goal
 
-pub returns-then-ds-eq0 : goal.returns-then-ds-eq0
+pub returns-then-is_empty : goal.returns-then-is_empty
 unfolding first_of
-returns-then-ds-eq0 c = rw c.if-ds-eq0.true refl
+returns-then-is_empty c = let e : length c.args.ds.now ≡ 0 = search rules in rw e refl
 
 pub returns-then-checks-last : goal.returns-then-checks-last
 returns-then-checks-last c =

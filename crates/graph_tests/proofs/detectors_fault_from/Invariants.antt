@@ -8,7 +8,4 @@ use Rattle.graph_lists.specs.Model.{detector_fault}
 use Rattle.graph_tests.proofs.detectors_fault_from.Given as goal
 
 abbrev pub invariant-loop-i : goal.invariant-loop-i
-invariant-loop-i l = (l.from ≤ l.i) × (l.i - l.from ≤ length l.ds - l.from) × (first_of (l.i - l.from) (λ j. detector_fault l.checks l.m l.ds (l.from + j)) ≡ Ok tt)
-
-abbrev pub decreases-loop-i : goal.decreases-loop-i
-decreases-loop-i l = length l.ds - l.i
+invariant-loop-i l = (l.i - l.from ≤ length l.ds - l.from) × (first_of (l.i - l.from) (λ j. detector_fault l.checks l.m l.ds (l.from + j)) ≡ Ok tt)

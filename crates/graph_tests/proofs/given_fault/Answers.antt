@@ -5,6 +5,7 @@ use mathlib.Core.Path.{◌≡◌, refl}
 use Prim.Native.Nat.{ℕ}
 use lib.Ieee.{Float, nan, le}
 use lib.ListN.{get_or}
+use Rattle.std.specs.Prelude.{Ok, Err}
 use Rattle.refusals.specs.Tests.{unless}
 use Rattle.refusals.specs.Refusal.{Answer}
 use Rattle.refusals.specs.declared.Refusal.{Refusal}
@@ -26,7 +27,14 @@ asked : (g : Given) (xs : List Float) (m : ℕ) (low high : Float) (good : Bool)
     low ≡ lowest_of g → high ≡ highest_of g → good ≡ (le low x && le x high) → r ≡ bad_number g m → a ≡ unless good r → a ≡ given_fault g xs m
 asked g xs m low high good r a e f h k l = rw (l, h, e, f, k) (bounded g xs m)
 
+pub returns-then-not-within : goal.returns-then-not-within
+unfolding unless
+returns-then-not-within c =
+    asked c.args.given c.args.numbers.now c.args.m c.lowest.result c.highest.result c.within.result c.bad_number.result (Err c.bad_number.result)
+    c.lowest.ensures c.highest.ensures c.within.ensures c.bad_number.ensures (rw c.if-not-within.true refl)
+
 pub returns : goal.returns
+unfolding unless
 returns c =
-    asked c.args.given c.args.numbers.now c.args.m c.lowest.result c.highest.result c.within-good.result c.bad_number.result c.unless.result
-    c.lowest.ensures c.highest.ensures c.within-good.ensures c.bad_number.ensures c.unless.ensures
+    asked c.args.given c.args.numbers.now c.args.m c.lowest.result c.highest.result c.within.result (bad_number c.args.given c.args.m) (Ok tt)
+    c.lowest.ensures c.highest.ensures c.within.ensures refl (rw c.if-not-within.false refl)

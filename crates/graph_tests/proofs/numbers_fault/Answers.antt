@@ -1,29 +1,20 @@
--- `graph_tests::numbers_fault` meets its contract. The invariant: none of the first m numbers is refused. Assumes nothing.
-use mathlib.Core.Path.{refl}
-use native.Mathlib.Omega.{arith}
-use Rattle.refusals.proofs.Tests.{first_refuse, first_go}
-use Rattle.refusals.specs.Tests.{first_of}
+-- `graph_tests::numbers_fault` meets its contract. The invariant: none of the first i numbers is refused. Assumes nothing.
+use mathlib.Core.Path.{refl, sym, ap, ◌∙◌}
+use Rattle.std.proofs.lemmas.Result.{err_from_is_err_and}
+use Rattle.refusals.proofs.Tests.{first_turn, first_stop}
+use Rattle.refusals.specs.Tests.{is_done, first_of}
 use Rattle.graph_tests.specs.Numbers.{given_fault}
-use mathlib.Core.Path.{ap}
-use mathlib.Core.Bool.{not}
 use Rattle.graph_tests.proofs.numbers_fault.Goals as goal
 
-pub loop-m-init : goal.loop-m-init
+pub loop-i-init : goal.loop-i-init
 unfolding first_of
-loop-m-init c = (omega arith, refl)
+loop-i-init c = refl
 
-pub returns-then-not-is_done : goal.returns-then-not-is_done
-returns-then-not-is_done c =
-    first_refuse (given_fault c.args.given
-    c.args.numbers.now)
-    c.loop-m.m _ _ _ c.loop-m-test.true
-    c.loop-m.invariant.1 c.given_fault-a.ensures c.is_done.ensures (ap not c.if-not-is_done.true)
+pub returns-in_err-given_fault : goal.returns-in_err-given_fault
+returns-in_err-given_fault c =
+    let p = err_from_is_err_and c.from_residual.result c.from_residual.ensures.1 in
+    let h = c.in_err-given_fault.ensures in
+    rw (p.1, p.2) (h ∙ sym (first_stop (given_fault c.args.given c.args.numbers.now) c.loop-i.i _ c.loop-i-test.true c.loop-i.invariant (ap is_done (sym h))))
 
-pub loop-m-preserved : goal.loop-m-preserved
-loop-m-preserved c = (
-  omega arith,
-  first_go (given_fault c.args.given
-      c.args.numbers.now)
-      c.loop-m.m _ _
-      c.loop-m.invariant.1 c.given_fault-a.ensures c.is_done.ensures (ap not c.if-not-is_done.false),
-)
+pub loop-i-preserved : goal.loop-i-preserved
+loop-i-preserved c = first_turn (given_fault c.args.given c.args.numbers.now) c.loop-i.i c.loop-i.invariant (sym c.in_ok-given_fault.ensures)

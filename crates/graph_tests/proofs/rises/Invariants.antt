@@ -1,13 +1,9 @@
 -- `graph_tests::rises` meets its contract. The invariant: no offset up to r is below the one before it. Assumes nothing.
 use mathlib.Core.Bool.{true}
 use mathlib.Core.Path.{◌≡◌}
-use Prim.Native.Nat.{◌-◌, ◌≤◌}
 use Rattle.numbers.specs.Loops.{every}
 use Rattle.graph_lists.specs.Model.{rising}
 use Rattle.graph_tests.proofs.rises.Given as goal
 
 abbrev pub invariant-loop-r : goal.invariant-loop-r
-invariant-loop-r l = (l.r ≤ l.rows) × (every l.r (rising l.off) ≡ true)
-
-abbrev pub decreases-loop-r : goal.decreases-loop-r
-decreases-loop-r l = l.rows - l.r
+invariant-loop-r l = every l.r (rising l.off) ≡ true

@@ -1,7 +1,6 @@
 -- `graph_tests::seven::checks_good` meets its contract. The invariant: the first c checks are good; a check's part lies within the entries, which the offsets cut. Assumes nothing.
 use mathlib.Core.Path.{◌≡◌}
 use Prim.Native.Nat.{◌≤◌}
-use native.Mathlib.Omega.{arith}
 use lib.ListN.{length}
 use Rattle.numbers.proofs.Cases.{every_refuse, every_go}
 use Rattle.graph_lists.specs.QuickTest.{check_good}
@@ -30,8 +29,6 @@ returns-then-not-rises_below c = every_refuse (check_good c.args.mechanisms c.ar
     c.loop-c-test.true (here (goal.at.returns-then-not-rises_below c).After-rises_below) (ap not c.if-not-rises_below.true)
 
 pub loop-c-preserved : goal.loop-c-preserved
-loop-c-preserved c = (
-  omega arith,
-  every_go (check_good c.args.mechanisms c.args.check_offset.now c.args.check_var.now) c.loop-c.c _
-      c.loop-c.invariant.1 (here (goal.at.loop-c-preserved c).After-rises_below) (ap not c.if-not-rises_below.false),
-)
+loop-c-preserved c =
+    every_go (check_good c.args.mechanisms c.args.check_offset.now c.args.check_var.now) c.loop-c.c _
+    c.loop-c.invariant (here (goal.at.loop-c-preserved c).After-rises_below) (ap not c.if-not-rises_below.false)

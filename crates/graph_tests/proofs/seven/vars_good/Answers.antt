@@ -38,9 +38,7 @@ returns-then-not-entries_good c = every_refuse (var_good (graph c.args.checks c.
     c.loop-v-test.true (here (goal.at.returns-then-not-entries_good c).After-entries_good) (ap not c.if-not-entries_good.true)
 
 pub loop-v-preserved : goal.loop-v-preserved
-loop-v-preserved c = (
-  omega arith,
-  every_go (var_good (graph c.args.checks c.args.mechanisms c.args.check_var.now c.args.check_offset.now c.args.var_check.now c.args.var_message.now c.args.var_offset.now))
-      c.loop-v.v _
-      c.loop-v.invariant.1 (here (goal.at.loop-v-preserved c).After-entries_good) (ap not c.if-not-entries_good.false),
-)
+loop-v-preserved c =
+    every_go (var_good (graph c.args.checks c.args.mechanisms c.args.check_var.now c.args.check_offset.now c.args.var_check.now c.args.var_message.now c.args.var_offset.now))
+    c.loop-v.v _
+    c.loop-v.invariant (here (goal.at.loop-v-preserved c).After-entries_good) (ap not c.if-not-entries_good.false)

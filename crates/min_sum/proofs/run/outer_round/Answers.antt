@@ -7,23 +7,10 @@ use Rattle.min_sum.proofs.Rounds.{round_starts, round_turn, round_done}
 use Rattle.min_sum.proofs.run.outer_round.Goals as goal
 
 pub loop-i-init : goal.loop-i-init
-loop-i-init c = (
-  omega arith,
-  c.clear.auto.xs ∙ c.requires.run_lists.messages.to_variables,
-  c.from_variables.auto.v_to_c ∙ c.requires.run_lists.messages.to_checks,
-  c.requires.run_lists.averages,
-  round_starts _ _ _ _ _ _ _ _ _ _ (c.clear.ensures ∙ ap (λ n. replicate n zero⁺) c.requires.run_lists.messages.to_variables) c.from_variables.ensures,
-)
+loop-i-init c = round_starts _ _ _ _ _ _ _ _ _ _ (c.clear.ensures ∙ ap (λ n. replicate n zero⁺) c.requires.run_lists.messages.to_variables) c.from_variables.ensures
 
 pub loop-i-preserved : goal.loop-i-preserved
-loop-i-preserved c = (
-  omega arith,
-  c.iterate.auto.c_to_v ∙ c.loop-i.invariant.1,
-  c.iterate.auto.v_to_c ∙ c.loop-i.invariant.2,
-  c.iterate.auto.ewa_posterior ∙ c.loop-i.invariant.3,
-  round_turn _ _ _ _ _ _
-      c.loop-i.i _ _ _ _ c.weight.ensures c.loop-i.invariant.4 c.iterate.ensures,
-)
+loop-i-preserved c = round_turn _ _ _ _ _ _ c.loop-i.i _ _ _ _ c.weight.ensures c.loop-i.invariant c.iterate.ensures
 
 pub returns : goal.returns
-returns c = round_done _ _ _ _ _ _ _ c.loop-i.i _ _ _ _ (omega arith) c.loop-i.invariant.4
+returns c = round_done _ _ _ _ _ _ _ c.loop-i.i _ _ _ _ (omega arith) c.loop-i.invariant

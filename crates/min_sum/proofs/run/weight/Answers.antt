@@ -1,20 +1,17 @@
 -- `min_sum::run::weight` meets its contract. The test says whether the iteration is the very first. Assumes nothing.
-use mathlib.Core.Path.{◌≡◌, sym, ◌∙◌}
-use mathlib.Core.Bool.{◌&&◌}
-use lib.Dec.{eqb}
 use lib.Ieee.{of_bits}
+use Rattle.std.proofs.Common.{eq-eqb, ne_eqb}
 use Rattle.min_sum_pass.specs.MinSum.{weight_of}
 use Rattle.min_sum.proofs.run.weight.Goals as goal
-use Rattle.min_sum.proofs.run.weight.Goals.{After-both}
+use Rattle.min_sum.proofs.run.weight.Goals.{else-i-eq0-via-then-i-eq0+else-outer-eq0, else-i-eq0-via-else-i-eq0}
 
--- the test says whether the iteration is the very first
-first : (c : After-both) → c.both.result ≡ (eqb c.args.i 0 && eqb c.args.outer 0)
-first c = rw (c.both.ensures, c.same_number.ensures, c.same_number-2.ensures)
-
-pub returns-then-both : goal.returns-then-both
+pub returns-then-outer-eq0 : goal.returns-then-outer-eq0
 unfolding weight_of of_bits
-returns-then-both c = rw (sym (first (goal.at.returns-then-both c).After-both) ∙ c.if-both.true)
+returns-then-outer-eq0 c = rw (eq-eqb c.args.i 0 c.if-i-eq0.true, eq-eqb c.args.outer 0 c.if-outer-eq0.true)
 
 pub returns : goal.returns
 unfolding weight_of of_bits
-returns c = rw (sym (first (goal.at.returns c).After-both) ∙ c.if-both.false)
+returns c = elim c.else-i-eq0.branch [
+  | else-i-eq0-via-then-i-eq0+else-outer-eq0 w ↦ rw (eq-eqb c.args.i 0 w.if-i-eq0.true, ne_eqb c.args.outer 0 w.if-outer-eq0.false)
+  | else-i-eq0-via-else-i-eq0 w ↦ rw (ne_eqb c.args.i 0 w.if-i-eq0.false)
+]

@@ -1,11 +1,15 @@
 -- `min_sum::tests::fault` meets its contract. The graph's tests refuse, or those of the run answer. Assumes nothing.
-use Rattle.refusals.proofs.Tests.{or_refused, or_passed}
-use mathlib.Core.Path.{ap}
-use mathlib.Core.Bool.{not}
+use mathlib.Core.Path.{sym, ap, ◌∙◌}
+use Rattle.std.proofs.lemmas.Result.{err_from_is_err_and}
+use Rattle.refusals.specs.Tests.{is_done}
+use Rattle.refusals.proofs.Tests.{or_first, or_second}
 use Rattle.min_sum.proofs.tests.fault.Goals as goal
 
-pub returns-then-not-is_done : goal.returns-then-not-is_done
-returns-then-not-is_done c = or_refused _ _ _ _ c.check_graph-a.ensures c.is_done.ensures (ap not c.if-not-is_done.true)
+pub returns-in_err-check_graph : goal.returns-in_err-check_graph
+returns-in_err-check_graph c =
+    let p = err_from_is_err_and c.from_residual.result c.from_residual.ensures.1 in
+    let h = c.in_err-check_graph.ensures in
+    rw (p.1, p.2) (h ∙ sym (or_first _ _ (ap is_done (sym h))))
 
 pub returns : goal.returns
-returns c = or_passed _ _ _ _ _ c.check_graph-a.ensures c.is_done.ensures (ap not c.if-not-is_done.false) c.run_fault.ensures
+returns c = c.run_fault.ensures ∙ sym (or_second _ _ (sym c.in_ok-check_graph.ensures))
