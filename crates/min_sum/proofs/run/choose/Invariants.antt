@@ -3,13 +3,13 @@ use mathlib.Core.Path.{◌≡◌}
 use mathlib.Core.List.{[]}
 use Prim.Native.Nat.{◌≤◌, ◌-◌}
 use lib.ListN.{length, take}
-use Rattle.graph_messages.specs.Needs.{of_variables}
+use Rattle.graph_messages.specs.Sides.{variables_alone}
 use Rattle.min_sum_pass.specs.MinSum.{messages, belief, chosen_to}
 use Rattle.min_sum.proofs.run.choose.Given as goal
 
 abbrev pub invariant-loop-v : goal.invariant-loop-v
-invariant-loop-v l = (l.v ≤ length l.priors) × (length l.posterior ≡ length l.priors)
-    × (take l.v l.posterior ≡ chosen_to (of_variables (length l.priors) l.var_message l.var_offset) l.priors (belief (messages l.c_to_v []) l.ewa_posterior) l.v)
+invariant-loop-v l = (l.v ≤ length l.priors) × (length l.posterior ≡ l.variables.rows)
+    × (take l.v l.posterior ≡ chosen_to (variables_alone l.variables) l.priors (belief (messages l.c_to_v []) l.ewa_posterior) l.v)
 
 abbrev pub decreases-loop-v : goal.decreases-loop-v
 decreases-loop-v l = length l.priors - l.v

@@ -1,5 +1,5 @@
 -- `min_sum::run::outer_round` meets its contract. The invariant: the iterations passed are those of the round, from the messages that the first two calls set. Assumes nothing.
-use mathlib.Core.Path.{ap, ◌∙◌}
+use mathlib.Core.Path.{sym, ap, ◌∙◌}
 use native.Mathlib.Omega.{arith}
 use lib.ListN.{replicate}
 use Rattle.numbers.specs.Floats.{zero⁺}
@@ -12,7 +12,7 @@ loop-i-init c = (
   c.clear.auto.xs ∙ c.requires.run_lists.messages.to_variables,
   c.from_variables.auto.v_to_c ∙ c.requires.run_lists.messages.to_checks,
   c.requires.run_lists.averages,
-  round_starts _ _ _ _ _ _ _ _ _ _ (c.clear.ensures ∙ ap (λ n. replicate n zero⁺) c.requires.run_lists.messages.to_variables) c.from_variables.ensures,
+  round_starts _ _ _ _ _ _ _ _ _ _ (c.clear.ensures ∙ ap (λ n. replicate n zero⁺) (c.requires.run_lists.messages.to_variables ∙ sym c.requires.one_graph.edges)) c.from_variables.ensures,
 )
 
 pub loop-i-preserved : goal.loop-i-preserved

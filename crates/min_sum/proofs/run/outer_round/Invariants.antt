@@ -4,14 +4,14 @@ use mathlib.Core.List.{[]}
 use Prim.Native.Nat.{◌≤◌, ◌-◌}
 use lib.ListN.{length}
 use Rattle.graph_lists.specs.Messages.{by_place}
-use Rattle.graph_messages.specs.Needs.{walked}
+use Rattle.graph_messages.specs.Sides.{sides}
 use Rattle.min_sum_pass.specs.MinSum.{messages, belief, outer_round_to}
 use Rattle.min_sum.proofs.run.outer_round.Given as goal
 
 abbrev pub invariant-loop-i : goal.invariant-loop-i
-invariant-loop-i l = (l.i ≤ l.inner) × (length l.c_to_v ≡ length l.check_var) × (length l.v_to_c ≡ length l.check_var) × (length l.ewa_posterior ≡ length l.priors)
+invariant-loop-i l = (l.i ≤ l.inner) × (length l.c_to_v ≡ l.variables.n) × (length l.v_to_c ≡ l.variables.n) × (length l.ewa_posterior ≡ l.variables.rows)
     × (belief (messages l.c_to_v l.v_to_c) l.ewa_posterior
-    ≡ outer_round_to by_place (walked (length l.syndrome) (length l.priors) l.check_var l.check_offset l.var_message l.var_offset) l.serial l.scale l.syndrome l.priors l.outer (belief (messages [] []) l.initial.ewa_posterior) l.i)
+    ≡ outer_round_to by_place (sides l.checks l.variables) l.serial l.scale l.syndrome l.priors l.outer (belief (messages [] []) l.initial.ewa_posterior) l.i)
 
 abbrev pub decreases-loop-i : goal.decreases-loop-i
 decreases-loop-i l = l.inner - l.i
