@@ -1,11 +1,14 @@
 // The run: an iteration with its weight, outer rounds, and the end rule.
 ghost use Rattle.std.specs.Prelude.{◌≡◌, true, false, [], length};
 ghost use Rattle.graph_lists.specs.Messages.{by_place};
-ghost use Rattle.graph_messages.specs.Needs.{Walks, walked, of_variables, RunLists};
+ghost use Rattle.graph_messages.specs.Needs.{Walks, walked, RunLists};
+ghost use Rattle.graph_messages.specs.Sides.{sides, variables_alone};
 ghost use Rattle.min_sum_pass.specs.MinSum.{messages, belief, weight_of, iterated, outer_round as outer_round_of};
 ghost use Rattle.min_sum_pass.specs.MinSum.{all_rounds as all_rounds_of, chosen as chosen_of, chosen_to, min_sum_bp};
+ghost use Rattle.min_sum_pass.specs.Needs.{OneGraph};
 ghost use Rattle.min_sum.specs.Beliefs.{beliefs_lists, beliefs_outcome, ran as ran_of};
 
+use graph_messages::rows::Rows;
 use refusals::Refusal;
 
 // The weight of an iteration: 1 in the very first, else 0.3.
@@ -24,30 +27,25 @@ fn iterate_parallel(
     scale: f64,
     syndrome: &[u8],
     priors: &[f64],
-    check_var: &[u32],
-    check_offset: &[u32],
-    var_message: &[u32],
-    var_offset: &[u32],
+    checks: &Rows<'_>,
+    variables: &Rows<'_>,
     c_to_v: &mut [f64],
     v_to_c: &mut [f64],
     ewa_posterior: &mut [f64],
 )
-    requires walks { Walks (length syndrome.now) (length priors.now) check_var.now check_offset.now }
-    requires walks_2 { Walks (length priors.now) (length check_var.now) var_message.now var_offset.now }
-    requires run_lists { RunLists (length check_var.now) (length priors.now) c_to_v.old v_to_c.old ewa_posterior.old }
-    ensures { let g = walked (length syndrome.now) (length priors.now) check_var.now
-        check_offset.now var_message.now var_offset.now in
+    requires one_graph { OneGraph checks.now variables.now syndrome.now priors.now }
+    requires run_lists { RunLists variables.now.n variables.now.rows c_to_v.old v_to_c.old ewa_posterior.old }
+    ensures { let g = sides checks.now variables.now in
         let before = belief (messages c_to_v.old v_to_c.old) ewa_posterior.old in
         let after = messages c_to_v.new v_to_c.new in
         belief after ewa_posterior.new
         ≡ iterated by_place g false scale syndrome.now priors.now weight before }
 {
-    min_sum_pass::pass::parallel_checks(scale, syndrome, check_var, check_offset, v_to_c, c_to_v);
+    min_sum_pass::pass::parallel_checks(scale, syndrome, checks, v_to_c, c_to_v);
     min_sum_pass::pass::update_and_average(
         weight,
         priors,
-        var_message,
-        var_offset,
+        variables,
         c_to_v,
         v_to_c,
         ewa_posterior,
@@ -60,43 +58,22 @@ fn iterate_serial(
     scale: f64,
     syndrome: &[u8],
     priors: &[f64],
-    check_var: &[u32],
-    check_offset: &[u32],
-    var_message: &[u32],
-    var_offset: &[u32],
+    checks: &Rows<'_>,
+    variables: &Rows<'_>,
     c_to_v: &mut [f64],
     v_to_c: &mut [f64],
     ewa_posterior: &mut [f64],
 )
-    requires walks { Walks (length syndrome.now) (length priors.now) check_var.now check_offset.now }
-    requires walks_2 { Walks (length priors.now) (length check_var.now) var_message.now var_offset.now }
-    requires run_lists { RunLists (length check_var.now) (length priors.now) c_to_v.old v_to_c.old ewa_posterior.old }
-    ensures { let g = walked (length syndrome.now) (length priors.now) check_var.now
-        check_offset.now var_message.now var_offset.now in
+    requires one_graph { OneGraph checks.now variables.now syndrome.now priors.now }
+    requires run_lists { RunLists variables.now.n variables.now.rows c_to_v.old v_to_c.old ewa_posterior.old }
+    ensures { let g = sides checks.now variables.now in
         let before = belief (messages c_to_v.old v_to_c.old) ewa_posterior.old in
         let after = messages c_to_v.new v_to_c.new in
         belief after ewa_posterior.new
         ≡ iterated by_place g true scale syndrome.now priors.now weight before }
 {
-    min_sum_pass::pass::serial_checks(
-        scale,
-        syndrome,
-        priors,
-        check_var,
-        check_offset,
-        var_message,
-        var_offset,
-        c_to_v,
-        v_to_c,
-    );
-    min_sum_pass::pass::average(
-        weight,
-        priors,
-        var_message,
-        var_offset,
-        c_to_v,
-        ewa_posterior,
-    );
+    min_sum_pass::pass::serial_checks(scale, syndrome, priors, checks, variables, c_to_v, v_to_c);
+    min_sum_pass::pass::average(weight, priors, variables, c_to_v, ewa_posterior);
 }
 
 // An iteration, serial or not.
@@ -106,19 +83,15 @@ fn iterate(
     scale: f64,
     syndrome: &[u8],
     priors: &[f64],
-    check_var: &[u32],
-    check_offset: &[u32],
-    var_message: &[u32],
-    var_offset: &[u32],
+    checks: &Rows<'_>,
+    variables: &Rows<'_>,
     c_to_v: &mut [f64],
     v_to_c: &mut [f64],
     ewa_posterior: &mut [f64],
 )
-    requires walks { Walks (length syndrome.now) (length priors.now) check_var.now check_offset.now }
-    requires walks_2 { Walks (length priors.now) (length check_var.now) var_message.now var_offset.now }
-    requires run_lists { RunLists (length check_var.now) (length priors.now) c_to_v.old v_to_c.old ewa_posterior.old }
-    ensures { let g = walked (length syndrome.now) (length priors.now) check_var.now
-        check_offset.now var_message.now var_offset.now in
+    requires one_graph { OneGraph checks.now variables.now syndrome.now priors.now }
+    requires run_lists { RunLists variables.now.n variables.now.rows c_to_v.old v_to_c.old ewa_posterior.old }
+    ensures { let g = sides checks.now variables.now in
         let before = belief (messages c_to_v.old v_to_c.old) ewa_posterior.old in
         let after = messages c_to_v.new v_to_c.new in
         belief after ewa_posterior.new
@@ -130,10 +103,8 @@ fn iterate(
             scale,
             syndrome,
             priors,
-            check_var,
-            check_offset,
-            var_message,
-            var_offset,
+            checks,
+            variables,
             c_to_v,
             v_to_c,
             ewa_posterior,
@@ -145,10 +116,8 @@ fn iterate(
         scale,
         syndrome,
         priors,
-        check_var,
-        check_offset,
-        var_message,
-        var_offset,
+        checks,
+        variables,
         c_to_v,
         v_to_c,
         ewa_posterior,
@@ -163,26 +132,22 @@ fn outer_round(
     scale: f64,
     syndrome: &[u8],
     priors: &[f64],
-    check_var: &[u32],
-    check_offset: &[u32],
-    var_message: &[u32],
-    var_offset: &[u32],
+    checks: &Rows<'_>,
+    variables: &Rows<'_>,
     c_to_v: &mut [f64],
     v_to_c: &mut [f64],
     ewa_posterior: &mut [f64],
 )
-    requires walks { Walks (length syndrome.now) (length priors.now) check_var.now check_offset.now }
-    requires walks_2 { Walks (length priors.now) (length check_var.now) var_message.now var_offset.now }
-    requires run_lists { RunLists (length check_var.now) (length priors.now) c_to_v.old v_to_c.old ewa_posterior.old }
-    ensures { let g = walked (length syndrome.now) (length priors.now) check_var.now
-        check_offset.now var_message.now var_offset.now in
+    requires one_graph { OneGraph checks.now variables.now syndrome.now priors.now }
+    requires run_lists { RunLists variables.now.n variables.now.rows c_to_v.old v_to_c.old ewa_posterior.old }
+    ensures { let g = sides checks.now variables.now in
         let before = belief (messages c_to_v.old v_to_c.old) ewa_posterior.old in
         let after = messages c_to_v.new v_to_c.new in
         belief after ewa_posterior.new
         ≡ outer_round_of by_place g serial scale syndrome.now priors.now inner outer before }
 {
     graph_messages::clear(c_to_v);
-    graph_messages::from_variables(check_var, ewa_posterior, v_to_c);
+    graph_messages::from_variables(checks.entries, ewa_posterior, v_to_c);
     for i in 0..inner {
         iterate(
             serial,
@@ -190,10 +155,8 @@ fn outer_round(
             scale,
             syndrome,
             priors,
-            check_var,
-            check_offset,
-            var_message,
-            var_offset,
+            checks,
+            variables,
             c_to_v,
             v_to_c,
             ewa_posterior,
@@ -208,19 +171,15 @@ fn two_outer_rounds(
     scale: f64,
     syndrome: &[u8],
     priors: &[f64],
-    check_var: &[u32],
-    check_offset: &[u32],
-    var_message: &[u32],
-    var_offset: &[u32],
+    checks: &Rows<'_>,
+    variables: &Rows<'_>,
     c_to_v: &mut [f64],
     v_to_c: &mut [f64],
     ewa_posterior: &mut [f64],
 )
-    requires walks { Walks (length syndrome.now) (length priors.now) check_var.now check_offset.now }
-    requires walks_2 { Walks (length priors.now) (length check_var.now) var_message.now var_offset.now }
-    requires run_lists { RunLists (length check_var.now) (length priors.now) c_to_v.old v_to_c.old ewa_posterior.old }
-    ensures { let g = walked (length syndrome.now) (length priors.now) check_var.now
-        check_offset.now var_message.now var_offset.now in
+    requires one_graph { OneGraph checks.now variables.now syndrome.now priors.now }
+    requires run_lists { RunLists variables.now.n variables.now.rows c_to_v.old v_to_c.old ewa_posterior.old }
+    ensures { let g = sides checks.now variables.now in
         let before = belief (messages c_to_v.old v_to_c.old) ewa_posterior.old in
         let after = messages c_to_v.new v_to_c.new in
         belief after ewa_posterior.new
@@ -234,10 +193,8 @@ fn two_outer_rounds(
         scale,
         syndrome,
         priors,
-        check_var,
-        check_offset,
-        var_message,
-        var_offset,
+        checks,
+        variables,
         c_to_v,
         v_to_c,
         ewa_posterior,
@@ -249,10 +206,8 @@ fn two_outer_rounds(
         scale,
         syndrome,
         priors,
-        check_var,
-        check_offset,
-        var_message,
-        var_offset,
+        checks,
+        variables,
         c_to_v,
         v_to_c,
         ewa_posterior,
@@ -266,19 +221,15 @@ fn all_rounds(
     scale: f64,
     syndrome: &[u8],
     priors: &[f64],
-    check_var: &[u32],
-    check_offset: &[u32],
-    var_message: &[u32],
-    var_offset: &[u32],
+    checks: &Rows<'_>,
+    variables: &Rows<'_>,
     c_to_v: &mut [f64],
     v_to_c: &mut [f64],
     ewa_posterior: &mut [f64],
 )
-    requires walks { Walks (length syndrome.now) (length priors.now) check_var.now check_offset.now }
-    requires walks_2 { Walks (length priors.now) (length check_var.now) var_message.now var_offset.now }
-    requires run_lists { RunLists (length check_var.now) (length priors.now) c_to_v.old v_to_c.old ewa_posterior.old }
-    ensures { let g = walked (length syndrome.now) (length priors.now) check_var.now
-        check_offset.now var_message.now var_offset.now in
+    requires one_graph { OneGraph checks.now variables.now syndrome.now priors.now }
+    requires run_lists { RunLists variables.now.n variables.now.rows c_to_v.old v_to_c.old ewa_posterior.old }
+    ensures { let g = sides checks.now variables.now in
         let after = messages c_to_v.new v_to_c.new in
         belief after ewa_posterior.new
         ≡ all_rounds_of by_place g serial scale syndrome.now priors.now n }
@@ -292,10 +243,8 @@ fn all_rounds(
             scale,
             syndrome,
             priors,
-            check_var,
-            check_offset,
-            var_message,
-            var_offset,
+            checks,
+            variables,
             c_to_v,
             v_to_c,
             ewa_posterior,
@@ -308,10 +257,8 @@ fn all_rounds(
         scale,
         syndrome,
         priors,
-        check_var,
-        check_offset,
-        var_message,
-        var_offset,
+        checks,
+        variables,
         c_to_v,
         v_to_c,
         ewa_posterior,
@@ -334,20 +281,19 @@ fn chosen(belief: f64, raw: f64) -> f64
 // The end rule, for all variables.
 fn choose(
     priors: &[f64],
-    var_message: &[u32],
-    var_offset: &[u32],
+    variables: &Rows<'_>,
     c_to_v: &[f64],
     ewa_posterior: &[f64],
     posterior: &mut [f64],
 )
-    requires walks { Walks (length priors.now) (length c_to_v.now) var_message.now var_offset.now }
-    requires ewa_posterior_len { (length ewa_posterior.now ≡ length priors.now) × (length posterior.old ≡ length priors.now) }
-    ensures { let g = of_variables (length priors.now) var_message.now var_offset.now in
-        let before = belief (messages c_to_v.now []) ewa_posterior.now in
-        posterior.new ≡ chosen_to g priors.now before (length priors.now) }
+    requires priors_len { length priors.now ≡ variables.now.rows }
+    requires c_to_v_len { length c_to_v.now ≡ variables.now.n }
+    requires ewa_posterior_len { (length ewa_posterior.now ≡ variables.now.rows) × (length posterior.old ≡ variables.now.rows) }
+    ensures { let before = belief (messages c_to_v.now []) ewa_posterior.now in
+        posterior.new ≡ chosen_to (variables_alone variables.now) priors.now before variables.now.rows }
 {
     for (v, x) in posterior.iter_mut().enumerate() {
-        let raw = min_sum_pass::variable::raw_posterior(v, priors, var_message, var_offset, c_to_v);
+        let raw = min_sum_pass::variable::raw_posterior(v, priors, variables, c_to_v);
         *x = chosen(ewa_posterior[v], raw);
     }
 }
@@ -359,21 +305,17 @@ pub(crate) fn min_sum_bp(
     scale: f64,
     syndrome: &[u8],
     priors: &[f64],
-    check_var: &[u32],
-    check_offset: &[u32],
-    var_message: &[u32],
-    var_offset: &[u32],
+    checks: &Rows<'_>,
+    variables: &Rows<'_>,
     c_to_v: &mut [f64],
     v_to_c: &mut [f64],
     ewa_posterior: &mut [f64],
     posterior: &mut [f64],
 )
-    requires walks { Walks (length syndrome.now) (length priors.now) check_var.now check_offset.now }
-    requires walks_2 { Walks (length priors.now) (length check_var.now) var_message.now var_offset.now }
-    requires run_lists { RunLists (length check_var.now) (length priors.now) c_to_v.old v_to_c.old ewa_posterior.old }
-    requires posterior_len { length posterior.old ≡ length priors.now }
-    ensures { let g = walked (length syndrome.now) (length priors.now) check_var.now
-        check_offset.now var_message.now var_offset.now in
+    requires one_graph { OneGraph checks.now variables.now syndrome.now priors.now }
+    requires run_lists { RunLists variables.now.n variables.now.rows c_to_v.old v_to_c.old ewa_posterior.old }
+    requires posterior_len { length posterior.old ≡ variables.now.rows }
+    ensures { let g = sides checks.now variables.now in
         posterior.new ≡ min_sum_bp by_place g serial scale syndrome.now priors.now n }
 {
     all_rounds(
@@ -382,22 +324,13 @@ pub(crate) fn min_sum_bp(
         scale,
         syndrome,
         priors,
-        check_var,
-        check_offset,
-        var_message,
-        var_offset,
+        checks,
+        variables,
         c_to_v,
         v_to_c,
         ewa_posterior,
     );
-    choose(
-        priors,
-        var_message,
-        var_offset,
-        c_to_v,
-        ewa_posterior,
-        posterior,
-    );
+    choose(priors, variables, c_to_v, ewa_posterior, posterior);
 }
 
 // Past the tests: the run, 30 with the first mechanism whose belief is not finite, and zeroed work lists.
@@ -426,16 +359,26 @@ pub(crate) fn ran(
         beliefs_outcome result after
         ≡ ran_of (length check_var.now) g (min_sum_bp by_place g serial scale syndrome.now priors.now n) }
 {
+    let checks = Rows {
+        rows: syndrome.len(),
+        n: priors.len(),
+        entries: check_var,
+        offsets: check_offset,
+    };
+    let variables = Rows {
+        rows: priors.len(),
+        n: check_var.len(),
+        entries: var_message,
+        offsets: var_offset,
+    };
     min_sum_bp(
         n,
         serial,
         scale,
         syndrome,
         priors,
-        check_var,
-        check_offset,
-        var_message,
-        var_offset,
+        &checks,
+        &variables,
         c_to_v,
         v_to_c,
         ewa_posterior,

@@ -3,14 +3,13 @@ use mathlib.Core.Path.{◌≡◌, refl, sym, ap, ◌∙◌}
 use mathlib.Core.Bool.{Bool, true, false, not, cond}
 use mathlib.Core.List.{List, ◌++◌, foldl}
 use mathlib.Core.Logic.{⊎_elim}
-use Prim.Native.Nat.{ℕ, ◌+◌, ◌-◌, ◌≤◌}
+use Prim.Native.Nat.{ℕ, suc, ◌+◌, ◌-◌, ◌≤◌}
 use native.Mathlib.Omega.{arith}
-use native.Mathlib.Numerals.{add-one}
 use lib.Dec.{eqb, ltb}
 use lib.Ieee.{Float}
 use lib.ListN.{length, get_or, take, drop, take-append-drop}
 use lib.Seq.{drop-drop}
-use Rattle.numbers.specs.Loops.{part, spliced}
+use Rattle.numbers.specs.Loops.{part, spliced, row}
 use Rattle.numbers.proofs.Cases.{either}
 use Rattle.numbers.proofs.Turns.{turns_turn}
 use Rattle.graph_lists.specs.Graph.{Graph}
@@ -35,17 +34,17 @@ part_back a e xs sent false h = refl
 
 -- a check, with its part as the code reads it: `few` says that it has too few entries
 module _ (checks mechanisms : ℕ) (cv co vm vo : List ℕ) (scale : Float) (syndrome : List ℕ) (c_to_v v_to_c : List Float) (c a e : ℕ) (few : Bool)
-    (from : a ≡ get_or co c 0) (to : e ≡ get_or co (c + 1) 0) (is : few ≡ ltb (length (part a e cv)) 2) where
+    (from : a ≡ get_or co c 0) (to : e ≡ get_or co (suc c) 0) (is : few ≡ ltb (length (part a e cv)) 2) where
   -- then it is skipped
   skips : skipped (walked checks mechanisms cv co vm vo) c ≡ few
   unfolding skipped
-  skips = sym (is ∙ rw (from, to, add-one))
+  skips = sym (is ∙ rw (from, to))
 
   -- what it sends
   sends : (out : List Float) → out ≡ spliced c_to_v a e (check_messages scale (not (eqb (get_or syndrome c 0) 0)) (part a e v_to_c))
       → update_check by_place (walked checks mechanisms cv co vm vo) scale syndrome (messages c_to_v v_to_c) c ≡ messages out v_to_c
   unfolding update_check
-  sends out w = sym (rw (w, from, to, add-one))
+  sends out w = sym (rw (w, from, to))
 
   -- a check that is not serial, and is skipped
   parallel_skips : few ≡ true → messages c_to_v v_to_c ≡ parallel_check by_place (walked checks mechanisms cv co vm vo) scale syndrome (messages c_to_v v_to_c) c
@@ -68,10 +67,10 @@ module _ (checks mechanisms : ℕ) (cv co vm vo : List ℕ) (scale : Float) (syn
   -- and that is not
   serial_sends : (priors out : List Float) (u : Messages) → few ≡ false
       → out ≡ spliced c_to_v a e (check_messages scale (not (eqb (get_or syndrome c 0) 0)) (part a e v_to_c))
-      → u ≡ foldl (update_variable (of_variables mechanisms vm vo) priors) (messages out v_to_c) (part a e cv)
+      → u ≡ foldl (update_variable (of_variables mechanisms vm vo) priors) (messages out v_to_c) (row co c cv)
       → u ≡ serial_check by_place (walked checks mechanisms cv co vm vo) scale syndrome priors (messages c_to_v v_to_c) c
   unfolding serial_check update_variable raw_posterior
-  serial_sends priors out u h w t = rw (skips, h, sends out w) (t ∙ rw (from, to, add-one))
+  serial_sends priors out u h w t = rw (skips, h, sends out w) t
 
   -- what the update of a check leaves of the messages to variables
   abbrev sent_by : List Float
@@ -89,7 +88,7 @@ module _ (checks mechanisms : ℕ) (cv co vm vo : List ℕ) (scale : Float) (syn
 
   -- and that is not
   pub serial_sent : (priors out : List Float) (u : Messages) → few ≡ false → out ≡ sent_by
-      → u ≡ foldl (update_variable (of_variables mechanisms vm vo) priors) (messages out v_to_c) (part a e cv)
+      → u ≡ foldl (update_variable (of_variables mechanisms vm vo) priors) (messages out v_to_c) (row co c cv)
       → u ≡ serial_check by_place (walked checks mechanisms cv co vm vo) scale syndrome priors (messages c_to_v v_to_c) c
   serial_sent priors out u h w t = serial_sends priors out u h (w ∙ rw h) t
 

@@ -1,36 +1,35 @@
 // Passes over all checks and over all variables, in index order.
 ghost use Rattle.std.specs.Prelude.{◌≡◌, [], ◌<◌, length};
 ghost use Rattle.graph_lists.specs.Messages.{by_place};
-ghost use Rattle.graph_lists.specs.Sound.{Offsets};
-ghost use Rattle.graph_messages.specs.Needs.{Walks, walked, of_checks, of_variables, PerEdge};
+ghost use Rattle.graph_messages.specs.Needs.{PerEdge};
+ghost use Rattle.graph_messages.specs.Sides.{sides, checks_alone, variables_alone};
 ghost use Rattle.min_sum_pass.specs.MinSum.{messages, parallel_check, serial_check, checks_to, serial_to, variables_to};
 ghost use Rattle.min_sum_pass.specs.MinSum.{running_average as mixed_of, averaged};
+ghost use Rattle.min_sum_pass.specs.Needs.{OneGraph};
+
+use graph_messages::rows::Rows;
 
 // One check of an iteration that is not serial.
 fn parallel_check(
     c: usize,
     scale: f64,
     syndrome: &[u8],
-    check_var: &[u32],
-    check_offset: &[u32],
+    checks: &Rows<'_>,
     v_to_c: &[f64],
     c_to_v: &mut [f64],
 )
-    requires c_in_bounds { c < length syndrome.now }
-    requires offsets { Offsets (length syndrome.now) (length check_var.now) check_offset.now }
-    requires per_edge { PerEdge (length check_var.now) c_to_v.old v_to_c.now }
-    ensures { let g = of_checks (length syndrome.now) check_var.now check_offset.now in
-        let before = messages c_to_v.old v_to_c.now in
-        messages c_to_v.new v_to_c.now ≡ parallel_check by_place g scale syndrome.now before c }
+    requires c_in_bounds { c < checks.now.rows }
+    requires syndrome_len { length syndrome.now ≡ checks.now.rows }
+    requires per_edge { PerEdge (length checks.now.entries.now) c_to_v.old v_to_c.now }
+    ensures { let before = messages c_to_v.old v_to_c.now in
+        messages c_to_v.new v_to_c.now ≡ parallel_check by_place (checks_alone checks.now) scale syndrome.now before c }
 {
-    let start = graph_lists::indices::at(check_offset, c);
-    let end = graph_lists::indices::at(check_offset, c + 1);
     crate::check::update_part(
         scale,
         syndrome[c] != 0,
-        start,
-        end,
-        check_var,
+        checks.start(c),
+        checks.end(c),
+        checks.entries,
         v_to_c,
         c_to_v,
     );
@@ -40,20 +39,18 @@ fn parallel_check(
 pub fn parallel_checks(
     scale: f64,
     syndrome: &[u8],
-    check_var: &[u32],
-    check_offset: &[u32],
+    checks: &Rows<'_>,
     v_to_c: &[f64],
     c_to_v: &mut [f64],
 )
-    requires offsets { Offsets (length syndrome.now) (length check_var.now) check_offset.now }
-    requires per_edge { PerEdge (length check_var.now) c_to_v.old v_to_c.now }
-    ensures { let g = of_checks (length syndrome.now) check_var.now check_offset.now in
-        let before = messages c_to_v.old v_to_c.now in
+    requires syndrome_len { length syndrome.now ≡ checks.now.rows }
+    requires per_edge { PerEdge (length checks.now.entries.now) c_to_v.old v_to_c.now }
+    ensures { let before = messages c_to_v.old v_to_c.now in
         messages c_to_v.new v_to_c.now
-        ≡ checks_to by_place g scale syndrome.now before (length syndrome.now) }
+        ≡ checks_to by_place (checks_alone checks.now) scale syndrome.now before checks.now.rows }
 {
-    for c in 0..syndrome.len() {
-        parallel_check(c, scale, syndrome, check_var, check_offset, v_to_c, c_to_v);
+    for c in 0..checks.rows {
+        parallel_check(c, scale, syndrome, checks, v_to_c, c_to_v);
     }
 }
 
@@ -68,31 +65,22 @@ fn running_average(weight: f64, old: f64, current: f64) -> f64
 pub fn update_and_average(
     weight: f64,
     priors: &[f64],
-    var_message: &[u32],
-    var_offset: &[u32],
+    variables: &Rows<'_>,
     c_to_v: &[f64],
     v_to_c: &mut [f64],
     ewa_posterior: &mut [f64],
 )
-    requires walks { Walks (length priors.now) (length c_to_v.now) var_message.now var_offset.now }
-    requires v_to_c_len { (length v_to_c.old ≡ length c_to_v.now) × (length ewa_posterior.old ≡ length priors.now) }
-    ensures messages { let g = of_variables (length priors.now) var_message.now var_offset.now in
-        let before = messages c_to_v.now v_to_c.old in
+    requires priors_len { length priors.now ≡ variables.now.rows }
+    requires per_edge { PerEdge variables.now.n c_to_v.now v_to_c.old }
+    requires ewa_posterior_len { length ewa_posterior.old ≡ variables.now.rows }
+    ensures messages { let before = messages c_to_v.now v_to_c.old in
         messages c_to_v.now v_to_c.new
-        ≡ variables_to g priors.now before (length priors.now) }
-    ensures average { let g = of_variables (length priors.now) var_message.now var_offset.now in
-        ewa_posterior.new
-        ≡ averaged g priors.now weight (messages c_to_v.now []) ewa_posterior.old }
+        ≡ variables_to (variables_alone variables.now) priors.now before variables.now.rows }
+    ensures average { ewa_posterior.new
+        ≡ averaged (variables_alone variables.now) priors.now weight (messages c_to_v.now []) ewa_posterior.old }
 {
     for (v, x) in ewa_posterior.iter_mut().enumerate() {
-        let sum = crate::variable::update_variable(
-            v,
-            priors,
-            var_message,
-            var_offset,
-            c_to_v,
-            v_to_c,
-        );
+        let sum = crate::variable::update_variable(v, priors, variables, c_to_v, v_to_c);
         *x = running_average(weight, *x, sum);
     }
 }
@@ -101,19 +89,18 @@ pub fn update_and_average(
 pub fn average(
     weight: f64,
     priors: &[f64],
-    var_message: &[u32],
-    var_offset: &[u32],
+    variables: &Rows<'_>,
     c_to_v: &[f64],
     ewa_posterior: &mut [f64],
 )
-    requires walks { Walks (length priors.now) (length c_to_v.now) var_message.now var_offset.now }
-    requires ewa_posterior_len { length ewa_posterior.old ≡ length priors.now }
-    ensures { let g = of_variables (length priors.now) var_message.now var_offset.now in
-        ewa_posterior.new
-        ≡ averaged g priors.now weight (messages c_to_v.now []) ewa_posterior.old }
+    requires priors_len { length priors.now ≡ variables.now.rows }
+    requires c_to_v_len { length c_to_v.now ≡ variables.now.n }
+    requires ewa_posterior_len { length ewa_posterior.old ≡ variables.now.rows }
+    ensures { ewa_posterior.new
+        ≡ averaged (variables_alone variables.now) priors.now weight (messages c_to_v.now []) ewa_posterior.old }
 {
     for (v, x) in ewa_posterior.iter_mut().enumerate() {
-        let sum = crate::variable::raw_posterior(v, priors, var_message, var_offset, c_to_v);
+        let sum = crate::variable::raw_posterior(v, priors, variables, c_to_v);
         *x = running_average(weight, *x, sum);
     }
 }
@@ -124,44 +111,30 @@ fn serial_check(
     scale: f64,
     syndrome: &[u8],
     priors: &[f64],
-    check_var: &[u32],
-    check_offset: &[u32],
-    var_message: &[u32],
-    var_offset: &[u32],
+    checks: &Rows<'_>,
+    variables: &Rows<'_>,
     c_to_v: &mut [f64],
     v_to_c: &mut [f64],
 )
-    requires c_in_bounds { c < length syndrome.now }
-    requires walks { Walks (length syndrome.now) (length priors.now) check_var.now check_offset.now }
-    requires walks_2 { Walks (length priors.now) (length check_var.now) var_message.now var_offset.now }
-    requires per_edge { PerEdge (length check_var.now) c_to_v.old v_to_c.old }
-    ensures { let g = walked (length syndrome.now) (length priors.now) check_var.now
-        check_offset.now var_message.now var_offset.now in
-        let before = messages c_to_v.old v_to_c.old in
+    requires c_in_bounds { c < checks.now.rows }
+    requires one_graph { OneGraph checks.now variables.now syndrome.now priors.now }
+    requires per_edge { PerEdge variables.now.n c_to_v.old v_to_c.old }
+    ensures { let before = messages c_to_v.old v_to_c.old in
         messages c_to_v.new v_to_c.new
-        ≡ serial_check by_place g scale syndrome.now priors.now before c }
+        ≡ serial_check by_place (sides checks.now variables.now) scale syndrome.now priors.now before c }
 {
-    let start = graph_lists::indices::at(check_offset, c);
-    let end = graph_lists::indices::at(check_offset, c + 1);
     if crate::check::update_part(
         scale,
         syndrome[c] != 0,
-        start,
-        end,
-        check_var,
+        checks.start(c),
+        checks.end(c),
+        checks.entries,
         v_to_c,
         c_to_v,
     ) {
         return;
     }
-    crate::variable::update_variables(
-        &check_var[start..end],
-        priors,
-        var_message,
-        var_offset,
-        c_to_v,
-        v_to_c,
-    );
+    crate::variable::update_variables(checks.row(c), priors, variables, c_to_v, v_to_c);
 }
 
 // All checks of a serial iteration.
@@ -169,34 +142,20 @@ pub fn serial_checks(
     scale: f64,
     syndrome: &[u8],
     priors: &[f64],
-    check_var: &[u32],
-    check_offset: &[u32],
-    var_message: &[u32],
-    var_offset: &[u32],
+    checks: &Rows<'_>,
+    variables: &Rows<'_>,
     c_to_v: &mut [f64],
     v_to_c: &mut [f64],
 )
-    requires walks { Walks (length syndrome.now) (length priors.now) check_var.now check_offset.now }
-    requires walks_2 { Walks (length priors.now) (length check_var.now) var_message.now var_offset.now }
-    requires per_edge { PerEdge (length check_var.now) c_to_v.old v_to_c.old }
-    ensures { let g = walked (length syndrome.now) (length priors.now) check_var.now
-        check_offset.now var_message.now var_offset.now in
-        let before = messages c_to_v.old v_to_c.old in
+    requires one_graph { OneGraph checks.now variables.now syndrome.now priors.now }
+    requires per_edge { PerEdge variables.now.n c_to_v.old v_to_c.old }
+    ensures { let before = messages c_to_v.old v_to_c.old in
         messages c_to_v.new v_to_c.new
-        ≡ serial_to by_place g scale syndrome.now priors.now before (length syndrome.now) }
+        ≡ serial_to by_place (sides checks.now variables.now) scale syndrome.now priors.now before checks.now.rows }
 {
-    for c in 0..syndrome.len() {
+    for c in 0..checks.rows {
         serial_check(
-            c,
-            scale,
-            syndrome,
-            priors,
-            check_var,
-            check_offset,
-            var_message,
-            var_offset,
-            c_to_v,
-            v_to_c,
+            c, scale, syndrome, priors, checks, variables, c_to_v, v_to_c,
         );
     }
 }

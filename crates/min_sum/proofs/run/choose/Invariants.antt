@@ -2,9 +2,9 @@
 use mathlib.Core.Path.{◌≡◌}
 use mathlib.Core.List.{[]}
 use lib.ListN.{length, take}
-use Rattle.graph_messages.specs.Needs.{of_variables}
+use Rattle.graph_messages.specs.Sides.{variables_alone}
 use Rattle.min_sum_pass.specs.MinSum.{messages, belief, chosen_to}
 use Rattle.min_sum.proofs.run.choose.Given as goal
 
 abbrev pub invariant-loop-v : goal.invariant-loop-v
-invariant-loop-v l = take l.v l.posterior ≡ chosen_to (of_variables (length l.priors) l.var_message l.var_offset) l.priors (belief (messages l.c_to_v []) l.ewa_posterior) l.v
+invariant-loop-v l = take l.v l.posterior ≡ chosen_to (variables_alone l.variables) l.priors (belief (messages l.c_to_v []) l.ewa_posterior) l.v

@@ -3,10 +3,10 @@ use mathlib.Core.Path.{◌≡◌}
 use mathlib.Core.List.{[]}
 use lib.ListN.{length}
 use Rattle.graph_lists.specs.Messages.{by_place}
-use Rattle.graph_messages.specs.Needs.{walked}
+use Rattle.graph_messages.specs.Sides.{sides}
 use Rattle.min_sum_pass.specs.MinSum.{messages, belief, outer_round_to}
 use Rattle.min_sum.proofs.run.outer_round.Given as goal
 
 abbrev pub invariant-loop-i : goal.invariant-loop-i
 invariant-loop-i l = belief (messages l.c_to_v l.v_to_c) l.ewa_posterior
-    ≡ outer_round_to by_place (walked (length l.syndrome) (length l.priors) l.check_var l.check_offset l.var_message l.var_offset) l.serial l.scale l.syndrome l.priors l.outer (belief (messages [] []) l.initial.ewa_posterior) l.i
+    ≡ outer_round_to by_place (sides l.checks l.variables) l.serial l.scale l.syndrome l.priors l.outer (belief (messages [] []) l.initial.ewa_posterior) l.i

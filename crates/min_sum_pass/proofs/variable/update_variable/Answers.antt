@@ -1,25 +1,15 @@
--- `min_sum_pass::variable::update_variable` meets its contract. The variable's part lies within the entries, and its update is the definition's. Assumes nothing.
-use Prim.Native.Nat.{◌≤◌}
-use lib.ListN.{length}
-use Rattle.graph_lists.proofs.Cuts.{cut_bounds}
-use Rattle.graph_messages.proofs.Parts.{part_names}
-use Rattle.min_sum_pass.proofs.Variables.{sum_is, update_is}
+-- `min_sum_pass::variable::update_variable` meets its contract. The variable's entries name messages, and its update is the definition's. Assumes nothing.
+use Rattle.min_sum_pass.specs.MinSum.{raw_posterior, update_variable}
+use Rattle.min_sum_pass.proofs.Variables.{row_names}
 use Rattle.min_sum_pass.proofs.variable.update_variable.Goals as goal
-use Rattle.min_sum_pass.proofs.variable.update_variable.Goals.{After-at-end}
 
--- the variable's part lies within the entries
-within : (c : After-at-end) → (c.at-start.result ≤ c.at-end.result) × (c.at-end.result ≤ length c.args.var_message.now)
-within c = cut_bounds _ _ _ c.args.v _ _
-    c.requires.walks.parts
-    c.requires.v_in_bounds c.at-start.ensures c.at-end.ensures
+pub update_entries-requires-clause-keys : goal.update_entries-requires-clause-keys
+update_entries-requires-clause-keys c = row_names c.args.variables.now _ _ _ c.requires.v_in_bounds c.requires.per_edge.to_variables c.row.ensures
 
-pub slice_bounds-update_entries-end : goal.slice_bounds-update_entries-end
-slice_bounds-update_entries-end c = (within (goal.at.slice_bounds-update_entries-end c).After-at-end).1
+pub returns-clause-sum : goal.returns-clause-sum
+unfolding raw_posterior
+returns-clause-sum c = rw (c.update_entries.ensures.sum, c.row.ensures)
 
-pub update_entries-requires : goal.update_entries-requires
-update_entries-requires c =
-    record { keys = part_names _ _ _ _ c.requires.walks.named (within (goal.at.update_entries-requires c).After-at-end).1; v_to_c_len = c.requires.v_to_c_len }
-
-pub returns : goal.returns
-returns c =
-    record { sum = sum_is _ _ _ _ _ _ c.args.v _ _ _ c.at-start.ensures c.at-end.ensures c.update_entries.ensures.sum; messages = update_is _ _ _ _ _ _ _ c.args.v _ _ _ c.at-start.ensures c.at-end.ensures c.update_entries.ensures.sum c.update_entries.ensures.messages }
+pub returns-clause-messages : goal.returns-clause-messages
+unfolding update_variable raw_posterior
+returns-clause-messages c = rw (c.update_entries.ensures.messages, c.update_entries.ensures.sum, c.row.ensures)
