@@ -13,6 +13,7 @@ ghost use Rattle.relay_step.specs.Places.{PerMechanism};
 
 use graph_lists::indices::at;
 use graph_messages::clear;
+use graph_messages::rows::Rows;
 use numbers::is_finite;
 use refusals::Refusal;
 use refusals_tests::{both, is_done};
@@ -143,22 +144,21 @@ pub fn stepped(
         (iteration schedule by_place g alpha clip syndrome.now priors.now gamma.now
         order.now before) }
 {
+    let checks = Rows {
+        rows: syndrome.len(),
+        n: priors.len(),
+        entries: check_var,
+        offsets: check_offset,
+    };
+    let variables = Rows {
+        rows: priors.len(),
+        n: check_var.len(),
+        entries: var_message,
+        offsets: var_offset,
+    };
     step(
-        schedule,
-        alpha,
-        clip,
-        syndrome,
-        priors,
-        gamma,
-        check_var,
-        check_offset,
-        var_message,
-        var_offset,
-        order,
-        bias,
-        c_to_v,
-        v_to_c,
-        posterior,
+        schedule, alpha, clip, syndrome, priors, gamma, &checks, &variables, order, bias, c_to_v,
+        v_to_c, posterior,
     );
     clear(bias);
     ended(var_message, var_offset, c_to_v, v_to_c, posterior)

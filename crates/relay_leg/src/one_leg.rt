@@ -10,6 +10,7 @@ ghost use Rattle.relay_calls.specs.Decode.{iteration_limit, executed_leg};
 ghost use Rattle.relay_record.specs.Kept.{shot_of, Reads, best_of, kept, kept_with, row_after, kept_after, Blank, LegsLong, PerShot};
 ghost use Rattle.relay_step.specs.Places.{LegLists};
 
+use graph_messages::rows::Rows;
 use graph_messages::{clear, from_variables};
 use relay_gammas::prepare_gamma;
 use relay_record::{Tally, record_leg};
@@ -75,24 +76,21 @@ fn execute_leg(
     let limit = iteration_limit(t, leg);
     prepare_gamma(t, gammas, seed, leg, gamma);
     start_leg(check_var, priors, c_to_v, v_to_c);
+    let checks = Rows {
+        rows: syndrome.len(),
+        n: priors.len(),
+        entries: check_var,
+        offsets: check_offset,
+    };
+    let variables = Rows {
+        rows: priors.len(),
+        n: check_var.len(),
+        entries: var_message,
+        offsets: var_offset,
+    };
     run_leg(
-        limit,
-        schedule,
-        alpha,
-        clip,
-        syndrome,
-        priors,
-        gamma,
-        check_var,
-        check_offset,
-        var_message,
-        var_offset,
-        order,
-        bias,
-        c_to_v,
-        v_to_c,
-        posterior,
-        bits,
+        limit, schedule, alpha, clip, syndrome, priors, gamma, &checks, &variables, order, bias,
+        c_to_v, v_to_c, posterior, bits,
     )
 }
 

@@ -6,16 +6,13 @@ use Prim.Native.Nat.{ℕ, zero, suc, ◌+◌, ◌-◌, ◌<◌, ◌≤◌}
 use native.Mathlib.Numerals.{add-one}
 use native.Mathlib.Omega.{arith}
 use lib.Bits.{bit_xor}
-use lib.Dec.{eqb}
 use lib.Ieee.{Float, nan}
 use lib.ListN.{length, get_or, take}
 use lib.Seq.{take_all}
 use Rattle.numbers.specs.Floats.{◌+ᶠ◌}
-use Rattle.numbers.specs.Loops.{part}
 use Rattle.numbers.proofs.Turns.{fold_turn, turns_turn}
-use Rattle.graph_messages.specs.Needs.{of_checks}
 use Rattle.relay_step.specs.Step.{State}
-use Rattle.relay_step.specs.Leg.{leg, hard_bit, hard_decision, parity, matches, cost, correction_weight, run_leg}
+use Rattle.relay_step.specs.Leg.{leg, hard_bit, hard_decision, parity, cost, correction_weight, run_leg}
 
 -- the weight, one variable further
 pub weight_turn : (prior : List Float) (bits : List ℕ) (v : ℕ) (w x : Float) → w ≡ correction_weight prior bits v → x ≡ cost (get_or prior v nan) (get_or bits v 0)
@@ -33,11 +30,6 @@ pub parity_turn : (bits entries : List ℕ) (i v p : ℕ) → i < length entries
 unfolding parity
 parity_turn bits entries i v p h e q = fold_turn _ _ p _ entries i v 0 h e q refl
 
--- one check's test, from its part as the code reads it
-pub matches_is : (checks : ℕ) (cv co bits syndrome : List ℕ) (c a e p : ℕ) → a ≡ get_or co c 0 → e ≡ get_or co (c + 1) 0 → p ≡ parity bits (part a e cv)
-    → eqb p (get_or syndrome c 0) ≡ matches (of_checks checks cv co) bits syndrome c
-unfolding matches
-matches_is checks cv co bits syndrome c a e p h k q = rw (q, h, k, add-one)
 
 -- ---- `run_leg`
 

@@ -2,8 +2,7 @@
 use mathlib.Core.Path.{◌≡◌, ap, ◌∙◌}
 use mathlib.Core.Bool.{not}
 use mathlib.Core.List.{List, [], ◌∷◌, foldl}
-use Prim.Native.Nat.{ℕ, ◌+◌, ◌<◌}
-use native.Mathlib.Numerals.{add-one}
+use Prim.Native.Nat.{ℕ, suc, ◌+◌, ◌<◌}
 use lib.Dec.{eqb}
 use lib.Ieee.{Float, nan}
 use lib.ListN.{length, get_or, take, set}
@@ -14,7 +13,7 @@ use Rattle.graph_lists.specs.Messages.{by_place}
 use Rattle.graph_messages.specs.Needs.{walked, of_checks, of_variables}
 use Rattle.relay_settings.specs.declared.Clip.{Clip}
 use Rattle.relay_check.specs.Check.{check_messages}
-use Rattle.relay_step.specs.Step.{State, state, update_check, update_variable, bias_of, biases_to, compute_bias, check_pass, variable_pass, flooding_iteration, serial_check, serial_pass, check_serial_iteration}
+use Rattle.relay_step.specs.Step.{State, state, update_check, update_variable, bias_of, biases_to, compute_bias, check_pass, variable_pass, flooding_iteration, serial_check, serial_pass}
 
 -- ---- turns
 
@@ -45,17 +44,17 @@ serial_turn g alpha clip syndrome bias s t u order i c h e p q = fold_turn _ s t
 -- ---- one check, with its part as the code reads it
 
 module _ (checks mechanisms : ℕ) (cv co vm vo : List ℕ) (alpha : Float) (clip : Clip) (syndrome : List ℕ) (c_to_v v_to_c posterior out : List Float) (c a e : ℕ) (from : a ≡ get_or co c 0)
-    (to : e ≡ get_or co (c + 1) 0) (is : out ≡ spliced c_to_v a e (check_messages alpha clip (not (eqb (get_or syndrome c 0) 0)) (part a e cv) (part a e v_to_c))) where
+    (to : e ≡ get_or co (suc c) 0) (is : out ≡ spliced c_to_v a e (check_messages alpha clip (not (eqb (get_or syndrome c 0) 0)) (part a e cv) (part a e v_to_c))) where
   -- what it sends
   pub check_is : state out v_to_c posterior ≡ update_check by_place (walked checks mechanisms cv co vm vo) alpha clip syndrome (state c_to_v v_to_c posterior) c
   unfolding update_check
-  check_is = rw (is, from, to, add-one)
+  check_is = rw (is, from, to)
 
   -- and in a serial iteration, with its variables
   pub serial_is : (bias : List Float) (u : State) → u ≡ foldl (update_variable (of_variables mechanisms vm vo) bias) (state out v_to_c posterior) (part a e cv)
       → u ≡ serial_check by_place (walked checks mechanisms cv co vm vo) alpha clip syndrome bias (state c_to_v v_to_c posterior) c
   unfolding serial_check update_variable
-  serial_is bias u t = rw (← check_is) (t ∙ rw (from, to, add-one))
+  serial_is bias u t = rw (← check_is) (t ∙ rw (from, to))
 
 -- ---- an iteration
 
@@ -69,15 +68,8 @@ module _ (checks mechanisms : ℕ) (cv co vm vo : List ℕ) (alpha : Float) (cli
 
   -- a flooding iteration
   pub flooding_is : (prior gamma bias c_to_v out : List Float) (u : State) (order : List ℕ)
-      → state out v_to_c [] ≡ check_pass by_place (of_checks checks cv co) alpha clip syndrome order (state c_to_v v_to_c []) → bias ≡ compute_bias prior gamma posterior → length bias ≡ mechanisms
-      → u ≡ variable_pass (of_variables (length bias) vm vo) bias (state out v_to_c posterior) (length bias)
+      → state out v_to_c [] ≡ check_pass by_place (of_checks checks cv co) alpha clip syndrome order (state c_to_v v_to_c []) → bias ≡ compute_bias prior gamma posterior
+      → u ≡ variable_pass (of_variables mechanisms vm vo) bias (state out v_to_c posterior) mechanisms
       → u ≡ flooding_iteration by_place (walked checks mechanisms cv co vm vo) alpha clip syndrome prior gamma order (state c_to_v v_to_c posterior)
   unfolding flooding_iteration variable_pass update_variable
-  flooding_is prior gamma bias c_to_v out u order h b n v = rw (← pass_keeps order c_to_v out h, ← b) (v ∙ rw n)
-
--- a serial iteration
-pub serial_iteration_is : (checks mechanisms : ℕ) (cv co vm vo : List ℕ) (alpha : Float) (clip : Clip) (syndrome : List ℕ) (prior gamma bias : List Float) (s u : State) (order : List ℕ)
-    → bias ≡ compute_bias prior gamma s.posterior → length bias ≡ mechanisms → u ≡ serial_pass by_place (walked checks (length bias) cv co vm vo) alpha clip syndrome bias order s
-    → u ≡ check_serial_iteration by_place (walked checks mechanisms cv co vm vo) alpha clip syndrome prior gamma order s
-unfolding check_serial_iteration
-serial_iteration_is checks mechanisms cv co vm vo alpha clip syndrome prior gamma bias s u order b n h = rw (← b) (h ∙ rw n)
+  flooding_is prior gamma bias c_to_v out u order h b v = rw (← pass_keeps order c_to_v out h, ← b) v

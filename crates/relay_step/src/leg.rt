@@ -3,14 +3,15 @@ ghost use Rattle.std.specs.Prelude.{◌≡◌, false, ◌<◌, length};
 ghost use Rattle.graph_lists.specs.Messages.{by_place};
 ghost use Rattle.numbers.specs.Loops.{every};
 ghost use Rattle.graph_lists.specs.Sound.{Keys};
-ghost use Rattle.graph_messages.specs.Needs.{Walks, walked, of_checks, PerEdge};
+ghost use Rattle.graph_messages.specs.Needs.{PerEdge};
+ghost use Rattle.graph_messages.specs.Sides.{sides, checks_alone};
 ghost use Rattle.relay_step.specs.Step.{state, iteration};
 ghost use Rattle.relay_step.specs.Leg.{hard_bit, hard_decision, parity as parity_of, matches as matches_of, satisfied as satisfied_by};
 ghost use Rattle.relay_step.specs.Leg.{leg as leg_of, run_leg, cost as cost_of, correction_weight};
-ghost use Rattle.relay_step.specs.Places.{LegLists};
+ghost use Rattle.relay_step.specs.Places.{Joined, LegLists};
 
 use crate::step::step;
-use graph_lists::indices::at;
+use graph_messages::rows::Rows;
 use relay_settings::{Clip, Schedule};
 
 // A bit is 1 when its posterior is below 0.
@@ -46,26 +47,24 @@ fn parity(entries: &[u32], bits: &[u8]) -> u8
 }
 
 // The check c has the parity that the syndrome asks.
-fn matches(c: usize, syndrome: &[u8], check_var: &[u32], check_offset: &[u32], bits: &[u8]) -> bool
-    requires c_in_bounds { c < length syndrome.now }
-    requires walks { Walks (length syndrome.now) (length bits.now) check_var.now check_offset.now }
-    ensures { let g = of_checks (length syndrome.now) check_var.now check_offset.now in
-        result ≡ matches_of g bits.now syndrome.now c }
+fn matches(c: usize, syndrome: &[u8], checks: &Rows<'_>, bits: &[u8]) -> bool
+    requires c_in_bounds { c < checks.now.rows }
+    requires syndrome_len { length syndrome.now ≡ checks.now.rows }
+    requires bits_len { length bits.now ≡ checks.now.n }
+    ensures { result ≡ matches_of (checks_alone checks.now) bits.now syndrome.now c }
 {
-    let start = at(check_offset, c);
-    let end = at(check_offset, c + 1);
-    parity(&check_var[start..end], bits) == syndrome[c]
+    parity(checks.row(c), bits) == syndrome[c]
 }
 
 // All parities match.
-fn all_match(syndrome: &[u8], check_var: &[u32], check_offset: &[u32], bits: &[u8]) -> bool
-    requires { Walks (length syndrome.now) (length bits.now) check_var.now check_offset.now }
-    ensures { let g = of_checks (length syndrome.now) check_var.now check_offset.now in
-        result ≡ every (length syndrome.now) (matches_of g bits.now syndrome.now) }
+fn all_match(syndrome: &[u8], checks: &Rows<'_>, bits: &[u8]) -> bool
+    requires syndrome_len { length syndrome.now ≡ checks.now.rows }
+    requires bits_len { length bits.now ≡ checks.now.n }
+    ensures { result ≡ every checks.now.rows (matches_of (checks_alone checks.now) bits.now syndrome.now) }
 {
     // Stays: tried, `all` over the range proves, but a leg then takes 2.7 in 100 more instructions.
-    for c in 0..syndrome.len() {
-        if !matches(c, syndrome, check_var, check_offset, bits) {
+    for c in 0..checks.rows {
+        if !matches(c, syndrome, checks, bits) {
             return false;
         }
     }
@@ -73,21 +72,15 @@ fn all_match(syndrome: &[u8], check_var: &[u32], check_offset: &[u32], bits: &[u
 }
 
 // `update_hard_decision_and_check`.
-fn satisfied(
-    syndrome: &[u8],
-    check_var: &[u32],
-    check_offset: &[u32],
-    posterior: &[f64],
-    bits: &mut [u8],
-) -> bool
-    requires walks { Walks (length syndrome.now) (length posterior.now) check_var.now check_offset.now }
-    requires bits_len { length bits.old ≡ length posterior.now }
-    ensures test { let g = of_checks (length syndrome.now) check_var.now check_offset.now in
-        result ≡ satisfied_by g syndrome.now posterior.now }
+fn satisfied(syndrome: &[u8], checks: &Rows<'_>, posterior: &[f64], bits: &mut [u8]) -> bool
+    requires syndrome_len { length syndrome.now ≡ checks.now.rows }
+    requires posterior_len { length posterior.now ≡ checks.now.n }
+    requires bits_len { length bits.old ≡ checks.now.n }
+    ensures test { result ≡ satisfied_by (checks_alone checks.now) syndrome.now posterior.now }
     ensures bits { bits.new ≡ hard_decision posterior.now }
 {
     hard_decision(posterior, bits);
-    all_match(syndrome, check_var, check_offset, bits)
+    all_match(syndrome, checks, bits)
 }
 
 // `f64::from(bit) * prior`.
@@ -125,10 +118,8 @@ pub fn run_leg(
     syndrome: &[u8],
     priors: &[f64],
     gamma: &[f64],
-    check_var: &[u32],
-    check_offset: &[u32],
-    var_message: &[u32],
-    var_offset: &[u32],
+    checks: &Rows<'_>,
+    variables: &Rows<'_>,
     order: &[u32],
     bias: &mut [f64],
     c_to_v: &mut [f64],
@@ -136,41 +127,27 @@ pub fn run_leg(
     posterior: &mut [f64],
     bits: &mut [u8],
 ) -> Leg
-    requires walks { Walks (length syndrome.now) (length priors.now) check_var.now check_offset.now }
-    requires walks_2 { Walks (length priors.now) (length check_var.now) var_message.now var_offset.now }
-    requires keys { Keys (length syndrome.now) order.now }
-    requires leg_lists { LegLists (length priors.now) gamma.now bias.old posterior.old bits.old }
-    requires per_edge { PerEdge (length check_var.now) c_to_v.old v_to_c.old }
-    ensures leg { let gChecks = of_checks (length syndrome.now) check_var.now check_offset.now in
-        let g = walked (length syndrome.now) (length priors.now) check_var.now
-        check_offset.now var_message.now var_offset.now in
+    requires joined { Joined checks.now variables.now }
+    requires syndrome_len { length syndrome.now ≡ checks.now.rows }
+    requires priors_len { length priors.now ≡ variables.now.rows }
+    requires keys { Keys checks.now.rows order.now }
+    requires leg_lists { LegLists variables.now.rows gamma.now bias.old posterior.old bits.old }
+    requires per_edge { PerEdge variables.now.n c_to_v.old v_to_c.old }
+    ensures leg { let g = sides checks.now variables.now in
         let before = state c_to_v.old v_to_c.old posterior.old in
         let after = state c_to_v.new v_to_c.new posterior.new in
         leg_of result.converged result.iterations after
         ≡ run_leg (iteration schedule by_place g alpha clip syndrome.now priors.now gamma.now
         order.now)
-        (satisfied_by gChecks syndrome.now) limit false 0 before }
+        (satisfied_by (checks_alone checks.now) syndrome.now) limit false 0 before }
     ensures bits { 0 < limit → bits.new ≡ hard_decision posterior.new }
 {
     for k in 0..limit {
         step(
-            schedule,
-            alpha,
-            clip,
-            syndrome,
-            priors,
-            gamma,
-            check_var,
-            check_offset,
-            var_message,
-            var_offset,
-            order,
-            bias,
-            c_to_v,
-            v_to_c,
-            posterior,
+            schedule, alpha, clip, syndrome, priors, gamma, checks, variables, order, bias, c_to_v,
+            v_to_c, posterior,
         );
-        if satisfied(syndrome, check_var, check_offset, posterior, bits) {
+        if satisfied(syndrome, checks, posterior, bits) {
             return Leg {
                 converged: true,
                 iterations: k + 1,

@@ -1,14 +1,15 @@
 // One iteration in a given order of checks: the step that the public iteration takes and that decode repeats.
 ghost use Rattle.std.specs.Prelude.{◌≡◌, [], ◌<◌, length};
 ghost use Rattle.graph_lists.specs.Messages.{by_place};
-ghost use Rattle.graph_lists.specs.Sound.{Offsets, Keys};
-ghost use Rattle.graph_messages.specs.Needs.{Walks, walked, of_checks, of_variables, RowsRise, PerEdge};
+ghost use Rattle.graph_lists.specs.Sound.{Keys};
+ghost use Rattle.graph_messages.specs.Needs.{PerEdge};
+ghost use Rattle.graph_messages.specs.Sides.{sides, checks_alone, variables_alone};
 ghost use Rattle.relay_step.specs.Step.{state, bias_of, compute_bias, update_check, check_pass, variable_pass, serial_check, serial_pass};
 ghost use Rattle.relay_step.specs.Step.{flooding_iteration, check_serial_iteration, iteration};
-ghost use Rattle.relay_step.specs.Places.{PerMechanism};
+ghost use Rattle.relay_step.specs.Places.{Joined, PerMechanism, PerVariable};
 
 use crate::variable::{update_variable, update_variables};
-use graph_lists::indices::at;
+use graph_messages::rows::Rows;
 use relay_check::{clipped_part, update_part};
 use relay_settings::{Clip, Schedule};
 
@@ -37,26 +38,33 @@ fn update_one(
     alpha: f64,
     clip: Clip,
     syndrome: &[u8],
-    check_var: &[u32],
-    check_offset: &[u32],
+    checks: &Rows<'_>,
     v_to_c: &[f64],
     c_to_v: &mut [f64],
 )
-    requires c_in_bounds { c < length syndrome.now }
-    requires offsets { Offsets (length syndrome.now) (length check_var.now) check_offset.now }
-    requires rows_rise { RowsRise (length syndrome.now) check_var.now check_offset.now }
-    requires per_edge { PerEdge (length check_var.now) c_to_v.old v_to_c.now }
-    ensures { let g = of_checks (length syndrome.now) check_var.now check_offset.now in
+    requires c_in_bounds { c < checks.now.rows }
+    requires syndrome_len { length syndrome.now ≡ checks.now.rows }
+    requires per_edge { PerEdge (length checks.now.entries.now) c_to_v.old v_to_c.now }
+    ensures { let g = checks_alone checks.now in
         let before = state c_to_v.old v_to_c.now [] in
         state c_to_v.new v_to_c.now []
         ≡ update_check by_place g alpha clip syndrome.now before c }
 {
-    let start = at(check_offset, c);
-    let end = at(check_offset, c + 1);
+    let start = checks.start(c);
+    let end = checks.end(c);
     let odd = syndrome[c] != 0;
     match clip {
-        Clip::Off => update_part(alpha, odd, start, end, check_var, v_to_c, c_to_v),
-        Clip::On(limit) => clipped_part(alpha, limit, odd, start, end, check_var, v_to_c, c_to_v),
+        Clip::Off => update_part(alpha, odd, start, end, checks.entries, v_to_c, c_to_v),
+        Clip::On(limit) => clipped_part(
+            alpha,
+            limit,
+            odd,
+            start,
+            end,
+            checks.entries,
+            v_to_c,
+            c_to_v,
+        ),
     }
 }
 
@@ -65,17 +73,15 @@ fn check_pass(
     alpha: f64,
     clip: Clip,
     syndrome: &[u8],
-    check_var: &[u32],
-    check_offset: &[u32],
+    checks: &Rows<'_>,
     order: &[u32],
     v_to_c: &[f64],
     c_to_v: &mut [f64],
 )
-    requires offsets { Offsets (length syndrome.now) (length check_var.now) check_offset.now }
-    requires rows_rise { RowsRise (length syndrome.now) check_var.now check_offset.now }
-    requires keys { Keys (length syndrome.now) order.now }
-    requires per_edge { PerEdge (length check_var.now) c_to_v.old v_to_c.now }
-    ensures { let g = of_checks (length syndrome.now) check_var.now check_offset.now in
+    requires syndrome_len { length syndrome.now ≡ checks.now.rows }
+    requires keys { Keys checks.now.rows order.now }
+    requires per_edge { PerEdge (length checks.now.entries.now) c_to_v.old v_to_c.now }
+    ensures { let g = checks_alone checks.now in
         let before = state c_to_v.old v_to_c.now [] in
         state c_to_v.new v_to_c.now []
         ≡ check_pass by_place g alpha clip syndrome.now order.now before }
@@ -86,8 +92,7 @@ fn check_pass(
             alpha,
             clip,
             syndrome,
-            check_var,
-            check_offset,
+            checks,
             v_to_c,
             c_to_v,
         );
@@ -97,22 +102,19 @@ fn check_pass(
 // All variables.
 fn variable_pass(
     bias: &[f64],
-    var_message: &[u32],
-    var_offset: &[u32],
+    variables: &Rows<'_>,
     c_to_v: &[f64],
     v_to_c: &mut [f64],
     posterior: &mut [f64],
 )
-    requires posterior_len { length posterior.old ≡ length bias.now }
-    requires walks { Walks (length bias.now) (length c_to_v.now) var_message.now var_offset.now }
-    requires v_to_c_len { length v_to_c.old ≡ length c_to_v.now }
-    ensures { let g = of_variables (length bias.now) var_message.now var_offset.now in
-        let before = state c_to_v.now v_to_c.old posterior.old in
+    requires per_variable { PerVariable variables.now.rows bias.now posterior.old }
+    requires per_edge { PerEdge variables.now.n c_to_v.now v_to_c.old }
+    ensures { let before = state c_to_v.now v_to_c.old posterior.old in
         state c_to_v.now v_to_c.new posterior.new
-        ≡ variable_pass g bias.now before (length bias.now) }
+        ≡ variable_pass (variables_alone variables.now) bias.now before variables.now.rows }
 {
-    for v in 0..bias.len() {
-        update_variable(v, bias, var_message, var_offset, c_to_v, v_to_c, posterior);
+    for v in 0..variables.rows {
+        update_variable(v, bias, variables, c_to_v, v_to_c, posterior);
     }
 }
 
@@ -123,40 +125,29 @@ fn flooding_iteration(
     syndrome: &[u8],
     priors: &[f64],
     gamma: &[f64],
-    check_var: &[u32],
-    check_offset: &[u32],
-    var_message: &[u32],
-    var_offset: &[u32],
+    checks: &Rows<'_>,
+    variables: &Rows<'_>,
     order: &[u32],
     bias: &mut [f64],
     c_to_v: &mut [f64],
     v_to_c: &mut [f64],
     posterior: &mut [f64],
 )
-    requires walks { Walks (length syndrome.now) (length priors.now) check_var.now check_offset.now }
-    requires walks_2 { Walks (length priors.now) (length check_var.now) var_message.now var_offset.now }
-    requires keys { Keys (length syndrome.now) order.now }
-    requires per_mechanism { PerMechanism (length priors.now) gamma.now bias.old posterior.old }
-    requires per_edge { PerEdge (length check_var.now) c_to_v.old v_to_c.old }
-    ensures { let g = walked (length syndrome.now) (length priors.now) check_var.now
-        check_offset.now var_message.now var_offset.now in
+    requires joined { Joined checks.now variables.now }
+    requires syndrome_len { length syndrome.now ≡ checks.now.rows }
+    requires priors_len { length priors.now ≡ variables.now.rows }
+    requires keys { Keys checks.now.rows order.now }
+    requires per_mechanism { PerMechanism variables.now.rows gamma.now bias.old posterior.old }
+    requires per_edge { PerEdge variables.now.n c_to_v.old v_to_c.old }
+    ensures { let g = sides checks.now variables.now in
         let before = state c_to_v.old v_to_c.old posterior.old in
         state c_to_v.new v_to_c.new posterior.new
         ≡ flooding_iteration by_place g alpha clip syndrome.now priors.now gamma.now
         order.now before }
 {
-    check_pass(
-        alpha,
-        clip,
-        syndrome,
-        check_var,
-        check_offset,
-        order,
-        v_to_c,
-        c_to_v,
-    );
+    check_pass(alpha, clip, syndrome, checks, order, v_to_c, c_to_v);
     compute_bias(priors, gamma, posterior, bias);
-    variable_pass(bias, var_message, var_offset, c_to_v, v_to_c, posterior);
+    variable_pass(bias, variables, c_to_v, v_to_c, posterior);
 }
 
 // One check of a serial iteration, and then each variable of its entries.
@@ -166,39 +157,42 @@ fn serial_check(
     clip: Clip,
     syndrome: &[u8],
     bias: &[f64],
-    check_var: &[u32],
-    check_offset: &[u32],
-    var_message: &[u32],
-    var_offset: &[u32],
+    checks: &Rows<'_>,
+    variables: &Rows<'_>,
     c_to_v: &mut [f64],
     v_to_c: &mut [f64],
     posterior: &mut [f64],
 )
-    requires c_in_bounds { c < length syndrome.now }
-    requires walks { Walks (length syndrome.now) (length bias.now) check_var.now check_offset.now }
-    requires walks_2 { Walks (length bias.now) (length check_var.now) var_message.now var_offset.now }
-    requires posterior_len { length posterior.old ≡ length bias.now }
-    requires per_edge { PerEdge (length check_var.now) c_to_v.old v_to_c.old }
-    ensures { let g = walked (length syndrome.now) (length bias.now) check_var.now
-        check_offset.now var_message.now var_offset.now in
+    requires c_in_bounds { c < checks.now.rows }
+    requires joined { Joined checks.now variables.now }
+    requires syndrome_len { length syndrome.now ≡ checks.now.rows }
+    requires per_variable { PerVariable variables.now.rows bias.now posterior.old }
+    requires per_edge { PerEdge variables.now.n c_to_v.old v_to_c.old }
+    ensures { let g = sides checks.now variables.now in
         let before = state c_to_v.old v_to_c.old posterior.old in
         state c_to_v.new v_to_c.new posterior.new
         ≡ serial_check by_place g alpha clip syndrome.now bias.now before c }
 {
-    let start = at(check_offset, c);
-    let end = at(check_offset, c + 1);
+    let start = checks.start(c);
+    let end = checks.end(c);
     let odd = syndrome[c] != 0;
     match clip {
-        Clip::Off => update_part(alpha, odd, start, end, check_var, v_to_c, c_to_v),
+        Clip::Off => update_part(alpha, odd, start, end, checks.entries, v_to_c, c_to_v),
         Clip::On(magnitude) => clipped_part(
-            alpha, magnitude, odd, start, end, check_var, v_to_c, c_to_v,
+            alpha,
+            magnitude,
+            odd,
+            start,
+            end,
+            checks.entries,
+            v_to_c,
+            c_to_v,
         ),
     }
     update_variables(
-        &check_var[start..end],
+        &checks.entries[start..end],
         bias,
-        var_message,
-        var_offset,
+        variables,
         c_to_v,
         v_to_c,
         posterior,
@@ -211,22 +205,19 @@ fn serial_pass(
     clip: Clip,
     syndrome: &[u8],
     bias: &[f64],
-    check_var: &[u32],
-    check_offset: &[u32],
-    var_message: &[u32],
-    var_offset: &[u32],
+    checks: &Rows<'_>,
+    variables: &Rows<'_>,
     order: &[u32],
     c_to_v: &mut [f64],
     v_to_c: &mut [f64],
     posterior: &mut [f64],
 )
-    requires walks { Walks (length syndrome.now) (length bias.now) check_var.now check_offset.now }
-    requires walks_2 { Walks (length bias.now) (length check_var.now) var_message.now var_offset.now }
-    requires keys { Keys (length syndrome.now) order.now }
-    requires posterior_len { length posterior.old ≡ length bias.now }
-    requires per_edge { PerEdge (length check_var.now) c_to_v.old v_to_c.old }
-    ensures { let g = walked (length syndrome.now) (length bias.now) check_var.now
-        check_offset.now var_message.now var_offset.now in
+    requires joined { Joined checks.now variables.now }
+    requires syndrome_len { length syndrome.now ≡ checks.now.rows }
+    requires keys { Keys checks.now.rows order.now }
+    requires per_variable { PerVariable variables.now.rows bias.now posterior.old }
+    requires per_edge { PerEdge variables.now.n c_to_v.old v_to_c.old }
+    ensures { let g = sides checks.now variables.now in
         let before = state c_to_v.old v_to_c.old posterior.old in
         state c_to_v.new v_to_c.new posterior.new
         ≡ serial_pass by_place g alpha clip syndrome.now bias.now order.now before }
@@ -238,10 +229,8 @@ fn serial_pass(
             clip,
             syndrome,
             bias,
-            check_var,
-            check_offset,
-            var_message,
-            var_offset,
+            checks,
+            variables,
             c_to_v,
             v_to_c,
             posterior,
@@ -256,23 +245,21 @@ fn check_serial_iteration(
     syndrome: &[u8],
     priors: &[f64],
     gamma: &[f64],
-    check_var: &[u32],
-    check_offset: &[u32],
-    var_message: &[u32],
-    var_offset: &[u32],
+    checks: &Rows<'_>,
+    variables: &Rows<'_>,
     order: &[u32],
     bias: &mut [f64],
     c_to_v: &mut [f64],
     v_to_c: &mut [f64],
     posterior: &mut [f64],
 )
-    requires walks { Walks (length syndrome.now) (length priors.now) check_var.now check_offset.now }
-    requires walks_2 { Walks (length priors.now) (length check_var.now) var_message.now var_offset.now }
-    requires keys { Keys (length syndrome.now) order.now }
-    requires per_mechanism { PerMechanism (length priors.now) gamma.now bias.old posterior.old }
-    requires per_edge { PerEdge (length check_var.now) c_to_v.old v_to_c.old }
-    ensures { let g = walked (length syndrome.now) (length priors.now) check_var.now
-        check_offset.now var_message.now var_offset.now in
+    requires joined { Joined checks.now variables.now }
+    requires syndrome_len { length syndrome.now ≡ checks.now.rows }
+    requires priors_len { length priors.now ≡ variables.now.rows }
+    requires keys { Keys checks.now.rows order.now }
+    requires per_mechanism { PerMechanism variables.now.rows gamma.now bias.old posterior.old }
+    requires per_edge { PerEdge variables.now.n c_to_v.old v_to_c.old }
+    ensures { let g = sides checks.now variables.now in
         let before = state c_to_v.old v_to_c.old posterior.old in
         state c_to_v.new v_to_c.new posterior.new
         ≡ check_serial_iteration by_place g alpha clip syndrome.now priors.now gamma.now
@@ -280,18 +267,7 @@ fn check_serial_iteration(
 {
     compute_bias(priors, gamma, posterior, bias);
     serial_pass(
-        alpha,
-        clip,
-        syndrome,
-        bias,
-        check_var,
-        check_offset,
-        var_message,
-        var_offset,
-        order,
-        c_to_v,
-        v_to_c,
-        posterior,
+        alpha, clip, syndrome, bias, checks, variables, order, c_to_v, v_to_c, posterior,
     );
 }
 
@@ -303,23 +279,21 @@ pub fn step(
     syndrome: &[u8],
     priors: &[f64],
     gamma: &[f64],
-    check_var: &[u32],
-    check_offset: &[u32],
-    var_message: &[u32],
-    var_offset: &[u32],
+    checks: &Rows<'_>,
+    variables: &Rows<'_>,
     order: &[u32],
     bias: &mut [f64],
     c_to_v: &mut [f64],
     v_to_c: &mut [f64],
     posterior: &mut [f64],
 )
-    requires walks { Walks (length syndrome.now) (length priors.now) check_var.now check_offset.now }
-    requires walks_2 { Walks (length priors.now) (length check_var.now) var_message.now var_offset.now }
-    requires keys { Keys (length syndrome.now) order.now }
-    requires per_mechanism { PerMechanism (length priors.now) gamma.now bias.old posterior.old }
-    requires per_edge { PerEdge (length check_var.now) c_to_v.old v_to_c.old }
-    ensures { let g = walked (length syndrome.now) (length priors.now) check_var.now
-        check_offset.now var_message.now var_offset.now in
+    requires joined { Joined checks.now variables.now }
+    requires syndrome_len { length syndrome.now ≡ checks.now.rows }
+    requires priors_len { length priors.now ≡ variables.now.rows }
+    requires keys { Keys checks.now.rows order.now }
+    requires per_mechanism { PerMechanism variables.now.rows gamma.now bias.old posterior.old }
+    requires per_edge { PerEdge variables.now.n c_to_v.old v_to_c.old }
+    ensures { let g = sides checks.now variables.now in
         let before = state c_to_v.old v_to_c.old posterior.old in
         state c_to_v.new v_to_c.new posterior.new
         ≡ iteration schedule by_place g alpha clip syndrome.now priors.now gamma.now
@@ -327,35 +301,11 @@ pub fn step(
 {
     match schedule {
         Schedule::Flooding => flooding_iteration(
-            alpha,
-            clip,
-            syndrome,
-            priors,
-            gamma,
-            check_var,
-            check_offset,
-            var_message,
-            var_offset,
-            order,
-            bias,
-            c_to_v,
-            v_to_c,
+            alpha, clip, syndrome, priors, gamma, checks, variables, order, bias, c_to_v, v_to_c,
             posterior,
         ),
         Schedule::CheckSerial => check_serial_iteration(
-            alpha,
-            clip,
-            syndrome,
-            priors,
-            gamma,
-            check_var,
-            check_offset,
-            var_message,
-            var_offset,
-            order,
-            bias,
-            c_to_v,
-            v_to_c,
+            alpha, clip, syndrome, priors, gamma, checks, variables, order, bias, c_to_v, v_to_c,
             posterior,
         ),
     }

@@ -4,10 +4,12 @@ ghost use mathlib.Core.List.{foldl};
 ghost use Rattle.numbers.specs.Floats.{◌+ᶠ◌};
 ghost use Rattle.graph_lists.specs.Messages.{total as total_of};
 ghost use Rattle.graph_lists.specs.Sound.{Keys};
-ghost use Rattle.graph_messages.specs.Needs.{Walks, of_variables};
+ghost use Rattle.graph_messages.specs.Needs.{PerEdge};
+ghost use Rattle.graph_messages.specs.Sides.{variables_alone};
 ghost use Rattle.relay_step.specs.Step.{written, state, update_variable};
+ghost use Rattle.relay_step.specs.Places.{PerVariable};
 
-use graph_lists::indices::at;
+use graph_messages::rows::Rows;
 use graph_messages::total;
 
 // p without each own message, written for each message that the entries name.
@@ -38,53 +40,37 @@ fn update_entries(bias: f64, entries: &[u32], c_to_v: &[f64], v_to_c: &mut [f64]
 pub(crate) fn update_variable(
     v: usize,
     bias: &[f64],
-    var_message: &[u32],
-    var_offset: &[u32],
+    variables: &Rows<'_>,
     c_to_v: &[f64],
     v_to_c: &mut [f64],
     posterior: &mut [f64],
 )
-    requires v_in_bounds { (v < length bias.now) × (length posterior.old ≡ length bias.now) }
-    requires walks { Walks (length bias.now) (length c_to_v.now) var_message.now var_offset.now }
-    requires v_to_c_len { length v_to_c.old ≡ length c_to_v.now }
-    ensures { let g = of_variables (length bias.now) var_message.now var_offset.now in
-        let before = state c_to_v.now v_to_c.old posterior.old in
-        state c_to_v.now v_to_c.new posterior.new ≡ update_variable g bias.now before v }
+    requires v_in_bounds { v < variables.now.rows }
+    requires per_variable { PerVariable variables.now.rows bias.now posterior.old }
+    requires per_edge { PerEdge variables.now.n c_to_v.now v_to_c.old }
+    ensures { let before = state c_to_v.now v_to_c.old posterior.old in
+        state c_to_v.now v_to_c.new posterior.new ≡ update_variable (variables_alone variables.now) bias.now before v }
 {
-    let start = at(var_offset, v);
-    let end = at(var_offset, v + 1);
-    let p = update_entries(bias[v], &var_message[start..end], c_to_v, v_to_c);
-    posterior[v] = p;
+    posterior[v] = update_entries(bias[v], variables.row(v), c_to_v, v_to_c);
 }
 
 // The update of each variable that a check's entries name, in their order.
 pub(crate) fn update_variables(
-    variables: &[u32],
+    entries: &[u32],
     bias: &[f64],
-    var_message: &[u32],
-    var_offset: &[u32],
+    variables: &Rows<'_>,
     c_to_v: &[f64],
     v_to_c: &mut [f64],
     posterior: &mut [f64],
 )
-    requires keys { Keys (length bias.now) variables.now }
-    requires posterior_len { length posterior.old ≡ length bias.now }
-    requires walks { Walks (length bias.now) (length c_to_v.now) var_message.now var_offset.now }
-    requires v_to_c_len { length v_to_c.old ≡ length c_to_v.now }
-    ensures { let g = of_variables (length bias.now) var_message.now var_offset.now in
-        let before = state c_to_v.now v_to_c.old posterior.old in
+    requires keys { Keys variables.now.rows entries.now }
+    requires per_variable { PerVariable variables.now.rows bias.now posterior.old }
+    requires per_edge { PerEdge variables.now.n c_to_v.now v_to_c.old }
+    ensures { let before = state c_to_v.now v_to_c.old posterior.old in
         state c_to_v.now v_to_c.new posterior.new
-        ≡ foldl (update_variable g bias.now) before variables.now }
+        ≡ foldl (update_variable (variables_alone variables.now) bias.now) before entries.now }
 {
-    for v in variables {
-        update_variable(
-            *v as usize,
-            bias,
-            var_message,
-            var_offset,
-            c_to_v,
-            v_to_c,
-            posterior,
-        );
+    for v in entries {
+        update_variable(*v as usize, bias, variables, c_to_v, v_to_c, posterior);
     }
 }

@@ -3,17 +3,16 @@
 use mathlib.Core.Path.{◌≡◌}
 use mathlib.Core.Bool.{false}
 use Prim.Native.Nat.{◌<◌, ◌-◌}
-use lib.ListN.{length}
 use Rattle.graph_lists.specs.Messages.{by_place}
-use Rattle.graph_messages.specs.Needs.{walked, of_checks}
+use Rattle.graph_messages.specs.Sides.{sides, checks_alone}
 use Rattle.relay_step.specs.Step.{state, iteration}
 use Rattle.relay_step.specs.Leg.{hard_decision, satisfied, run_leg}
 use Rattle.relay_step.proofs.leg.run_leg.Given as goal
 
 abbrev pub invariant-loop-k : goal.invariant-loop-k
 invariant-loop-k l =
-    (run_leg (iteration l.schedule by_place (walked (length l.syndrome) (length l.priors) l.check_var l.check_offset l.var_message l.var_offset) l.alpha l.clip l.syndrome l.priors l.gamma l.order)
-    (satisfied (of_checks (length l.syndrome) l.check_var l.check_offset) l.syndrome) (l.limit - l.k) false l.k (state l.c_to_v l.v_to_c l.posterior)
-    ≡ run_leg (iteration l.schedule by_place (walked (length l.syndrome) (length l.priors) l.check_var l.check_offset l.var_message l.var_offset) l.alpha l.clip l.syndrome l.priors l.gamma l.order)
-    (satisfied (of_checks (length l.syndrome) l.check_var l.check_offset) l.syndrome) l.limit false 0 (state l.initial.c_to_v l.initial.v_to_c l.initial.posterior))
+    (run_leg (iteration l.schedule by_place (sides l.checks l.variables) l.alpha l.clip l.syndrome l.priors l.gamma l.order)
+    (satisfied (checks_alone l.checks) l.syndrome) (l.limit - l.k) false l.k (state l.c_to_v l.v_to_c l.posterior)
+    ≡ run_leg (iteration l.schedule by_place (sides l.checks l.variables) l.alpha l.clip l.syndrome l.priors l.gamma l.order)
+    (satisfied (checks_alone l.checks) l.syndrome) l.limit false 0 (state l.initial.c_to_v l.initial.v_to_c l.initial.posterior))
     × (0 < l.k → l.bits ≡ hard_decision l.posterior)

@@ -3,9 +3,6 @@
 use Rattle.relay_step.specs.Leg.{satisfied}
 use Rattle.relay_step.proofs.leg.satisfied.Goals as goal
 
-pub returns : goal.returns
+pub returns-clause-test : goal.returns-clause-test
 unfolding satisfied
-returns c = record {
-  test = rw (← c.hard_decision.ensures) c.all_match.ensures;
-  bits = c.hard_decision.ensures;
-}
+returns-clause-test c = rw (← c.hard_decision.ensures) c.all_match.ensures
