@@ -184,13 +184,6 @@ legs_over had x (suc n) e r = refl
 
 -- ---- a leg's record
 
--- a state that is neither 1 nor 2
-pub record_neither : (s i : ℕ) (w : Float) → (s ≡ 1 → ⊥) → (s ≡ 2 → ⊥) → LegRecord.NotExecuted ≡ record_of s i w
-record_neither zero i w h k = refl
-record_neither (suc zero) i w h k = absurd (h refl)
-record_neither (suc (suc zero)) i w h k = absurd (k refl)
-record_neither (suc (suc (suc n))) i w h k = refl
-
 module _ (s i : List ℕ) (w : List Float) (r : ℕ) where
   -- outside the states
   pub record_no_state : length s ≤ r → LegRecord.NotExecuted ≡ leg_record s i w r

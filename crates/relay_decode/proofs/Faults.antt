@@ -2,8 +2,7 @@
 use mathlib.Core.Path.{◌≡◌, refl, sym, ap, ◌∙◌}
 use mathlib.Core.Bool.{Bool, true, false, ◌&&◌}
 use mathlib.Core.List.{List, []}
-use Prim.Native.Nat.{ℕ, suc, ◌+◌, ◌*◌, ◌<◌, ◌≤◌}
-use native.Mathlib.Nat.{mul-le-mul}
+use Prim.Native.Nat.{ℕ, suc, ◌*◌, ◌<◌, ◌≤◌}
 use native.Mathlib.Omega.{arith}
 use lib.Dec.{eqb, leb}
 use lib.Ieee.{Float}
@@ -50,12 +49,6 @@ fits_joined false b c d e = refl
 fits_joined true false c d e = refl
 fits_joined true true false d e = refl
 fits_joined true true true d e = refl
-
--- the rows of all legs, as the code counts them
-pub cells_small : (n m : ℕ) → n ≤ 65535 → m ≤ 65536 → (n + 1) * m < 18446744073709551616
-cells_small n m h k =
-    let small : (n + 1) * m ≤ 65536 * 65536 = mul-le-mul {n₂ = 65536} {m₂ = 65536} (omega arith) k in
-    omega (arith, small)
 
 -- ---- one test after another
 

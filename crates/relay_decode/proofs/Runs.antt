@@ -172,10 +172,6 @@ module _ (x : Shot) where
         → (each : ℕ) → most_iterations x.settings * each ≤ max_stores → total * each ≤ max_stores
     run_fits r k s l e each h = fits_within total x.settings (suc r) each l (turned r _ k s l e).few h
 
-    -- and after all legs
-    pub all_fit : (r : ℕ) → Reached r (kept best num total r ss is ws rows cor p) → r ≤ many → (each : ℕ) → most_iterations x.settings * each ≤ max_stores → total * each ≤ max_stores
-    all_fit r s l each h = fits_within total x.settings r each l s.few h
-
     -- the way out after a leg
     pub run_ended : (each r : ℕ) (k : Kept) → Reached r k → r < many → kept best num total (suc r) ss is ws rows cor p ≡ kept_after x k r (executed_leg by_place x r k.posterior)
         → (a : Answer) (b : Bool) (c : Decoded) → length p ≡ x.graph.mechanisms → a ≡ first_of (length p) (value_fault p)
