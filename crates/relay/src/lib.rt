@@ -12,7 +12,6 @@ ghost use Rattle.relay_calls.specs.Decode.{shot};
 
 use graph_lists::indices::at;
 use refusals::Refusal;
-use refusals_tests::is_done;
 
 // The settings' types, which `relay_settings` declares.
 pub type Schedule = relay_settings::Schedule;
@@ -80,7 +79,7 @@ pub fn iteration(
         ≡ iteration_call size.edges priors.now g schedule alpha clip gamma.now syndrome.now
         order.now before }
 {
-    let a = relay_calls::tests::fault(
+    relay_calls::tests::fault(
         size,
         priors,
         check_var,
@@ -97,10 +96,7 @@ pub fn iteration(
         v_to_c,
         posterior,
         bias,
-    );
-    if !is_done(a) {
-        return a;
-    }
+    )?;
     relay_calls::iterate::stepped(
         schedule,
         alpha,

@@ -1,22 +1,21 @@
 -- The public calls: what the tests of a single iteration tell where none refuses, that a step reads four of the five graph lists, what the call leaves, and
 -- what the leg lists say of a leg. Assumes nothing.
 use mathlib.Core.Path.{◌≡◌, refl, sym, ap, ◌∙◌}
-use mathlib.Core.Bool.{Bool, true, false, not, ◌&&◌, true≢false}
+use mathlib.Core.Bool.{Bool, true, false, ◌&&◌, true≢false}
 use mathlib.Core.List.{List, []}
 use Prim.Native.Nat.{ℕ, zero, suc, ◌+◌, ◌<◌, ◌≤◌}
 use native.Mathlib.Numerals.{add-one}
-use lib.Dec.{eqb}
 use lib.Ieee.{Float, nan}
 use lib.ListN.{length, get_or, replicate}
-use borrow.Author.Tests.{not-true, not-false, eqb-true, lt-ltb, le-ltb}
+use borrow.Author.Tests.{eqb-true, lt-ltb, le-ltb}
 use Rattle.numbers.specs.Floats.{zero⁺, is_finite}
 use Rattle.numbers.specs.Loops.{every, part}
-use Rattle.numbers.proofs.Cases.{and_both, was_true, was_false}
-use Rattle.refusals.specs.declared.Refusal.TheVariants.{SyndromeLength}
+use Rattle.numbers.proofs.Cases.{and_both}
+use Rattle.refusals.specs.declared.Refusal.{Refusal}
 use Rattle.refusals.specs.Refusal.{Answer}
-use Rattle.std.specs.Prelude.{Ok, Err}
-use Rattle.refusals.specs.Tests.{is_done, unless, or_else, first_of, unless_refused}
-use Rattle.refusals.proofs.Tests.{done_is, or_done, unless_done}
+use Rattle.std.specs.Prelude.{Ok, Err, is_err}
+use Rattle.refusals.specs.Tests.{unless_refused}
+use Rattle.refusals.proofs.Tests.{or_done, unless_done}
 use Rattle.graph_lists.specs.Graph.{Graph, graph}
 use Rattle.graph_lists.specs.Messages.{Access, by_place}
 use Rattle.graph_lists.specs.Model.{graph_fault}
@@ -32,36 +31,16 @@ use Rattle.relay_calls.specs.declared.LegRecord.{LegRecord}
 use Rattle.relay_step.specs.Step.{State, state, update_check, update_variable, check_pass, variable_pass, flooding_iteration, serial_check, serial_pass, check_serial_iteration, iteration}
 use Rattle.relay_calls.specs.Decode.{Shot, Run, Ended, Progress, running, finished, after_leg, legs_from}
 use Rattle.relay_calls.specs.Records.{record_of, leg_record}
-use Rattle.relay_calls.specs.Calls.{byte_fault, syndrome_fault, StepLists, step_lists, StepOutcome, step_outcome, step_fits, finite_at, step_fault, message_finite, mechanism_finite, finite_fault, step_end, stepped, after_step_tests, iteration_call}
+use Rattle.relay_calls.specs.Calls.{syndrome_fault, StepLists, step_lists, StepOutcome, step_outcome, step_fits, finite_at, step_fault, message_finite, mechanism_finite, finite_fault, step_end, stepped, iteration_call}
 use Rattle.relay_calls.proofs.Named.{names_entries}
 
 -- ---- what the tests tell
 
 -- a graph that passes has no more checks than it may have
-pub checks_few : (edges : ℕ) (prior : List Float) (g : Graph) (a : Answer) (b : Bool) → a ≡ graph_fault edges prior g → b ≡ is_done a → not b ≡ false
-    → g.checks ≤ 65536
-checks_few edges prior g a b e d h = (graph_told edges prior g (sym e ∙ done_is a (sym d ∙ not-false b h))).few.checks_few
-
--- ---- a syndrome
-
-module _ (checks : ℕ) (syndrome : List ℕ) (b : Bool) (e : b ≡ eqb (length syndrome) checks) where
-  -- 20
-  pub syndrome_length : not b ≡ true → Err SyndromeLength ≡ syndrome_fault checks syndrome
-  unfolding syndrome_fault or_else unless
-  syndrome_length h = rw (was_false b _ e h)
-
-  -- and 21 past it
-  pub syndrome_bytes : (a : Answer) → not b ≡ false → a ≡ first_of (length syndrome) (byte_fault syndrome) → a ≡ syndrome_fault checks syndrome
-  unfolding syndrome_fault or_else unless
-  syndrome_bytes a h q = let t = was_true b _ e h in rw t (q ∙ ap (λ n. first_of n (byte_fault syndrome)) (eqb-true _ _ t))
+pub checks_few : (edges : ℕ) (prior : List Float) (g : Graph) → Ok tt ≡ graph_fault edges prior g → g.checks ≤ 65536
+checks_few edges prior g e = (graph_told edges prior g (sym e)).few.checks_few
 
 -- ---- the end of a step
-
--- both messages of one entry, as the code has them
-pub message_is : (c v : List Float) (entries : List ℕ) (i m : ℕ) (f g b : Bool) → m ≡ get_or entries i 0 → f ≡ is_finite (get_or c m nan) → g ≡ is_finite (get_or v m nan)
-    → b ≡ (f && g) → b ≡ message_finite (state c v []) entries i
-unfolding message_finite finite_at
-message_is c v entries i m f g b e p q r = rw (r, p, q, e)
 
 -- one mechanism, with its part as the code reads it
 pub mechanism_is : (mechanisms : ℕ) (vm vo : List ℕ) (c v p : List Float) (k a e : ℕ) (f g b : Bool) → a ≡ get_or vo k 0 → e ≡ get_or vo (k + 1) 0
@@ -71,16 +50,18 @@ unfolding mechanism_finite message_finite finite_at
 mechanism_is mechanisms vm vo c v p k a e f g b from to h q r = rw (r, h, q, from, to, add-one)
 
 -- nothing is refused: the state stays
-pub ended_stays : (a : Answer) (s t : State) (b : Bool) → b ≡ is_done a → b ≡ true → s ≡ unless_refused a s t
+pub ended_stays : (a : Answer) (s t : State) → is_err a ≡ false → s ≡ unless_refused a s t
 unfolding unless_refused
-ended_stays a s t b d h = rw (sym d ∙ h)
+ended_stays (Ok _) s t h = refl
+ended_stays (Err r) s t h = absurd (true≢false h)
 
 -- 30: it is zeroed
-pub ended_zeroed : (a : Answer) (b : Bool) (s : State) (c v p x y z : List Float) → b ≡ is_done a → b ≡ false → x ≡ replicate (length c) zero⁺
+pub ended_zeroed : (a : Answer) (s : State) (c v p x y z : List Float) → is_err a ≡ true → x ≡ replicate (length c) zero⁺
     → y ≡ replicate (length v) zero⁺ → z ≡ replicate (length p) zero⁺
     → state x y z ≡ unless_refused a s (state (replicate (length c) zero⁺) (replicate (length v) zero⁺) (replicate (length p) zero⁺))
 unfolding unless_refused
-ended_zeroed a b s c v p x y z d h e f g = rw (sym d ∙ h, e, f, g)
+ended_zeroed (Ok _) s c v p x y z h e f g = absurd (true≢false (sym h))
+ended_zeroed (Err r) s c v p x y z h e f g = rw (e, f, g)
 
 -- all that is left past the tests: s is what the step left, u the state after its end
 pub stepped_is : (edges checks mechanisms : ℕ) (cv co vm vo : List ℕ) (s t u : State) (bias : List Float) (a : Answer) → t ≡ s → length t.c_to_v ≡ edges
@@ -117,11 +98,6 @@ stepped_counted edges edges' checks checks' mechanisms mechanisms' cv co vm vo s
 
 -- ---- the single iteration
 
--- a call that its tests refuse leaves the lists
-leaves : (a : Answer) (o : StepOutcome) (l : StepLists) → is_done a ≡ false → step_outcome a l ≡ after_step_tests a o l
-leaves (Ok _) o l h = absurd (true≢false h)
-leaves (Err r) o l h = refl
-
 -- what the tests tell where none refuses
 pub record Passed (edges checks mechanisms : ℕ) (cv co vm vo : List ℕ) (prior gamma : List Float) (syndrome order : List ℕ) (l : StepLists) : Type 0 where
   pub edges_many : length cv ≡ edges
@@ -138,11 +114,11 @@ pub record Passed (edges checks mechanisms : ℕ) (cv co vm vo : List ℕ) (prio
 
 module _ (edges checks mechanisms : ℕ) (cv co vc vm vo : List ℕ) (prior : List Float) (alpha : Float) (clip : Clip) (gamma : List Float) (syndrome order : List ℕ) (l : StepLists) where
   -- where none refuses, they tell all that the step asks
-  pub passed : (a : Answer) (b : Bool) → a ≡ step_fault edges prior (graph checks mechanisms cv co vc vm vo) alpha clip gamma syndrome order l → b ≡ is_done a
-      → not b ≡ false → Passed edges checks mechanisms cv co vm vo prior gamma syndrome order l
+  pub passed : Ok tt ≡ step_fault edges prior (graph checks mechanisms cv co vc vm vo) alpha clip gamma syndrome order l
+      → Passed edges checks mechanisms cv co vm vo prior gamma syndrome order l
   unfolding step_fault step_fits syndrome_fault
-  passed a b e d h =
-      let t1 = or_done _ _ (sym e ∙ done_is a (sym d ∙ not-false b h)) in
+  passed e =
+      let t1 = or_done _ _ (sym e) in
       let t2 = or_done _ _ (or_done _ _ t1.1).1 in
       let t3 = or_done _ _ t2.1 in
       let t4 = or_done _ _ t3.1 in
@@ -170,23 +146,20 @@ module _ (edges checks mechanisms : ℕ) (cv co vc vm vo : List ℕ) (prior : Li
 
   module _ (schedule : Schedule) where
     -- a call that is refused
-    pub iteration_refused : (a : Answer) (b : Bool) → a ≡ step_fault edges prior (graph checks mechanisms cv co vc vm vo) alpha clip gamma syndrome order l
-        → b ≡ is_done a → not b ≡ true
-        → step_outcome a l ≡ iteration_call edges prior (graph checks mechanisms cv co vc vm vo) schedule alpha clip gamma syndrome order l
+    pub iteration_refused : (r : Refusal) → Err r ≡ step_fault edges prior (graph checks mechanisms cv co vc vm vo) alpha clip gamma syndrome order l
+        → step_outcome (Err r) l ≡ iteration_call edges prior (graph checks mechanisms cv co vc vm vo) schedule alpha clip gamma syndrome order l
     unfolding iteration_call
-    iteration_refused a b e d h = rw (← e) (leaves a _ l (sym d ∙ not-true b h))
+    iteration_refused r e = rw (← e)
 
     -- one that is not
-    pub iteration_ran : (a : Answer) (b : Bool) (o : StepOutcome) → a ≡ step_fault edges prior (graph checks mechanisms cv co vc vm vo) alpha clip gamma syndrome order l
-        → b ≡ is_done a → not b ≡ false
+    pub iteration_ran : (o : StepOutcome) → Ok tt ≡ step_fault edges prior (graph checks mechanisms cv co vc vm vo) alpha clip gamma syndrome order l
         → o ≡ stepped (length cv) (walked (length syndrome) (length prior) cv co vm vo)
         (iteration schedule by_place (walked (length syndrome) (length prior) cv co vm vo) alpha clip syndrome prior gamma order l.now)
         → o ≡ iteration_call edges prior (graph checks mechanisms cv co vc vm vo) schedule alpha clip gamma syndrome order l
     unfolding iteration_call
-    iteration_ran a b o e d h q =
-        let t = passed a b e d h in
-        let done : step_fault edges prior (graph checks mechanisms cv co vc vm vo) alpha clip gamma syndrome order l ≡ Ok tt = sym e ∙ done_is a (sym d ∙ not-false b h) in
-        rw done
+    iteration_ran o e q =
+        let t = passed e in
+        rw (← e)
         (q
         ∙ stepped_counted _ _ _ _ _ _ cv co vm vo schedule alpha clip syndrome prior gamma order l.now t.edges_many t.checks_many t.mechanisms_many
         ∙ ap (λ step. stepped edges (walked checks mechanisms cv co vm vo) (step l.now)) (same_step checks mechanisms cv co vc vm vo alpha clip syndrome prior gamma order schedule)
@@ -210,13 +183,6 @@ legs_over had x zero e r = refl
 legs_over had x (suc n) e r = refl
 
 -- ---- a leg's record
-
--- a state that is neither 1 nor 2
-pub record_neither : (s i : ℕ) (w : Float) → (s ≡ 1 → ⊥) → (s ≡ 2 → ⊥) → LegRecord.NotExecuted ≡ record_of s i w
-record_neither zero i w h k = refl
-record_neither (suc zero) i w h k = absurd (h refl)
-record_neither (suc (suc zero)) i w h k = absurd (k refl)
-record_neither (suc (suc (suc n))) i w h k = refl
 
 module _ (s i : List ℕ) (w : List Float) (r : ℕ) where
   -- outside the states

@@ -16,7 +16,6 @@ use graph_messages::clear;
 use graph_messages::rows::Rows;
 use numbers::is_finite;
 use refusals::Refusal;
-use refusals_tests::{both, is_done};
 use relay_settings::{Clip, Schedule};
 use relay_step::step::step;
 
@@ -27,13 +26,11 @@ fn messages_finite(entries: &[u32], c_to_v: &[f64], v_to_c: &[f64]) -> bool
     ensures { let before = state c_to_v.now v_to_c.now [] in
         result ≡ every (length entries.now) (message_finite before entries.now) }
 {
-    let mut i = 0;
-    while i < entries.len() {
-        let m = at(entries, i);
-        if !both(is_finite(c_to_v[m]), is_finite(v_to_c[m])) {
+    for entry in entries {
+        let m = *entry as usize;
+        if !is_finite(c_to_v[m]) || !is_finite(v_to_c[m]) {
             return false;
         }
-        i += 1;
     }
     true
 }
@@ -56,8 +53,7 @@ fn mechanism_finite(
 {
     let start = at(var_offset, v);
     let end = at(var_offset, v + 1);
-    let messages = messages_finite(&var_message[start..end], c_to_v, v_to_c);
-    both(is_finite(posterior[v]), messages)
+    is_finite(posterior[v]) && messages_finite(&var_message[start..end], c_to_v, v_to_c)
 }
 
 // 30: the first mechanism that has a value that is not finite.
@@ -74,12 +70,10 @@ fn step_end(
         let before = state c_to_v.now v_to_c.now posterior.now in
         result ≡ step_end g before }
 {
-    let mut v = 0;
-    while v < posterior.len() {
+    for v in 0..posterior.len() {
         if !mechanism_finite(v, var_message, var_offset, c_to_v, v_to_c, posterior) {
             return Err(Refusal::NonFinite(v));
         }
-        v += 1;
     }
     Ok(())
 }
@@ -103,12 +97,11 @@ fn ended(
         state c_to_v.new v_to_c.new posterior.new ≡ unless_refused result before before' }
 {
     let a = step_end(var_message, var_offset, c_to_v, v_to_c, posterior);
-    if is_done(a) {
-        return a;
+    if a.is_err() {
+        clear(c_to_v);
+        clear(v_to_c);
+        clear(posterior);
     }
-    clear(c_to_v);
-    clear(v_to_c);
-    clear(posterior);
     a
 }
 

@@ -12,9 +12,8 @@ ghost use Rattle.relay_calls.specs.Calls.{byte_fault, syndrome_fault, all_finite
 
 use numbers::is_finite;
 use refusals::Refusal;
-use refusals_tests::{both, finite_positive, is_done, or_else, same_number, unless};
 use relay_orders::names_fault;
-use relay_settings::{Clip, clip_good};
+use relay_settings::{Clip, alpha_good, clip_good};
 
 // A byte of a syndrome is 0 or 1.
 fn is_bit(b: u8) -> bool
@@ -27,27 +26,27 @@ fn is_bit(b: u8) -> bool
 fn bytes_fault(syndrome: &[u8]) -> Result<(), Refusal>
     ensures { result ≡ first_of (length syndrome.now) (byte_fault syndrome.now) }
 {
-    let mut c = 0;
-    while c < syndrome.len() {
-        if !is_bit(syndrome[c]) {
+    for (c, byte) in syndrome.iter().enumerate() {
+        if !is_bit(*byte) {
             return Err(Refusal::SyndromeNotBinary(c));
         }
-        c += 1;
     }
     Ok(())
 }
 
 // 20, then 21.
+#[tactic(auto, unfolding(crate::specs::Calls::syndrome_fault, refusals::specs::Tests::unless, refusals::specs::Tests::or_else))]
 pub fn syndrome_fault(checks: usize, syndrome: &[u8]) -> Result<(), Refusal>
     ensures { result ≡ syndrome_fault checks syndrome.now }
 {
-    if !same_number(syndrome.len(), checks) {
+    if syndrome.len() != checks {
         return Err(Refusal::SyndromeLength);
     }
     bytes_fault(syndrome)
 }
 
 // 22: the lent lists, and the gammas, fit.
+#[tactic(auto, unfolding(crate::specs::Calls::step_fits))]
 fn lists_fit(
     mechanisms: usize,
     edges: usize,
@@ -60,46 +59,31 @@ fn lists_fit(
     ensures { let before = step_lists (state c_to_v.now v_to_c.now posterior.now) bias.now in
         result ≡ step_fits edges (of_variables mechanisms [] []) gamma.now before }
 {
-    let variables = both(
-        same_number(posterior.len(), mechanisms),
-        same_number(bias.len(), mechanisms),
-    );
-    let messages = both(same_number(v_to_c.len(), edges), variables);
-    both(
-        same_number(gamma.len(), mechanisms),
-        both(same_number(c_to_v.len(), edges), messages),
-    )
+    gamma.len() == mechanisms
+        && c_to_v.len() == edges
+        && v_to_c.len() == edges
+        && posterior.len() == mechanisms
+        && bias.len() == mechanisms
 }
 
 // All of a list are finite.
 fn all_finite(xs: &[f64]) -> bool
     ensures { result ≡ all_finite xs.now }
 {
-    let mut i = 0;
-    while i < xs.len() {
-        if !is_finite(xs[i]) {
-            return false;
-        }
-        i += 1;
-    }
-    true
+    xs.iter().all(|x| is_finite(*x))
 }
 
 // 25: the messages, the posterior and the gammas are finite.
+#[tactic(auto, unfolding(crate::specs::Calls::state_finite))]
 fn state_finite(gamma: &[f64], c_to_v: &[f64], v_to_c: &[f64], posterior: &[f64]) -> bool
     ensures { let before = state c_to_v.now v_to_c.now posterior.now in
         result ≡ state_finite gamma.now before }
 {
-    both(
-        all_finite(c_to_v),
-        both(
-            all_finite(v_to_c),
-            both(all_finite(posterior), all_finite(gamma)),
-        ),
-    )
+    all_finite(c_to_v) && all_finite(v_to_c) && all_finite(posterior) && all_finite(gamma)
 }
 
 // 9, 10, 20, 21, 22, 23 and 25, of as many checks as a graph may have.
+#[tactic(auto, unfolding(refusals::specs::Tests::unless, refusals::specs::Tests::or_else))]
 fn step_fault(
     size: graph::Size,
     alpha: f64,
@@ -122,7 +106,14 @@ fn step_fault(
         (state c_to_v.now v_to_c.now posterior.now))
         StateNotFinite))))) }
 {
-    let fit = lists_fit(
+    if !clip_good(clip) {
+        return Err(Refusal::BadClip);
+    }
+    if !alpha_good(alpha) {
+        return Err(Refusal::BadAlpha);
+    }
+    syndrome_fault(size.checks, syndrome)?;
+    if !lists_fit(
         size.mechanisms,
         size.edges,
         gamma,
@@ -130,17 +121,14 @@ fn step_fault(
         v_to_c,
         posterior,
         bias,
-    );
-    let finite = state_finite(gamma, c_to_v, v_to_c, posterior);
-    let names = or_else(
-        names_fault(size.checks, order),
-        unless(finite, Refusal::StateNotFinite),
-    );
-    let lists = or_else(unless(fit, Refusal::LentListLength), names);
-    let clip_fault = unless(clip_good(clip), Refusal::BadClip);
-    let alpha_fault = unless(finite_positive(alpha), Refusal::BadAlpha);
-    let others = or_else(syndrome_fault(size.checks, syndrome), lists);
-    or_else(clip_fault, or_else(alpha_fault, others))
+    ) {
+        return Err(Refusal::LentListLength);
+    }
+    names_fault(size.checks, order)?;
+    if !state_finite(gamma, c_to_v, v_to_c, posterior) {
+        return Err(Refusal::StateNotFinite);
+    }
+    Ok(())
 }
 
 // The tests of a single iteration: 1, 2, 4, 7, 9, 10, 20 to 23 and 25.
@@ -169,7 +157,7 @@ pub fn fault(
         ≡ step_fault size.edges priors.now g alpha clip gamma.now syndrome.now
         order.now before }
 {
-    let a = graph::check_graph(
+    graph::check_graph(
         size,
         priors,
         check_var,
@@ -177,10 +165,7 @@ pub fn fault(
         var_check,
         var_message,
         var_offset,
-    );
-    if !is_done(a) {
-        return a;
-    }
+    )?;
     step_fault(
         size, alpha, clip, gamma, syndrome, order, c_to_v, v_to_c, posterior, bias,
     )

@@ -1,21 +1,20 @@
 -- The tests of a decode, as the code has them: in which order they come, what they tell where none refuses, and what the calls answer. Assumes nothing.
 use mathlib.Core.Path.{◌≡◌, refl, sym, ap, ◌∙◌}
-use mathlib.Core.Bool.{Bool, true, false, not, ◌&&◌}
+use mathlib.Core.Bool.{Bool, true, false, ◌&&◌}
 use mathlib.Core.List.{List, []}
-use Prim.Native.Nat.{ℕ, suc, ◌+◌, ◌*◌, ◌<◌, ◌≤◌}
-use native.Mathlib.Nat.{mul-le-mul}
+use Prim.Native.Nat.{ℕ, suc, ◌*◌, ◌<◌, ◌≤◌}
 use native.Mathlib.Omega.{arith}
 use lib.Dec.{eqb, leb}
 use lib.Ieee.{Float}
 use lib.ListN.{length, get_or}
-use borrow.Author.Tests.{not-true, not-false, eqb-true, leb-true}
+use borrow.Author.Tests.{eqb-true, leb-true}
 use Rattle.numbers.proofs.Cases.{and_both}
 use Rattle.refusals.specs.declared.Refusal.{Refusal}
 use Rattle.refusals.specs.declared.Refusal.TheVariants.{LentListLength}
 use Rattle.refusals.specs.Refusal.{Answer}
 use Rattle.std.specs.Prelude.{Ok, Err}
 use Rattle.refusals.specs.Tests.{is_done, unless, or_else}
-use Rattle.refusals.proofs.Tests.{done_is, or_first, or_second, or_done, unless_done}
+use Rattle.refusals.proofs.Tests.{or_first, or_second, or_done, unless_done}
 use Rattle.graph_lists.specs.Graph.{Graph, graph}
 use Rattle.graph_lists.specs.Model.{graph_fault}
 use Rattle.graph_lists.proofs.GraphTests.{graph_told}
@@ -31,7 +30,6 @@ use Rattle.relay_settings.specs.Settings.{settings_fault}
 use Rattle.relay_settings.proofs.Told.{settings_told}
 use Rattle.numbers.specs.Limits.{max_edges}
 use Rattle.numbers.specs.Loops.{upto}
-use Rattle.relay_gammas.specs.Gammas.{seed_fault}
 use Rattle.relay_orders.specs.Order.{names_once, names_fault, exchange_fault}
 use Rattle.relay_calls.proofs.Named.{names_entries, index_passes}
 use Rattle.relay_calls.proofs.LastTests.{or_joined, or_none, stores_last}
@@ -51,12 +49,6 @@ fits_joined false b c d e = refl
 fits_joined true false c d e = refl
 fits_joined true true false d e = refl
 fits_joined true true true d e = refl
-
--- the rows of all legs, as the code counts them
-pub cells_small : (n m : ℕ) → n ≤ 65535 → m ≤ 65536 → (n + 1) * m < 18446744073709551616
-cells_small n m h k =
-    let small : (n + 1) * m ≤ 65536 * 65536 = mul-le-mul {n₂ = 65536} {m₂ = 65536} (omega arith) k in
-    omega (arith, small)
 
 -- ---- one test after another
 
@@ -81,31 +73,32 @@ module _ (edges : ℕ) (x : Shot) (l : DecodeLists) where
         (length l.leg_state)) (leb (suc x.settings.num_legs) (length l.leg_iterations)) (leb (suc x.settings.num_legs) (length l.leg_weight))
         (leb (suc x.settings.num_legs * x.graph.mechanisms) (length l.rows)) _)
 
-    -- 20, 21, 27 and 22
-    pub lists_fault : (f : Bool) (s k u v r : Answer) → f ≡ (records && work) → u ≡ unless f LentListLength → s ≡ syndrome_fault x.graph.checks x.syndrome
-        → k ≡ seed_fault x.settings.gamma_source x.seed → v ≡ or_else k u → r ≡ or_else s v
-        → r ≡ or_else (syndrome_fault x.graph.checks x.syndrome)
-        (or_else (seed_fault x.settings.gamma_source x.seed) (unless (decode_lists_fit edges x l) LentListLength))
-    lists_fault f s k u v r a b c d e h = h ∙ rw (c, e, d, b, a ∙ fits_is)
+    -- 22
+    pub lists_refused : (records && work) ≡ false → Err LentListLength ≡ unless (decode_lists_fit edges x l) LentListLength
+    unfolding unless
+    lists_refused h = rw (sym fits_is ∙ h)
+
+    -- and none
+    pub lists_passed : (records && work) ≡ true → Ok tt ≡ unless (decode_lists_fit edges x l) LentListLength
+    unfolding unless
+    lists_passed h = rw (sym fits_is ∙ h)
 
 -- ---- 23 and 24, by themselves
 
 -- an order that passes 23
-pub names_passed : (checks : ℕ) (order : List ℕ) (a : Answer) (b : Bool) → a ≡ names_fault checks order → b ≡ is_done a → not b ≡ false → names_once checks order ≡ true
+pub names_passed : (checks : ℕ) (order : List ℕ) → Ok tt ≡ names_fault checks order → names_once checks order ≡ true
 unfolding names_fault
-names_passed checks order a b e d h = unless_done _ _ (sym e ∙ done_is a (sym d ∙ not-false b h))
+names_passed checks order e = unless_done _ _ (sym e)
 
 -- ---- what they tell
 
 -- a graph that passes has no more mechanisms than it may have
-pub mechanisms_few : (edges : ℕ) (prior : List Float) (g : Graph) (a : Answer) (b : Bool) → a ≡ graph_fault edges prior g → b ≡ is_done a → not b ≡ false
-    → g.mechanisms ≤ 65536
-mechanisms_few edges prior g a b e d h = (graph_told edges prior g (sym e ∙ done_is a (sym d ∙ not-false b h))).few.mechanisms_few
+pub mechanisms_few : (edges : ℕ) (prior : List Float) (g : Graph) → Ok tt ≡ graph_fault edges prior g → g.mechanisms ≤ 65536
+mechanisms_few edges prior g e = (graph_told edges prior g (sym e)).few.mechanisms_few
 
 -- settings that pass have no more legs than they may have
-pub legs_few : (t : Settings) (m : ℕ) (flat : List Float) (a : Answer) (b : Bool) → a ≡ settings_fault t m flat → b ≡ is_done a → not b ≡ false
-    → t.num_legs ≤ 65535
-legs_few t m flat a b e d h = (settings_told t m flat (sym e ∙ done_is a (sym d ∙ not-false b h))).legs_few
+pub legs_few : (t : Settings) (m : ℕ) (flat : List Float) → Ok tt ≡ settings_fault t m flat → t.num_legs ≤ 65535
+legs_few t m flat e = (settings_told t m flat (sym e)).legs_few
 
 -- all that a decode asks, where the tests refuse nothing
 pub record Passed (edges checks mechanisms : ℕ) (t : Settings) (flat : List Float) (syndrome : List ℕ) (prior : List Float) (cv co vm vo order : List ℕ) (l : DecodeLists) : Type 0 where
@@ -191,25 +184,25 @@ module _ (edges checks mechanisms : ℕ) (t : Settings) (flat : List Float) (see
     -- ---- 23 and 24
 
     -- what they ask of the graph
-    pub order_asks : (a : Answer) (b : Bool) → a ≡ shot_fault edges (X []) l → b ≡ is_done a → not b ≡ false
+    pub order_asks : Ok tt ≡ shot_fault edges (X []) l
         → (checks ≤ 65536) × (Offsets checks (length cv) co × Keys 65536 cv)
     unfolding shot_fault
-    order_asks a b e d h =
-        let g = graph_told edges prior (graph checks mechanisms cv co vc vm vo) (or_done _ _ (sym e ∙ done_is a (sym d ∙ not-false b h))).0 in
+    order_asks e =
+        let g = graph_told edges prior (graph checks mechanisms cv co vc vm vo) (or_done _ _ (sym e)).0 in
         let w = (graph_walks (graph checks mechanisms cv co vc vm vo) g.is_graph_lem).0 in
         (g.few.checks_few, (w.parts, record { small = λ k i. let q : get_or cv k 0 < mechanisms = w.named.small k i in omega (arith, q, g.few.mechanisms_few) }))
 
     -- a shot that is refused before them
-    pub fault_before : (a : Answer) (b : Bool) → a ≡ shot_fault edges (X []) l → b ≡ is_done a → not b ≡ true → a ≡ taken_fault edges (X order) l
+    pub fault_before : (r : Refusal) → Err r ≡ shot_fault edges (X []) l → Err r ≡ taken_fault edges (X order) l
     unfolding shot_fault decode_lists_fit
-    fault_before a b e d h = e ∙ sym (fault_joined edges (X order) l ∙ or_first _ _ (ap is_done (sym e) ∙ sym d ∙ not-true b h))
+    fault_before r e = e ∙ sym (fault_joined edges (X order) l ∙ or_first _ _ (ap is_done (sym e)))
 
     -- and one that is not
-    pub fault_after : (a r : Answer) (b : Bool) → a ≡ shot_fault edges (X []) l → b ≡ is_done a → not b ≡ false
+    pub fault_after : (r : Answer) → Ok tt ≡ shot_fault edges (X []) l
         → r ≡ or_else (names_fault checks order) (exchange_fault t.schedule (of_checks checks cv co) order) → r ≡ taken_fault edges (X order) l
     unfolding shot_fault decode_lists_fit exchange_fault
-    fault_after a r b e d h q =
-        q ∙ ap (or_else (names_fault checks order)) (exchange_whole t.schedule) ∙ sym (fault_joined edges (X order) l ∙ or_second _ _ (sym e ∙ done_is a (sym d ∙ not-false b h)))
+    fault_after r e q =
+        q ∙ ap (or_else (names_fault checks order)) (exchange_whole t.schedule) ∙ sym (fault_joined edges (X order) l ∙ or_second _ _ (sym e))
       where
         exchange_whole : (schedule : Schedule) → exchange_fault schedule (of_checks checks cv co) order ≡ exchange_fault schedule (graph checks mechanisms cv co vc vm vo) order
         exchange_whole Flooding = refl

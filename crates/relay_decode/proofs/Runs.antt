@@ -172,10 +172,6 @@ module _ (x : Shot) where
         → (each : ℕ) → most_iterations x.settings * each ≤ max_stores → total * each ≤ max_stores
     run_fits r k s l e each h = fits_within total x.settings (suc r) each l (turned r _ k s l e).few h
 
-    -- and after all legs
-    pub all_fit : (r : ℕ) → Reached r (kept best num total r ss is ws rows cor p) → r ≤ many → (each : ℕ) → most_iterations x.settings * each ≤ max_stores → total * each ≤ max_stores
-    all_fit r s l each h = fits_within total x.settings r each l s.few h
-
     -- the way out after a leg
     pub run_ended : (each r : ℕ) (k : Kept) → Reached r k → r < many → kept best num total (suc r) ss is ws rows cor p ≡ kept_after x k r (executed_leg by_place x r k.posterior)
         → (a : Answer) (b : Bool) (c : Decoded) → length p ≡ x.graph.mechanisms → a ≡ first_of (length p) (value_fault p)
@@ -188,13 +184,13 @@ module _ (x : Shot) where
         ends_as each _ _ _ c (kept best num total (suc r) ss is ws rows cor p) (ended_at r _ t a b (f ∙ ap (λ n. first_of n (value_fault p)) m) d h) w (ends_by each a t.run _ t.is)
 
     -- and after all of them
-    pub run_over : (each r : ℕ) (c : Decoded) → Reached r (kept best num total r ss is ws rows cor p) → many ≤ r → c ≡ answer_by (Ok tt) best r total (total * each)
+    pub run_over : (each r n : ℕ) (c : Decoded) → Reached r (kept best num total r ss is ws rows cor p) → many ≤ r → n ≡ r → c ≡ answer_by (Ok tt) best n total (total * each)
         → (c ≡ answer_of each (decode_legs by_place x)) × (is_refused c ≡ false → results ss is ws rows cor p ≡ results_of x (decode_legs by_place x))
     unfolding legs_from
-    run_over each r c s h q =
+    run_over each r n c s h m q =
         let none_left : many - r ≡ 0 = sub-eq-zero_of_le h in
         let end : decoded s.run ≡ decode_legs by_place x = ap (λ n. legs_from by_place x n (running s.run) r) (sym none_left) ∙ s.ahead in
-        ends_as each _ _ _ c (kept best num total r ss is ws rows cor p) end q (ends_by each (Ok tt) s.run _ s.is)
+        ends_as each _ _ _ c (kept best num total r ss is ws rows cor p) end (q ∙ ap (λ k. answer_by (Ok tt) best k total (total * each)) m) (ends_by each (Ok tt) s.run _ s.is)
 
 -- ---- the rows
 

@@ -4,15 +4,13 @@ use mathlib.Core.Bool.{Bool, true, false, not, cond, false≢true}
 use mathlib.Core.List.{List, ◌++◌}
 use mathlib.Core.Logic.{◌⊎◌, inl, inr}
 use mathlib.Core.Option.{Option, none, some}
-use Prim.Native.Nat.{ℕ, suc, ◌+◌, ◌-◌, ◌*◌, ◌≤◌}
+use Prim.Native.Nat.{ℕ, suc, ◌-◌, ◌*◌, ◌≤◌}
 use native.Mathlib.Nat.{sub-zero}
-use native.Mathlib.Numerals.{add-one}
-use native.Mathlib.Omega.{arith}
 use lib.Dec.{leb}
 use lib.Ieee.{Float}
 use lib.ListN.{length, replicate, take, drop}
 use lib.Seq.{length-take-le}
-use borrow.Author.Tests.{not-true, not-false, leb-true}
+use borrow.Author.Tests.{not-true, not-false}
 use Rattle.numbers.specs.Floats.{zero⁺}
 use Rattle.numbers.proofs.Cases.{either}
 use Rattle.refusals.specs.declared.Refusal.TheVariants.{TooManyStores}
@@ -25,26 +23,12 @@ use Rattle.relay_calls.specs.declared.Decoded.{Decoded}
 use Rattle.relay_calls.specs.Decode.{Shot, Run, Ended, decoded, refused, decode_legs, correction_of}
 use Rattle.relay_calls.specs.Calls.{DecodeLists, DecodeOutcome, decode_outcome, answered, left_by, zeroed, after_legs, after_decode_tests}
 use Rattle.relay_calls.specs.Formula.{stores_in, legs_leave, taken_leaves}
-use Rattle.relay_record.specs.Kept.{shot_of, Reads, answer_of, is_refused, Results, results, results_of, started}
+use Rattle.relay_record.specs.Kept.{shot_of, answer_of, is_refused, Results, results, results_of, started}
 
 -- a run that has ended is not refused
 not_refused : (run : Run) (stores : ℕ) (best : Option Float) → is_refused (answered run stores best) ≡ false
 not_refused run stores none = refl
 not_refused run stores (some w) = refl
-
--- nothing is refused: the results stay
-pub end_kept : (d : Decoded) (b : Bool) (z r : Results) → b ≡ is_refused d → not b ≡ true → r ≡ cond (is_refused d) z r
-end_kept d b z r e h = rw (sym e ∙ not-true b h)
-
--- 30: they are zeroed
-pub end_zeroed : (d : Decoded) (b : Bool) (r : Results) (ss is : List ℕ)
-    (ws : List Float) (rows cor : List ℕ) (p : List Float) (ss' is' : List ℕ) (ws' : List Float) (rows' cor' : List ℕ) (p' : List Float)
-    → b ≡ is_refused d → not b ≡ false
-    → (ss' ≡ replicate (length ss) 0) × (is' ≡ replicate (length is) 0) × (ws' ≡ replicate (length ws) zero⁺) × (rows' ≡ replicate (length rows) 0) × (cor' ≡ replicate (length cor) 0)
-    → p' ≡ replicate (length p) zero⁺
-    → results ss' is' ws' rows' cor' p' ≡ cond (is_refused d) (results (replicate (length ss) 0) (replicate (length is) 0) (replicate (length ws) zero⁺)
-    (replicate (length rows) 0) (replicate (length cor) 0) (replicate (length p) zero⁺)) r
-end_zeroed d b r ss is ws rows cor p ss' is' ws' rows' cor' p' e h z q = rw (sym e ∙ not-false b h, z.0, z.1, z.2, z.3, z.4, q)
 
 -- ---- the start and the end of the legs
 
@@ -133,10 +117,6 @@ module _ (x : Shot) (edges : ℕ) (l : DecodeLists) (each : ℕ) (fit : Bool) (i
       ∙ ap (λ n. after_legs edges x (decode_legs by_place x) (stores_in n (decode_legs by_place x)) l) is
       ∙ ap (λ f. after_decode_tests (cond f (Ok tt) (Err TooManyStores)) (legs_leave edges x l) l) (sym b)
 
-  -- whose stores then fit
-  pub taken_fits : not fit ≡ false → most_iterations x.settings * each ≤ max_stores
-  taken_fits h = leb-true _ _ (sym e ∙ not-false fit h)
-
 -- ---- an order that was counted up
 
 module _ (t : Settings) (flat : List Float) (seed : ℕ) (syndrome : List ℕ) (prior : List Float) (cv co vm vo : List ℕ) where
@@ -145,19 +125,7 @@ module _ (t : Settings) (flat : List Float) (seed : ℕ) (syndrome : List ℕ) (
       → r ≡ taken_leaves n (shot_of t flat seed syndrome prior cv co vm vo o) l → r ≡ taken_leaves n (shot_of t flat seed syndrome prior cv co vm vo o') l
   along_order o o' n l r e q = rw e at q
 
-  -- and what it asks
-  pub reads_along : (o o' : List ℕ) → o' ≡ o → Reads t flat syndrome prior cv co vm vo o → Reads t flat syndrome prior cv co vm vo o'
-  reads_along o o' e h = rw e h
-
 module _ {A : Type 0} where
-  -- the front of a leg list, as it is lent
-  pub front_lent : (n : ℕ) (xs : List A) → suc n ≤ length xs → length (take (n + 1 - 0) xs) ≡ suc n
-  front_lent n xs h = length-take-le (n + 1 - 0) xs (omega arith) ∙ omega arith
-
-  -- and of the rows
-  pub cells_lent : (n m : ℕ) (xs : List A) → suc n * m ≤ length xs → length (take ((n + 1) * m - 0) xs) ≡ suc n * m
-  cells_lent n m xs h = rw (add-one, sub-zero) (length-take-le (suc n * m) xs h)
-
-  -- what lies after it, by the length of what came back
+  -- what lies after the front of a leg list, as it is lent, by the length of what came back
   pub front_tail : (k : ℕ) (xs ys : List A) → length ys ≡ length (take (k - 0) xs) → k ≤ length xs → drop (k - 0) xs ≡ drop (length ys) xs
   front_tail k xs ys e h = let q : length ys ≡ k = e ∙ rw sub-zero (length-take-le k xs h) in rw (q, sub-zero)

@@ -65,16 +65,14 @@ fn run_legs(
         correction.new posterior.new
         ≡ results_of x end) }
 {
-    let num_legs = t.num_legs;
+    let legs = t.num_legs + 1;
     let stop = t.stop_after_converged;
     let mut tally = Tally {
-        found: false,
-        weight: 0.0,
+        best: None,
         num_converged: 0,
         total_iterations: 0,
     };
-    let mut leg = 0;
-    while leg <= num_legs {
+    for leg in 0..legs {
         tally = next_leg(
             leg,
             tally,
@@ -99,20 +97,12 @@ fn run_legs(
             c_to_v,
             v_to_c,
         );
-        leg += 1;
         let a = first_not_finite(posterior);
         if ends(a, stop, tally.num_converged) {
-            return answer(
-                a,
-                tally.found,
-                tally.weight,
-                leg,
-                tally.total_iterations,
-                each,
-            );
+            return answer(a, tally.best, leg + 1, tally.total_iterations, each);
         }
     }
-    answer_run(tally.found, tally.weight, leg, tally.total_iterations, each)
+    answer_run(tally.best, legs, tally.total_iterations, each)
 }
 
 // The records of all legs, and the correction, zeroed.

@@ -12,7 +12,6 @@ ghost use Rattle.relay_record.specs.Kept.{shot_fault};
 ghost use Rattle.relay_calls.specs.Decode.{shot};
 
 use refusals::Refusal;
-use refusals_tests::{at_most, both, is_done, or_else, same_number, unless};
 use relay_calls::tests::syndrome_fault;
 use relay_gammas::seed_fault;
 use relay_orders::{exchange_fault, is_index_order, names_fault};
@@ -36,13 +35,10 @@ fn legs_fit(
 {
     let legs = num_legs + 1;
     let cells = legs * mechanisms;
-    both(
-        at_most(legs, leg_state.len()),
-        both(
-            at_most(legs, leg_iterations.len()),
-            both(at_most(legs, leg_weight.len()), at_most(cells, rows.len())),
-        ),
-    )
+    legs <= leg_state.len()
+        && legs <= leg_iterations.len()
+        && legs <= leg_weight.len()
+        && cells <= rows.len()
 }
 
 // 22, of the others: they fit exactly.
@@ -63,18 +59,12 @@ fn work_fits(
         && (eqb (length bias.now) mechanisms
         && (eqb (length c_to_v.now) edges && eqb (length v_to_c.now) edges))))) }
 {
-    let messages = both(
-        same_number(c_to_v.len(), edges),
-        same_number(v_to_c.len(), edges),
-    );
-    let variables = both(same_number(bias.len(), mechanisms), messages);
-    both(
-        same_number(correction.len(), mechanisms),
-        both(
-            same_number(posterior.len(), mechanisms),
-            both(same_number(gamma.len(), mechanisms), variables),
-        ),
-    )
+    correction.len() == mechanisms
+        && posterior.len() == mechanisms
+        && gamma.len() == mechanisms
+        && bias.len() == mechanisms
+        && c_to_v.len() == edges
+        && v_to_c.len() == edges
 }
 
 // The tests of both calls: 1, 2, 4, 7, 9 to 21, 27, 22.
@@ -111,7 +101,7 @@ pub fn shot_fault(
 {
     let num_legs = t.num_legs;
     let source = t.gamma_source;
-    let a = graph::check_graph(
+    graph::check_graph(
         size,
         priors,
         check_var,
@@ -119,14 +109,10 @@ pub fn shot_fault(
         var_check,
         var_message,
         var_offset,
-    );
-    if !is_done(a) {
-        return a;
-    }
-    let b = check_settings(t, size.mechanisms, gammas);
-    if !is_done(b) {
-        return b;
-    }
+    )?;
+    check_settings(t, size.mechanisms, gammas)?;
+    syndrome_fault(size.checks, syndrome)?;
+    seed_fault(source, seed)?;
     let records = legs_fit(
         num_legs,
         size.mechanisms,
@@ -145,11 +131,10 @@ pub fn shot_fault(
         c_to_v,
         v_to_c,
     );
-    let lists = unless(both(records, work), Refusal::LentListLength);
-    or_else(
-        syndrome_fault(size.checks, syndrome),
-        or_else(seed_fault(source, seed), lists),
-    )
+    if !records || !work {
+        return Err(Refusal::LentListLength);
+    }
+    Ok(())
 }
 
 // 23 and 24: the index order, the usual case, is always taken.
@@ -169,10 +154,7 @@ fn order_fault(
     if is_index_order(checks, order) {
         return Ok(());
     }
-    let a = names_fault(checks, order);
-    if !is_done(a) {
-        return a;
-    }
+    names_fault(checks, order)?;
     exchange_fault(schedule, checks, check_var, check_offset, order)
 }
 
@@ -210,7 +192,7 @@ pub fn taken_fault(
         result ≡ taken_fault size.edges x before }
 {
     let schedule = t.schedule;
-    let a = shot_fault(
+    shot_fault(
         size,
         priors,
         check_var,
@@ -232,9 +214,6 @@ pub fn taken_fault(
         bias,
         c_to_v,
         v_to_c,
-    );
-    if !is_done(a) {
-        return a;
-    }
+    )?;
     order_fault(schedule, size.checks, check_var, check_offset, order)
 }

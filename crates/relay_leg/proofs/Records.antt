@@ -5,7 +5,6 @@ use mathlib.Core.List.{List, [], ◌++◌}
 use mathlib.Core.Logic.{inr}
 use mathlib.Core.Option.{Option}
 use Prim.Native.Nat.{ℕ, zero, suc, ◌+◌, ◌-◌, ◌*◌, ◌<◌, ◌≤◌}
-use native.Mathlib.Nat.{mul-le-mul}
 use native.Mathlib.Omega.{arith}
 use lib.Ieee.{Float}
 use lib.ListN.{length, get_or, take, drop, replicate, length-replicate, get_or-replicate}
@@ -58,12 +57,6 @@ module _ (t : Settings) (flat : List Float) (syndrome : List ℕ) (prior : List 
   -- a leg's row lies within the flat list of rows
   pub row_within : (rows : List ℕ) (r : ℕ) → length rows ≡ suc t.num_legs * length prior → r ≤ t.num_legs → r * length prior + length prior ≤ length rows
   row_within rows r e h = omega (arith, e, row_room (length prior) (suc t.num_legs) r (omega arith))
-
-  -- and ends where a number can
-  pub row_small : (r : ℕ) → r ≤ t.num_legs → r * length prior + length prior < 18446744073709551616
-  row_small r h =
-      let small : r * length prior ≤ 65535 * 65536 = mul-le-mul {n₂ = 65535} {m₂ = 65536} (omega (arith, reads.legs_few)) reads.mechanisms_few in
-      omega (arith, small, reads.mechanisms_few)
 
 -- ---- the leg as executed
 

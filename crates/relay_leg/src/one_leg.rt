@@ -128,10 +128,10 @@ fn leg_in_row(
     requires per_edge { PerEdge (length check_var.now) c_to_v.old v_to_c.old }
     ensures turn { let x = shot_of t gammas.now seed syndrome.now priors.now check_var.now
         check_offset.now var_message.now var_offset.now order.now in
-        let before = kept (best_of tally.found tally.weight) tally.num_converged tally.total_iterations leg
+        let before = kept (best_of tally.best) tally.num_converged tally.total_iterations leg
         leg_state.old leg_iterations.old leg_weight.old [] correction.old [] in
         let leg' = executed_leg by_place x leg posterior.old in
-        kept (best_of result.found result.weight) result.num_converged result.total_iterations (suc leg) leg_state.new
+        kept (best_of result.best) result.num_converged result.total_iterations (suc leg) leg_state.new
         leg_iterations.new leg_weight.new row.new correction.new posterior.new
         ≡ kept_with x before leg leg' (row_after x leg') }
     ensures few { (result.num_converged ≤ tally.num_converged + 1) × (result.total_iterations ≤ tally.total_iterations + max_count) }
@@ -202,11 +202,11 @@ pub fn next_leg(
     requires per_edge { PerEdge (length check_var.now) c_to_v.old v_to_c.old }
     ensures turn { let x = shot_of t gammas.now seed syndrome.now priors.now check_var.now
         check_offset.now var_message.now var_offset.now order.now in
-        let before = kept (best_of tally.found tally.weight) tally.num_converged tally.total_iterations leg
+        let before = kept (best_of tally.best) tally.num_converged tally.total_iterations leg
         leg_state.old leg_iterations.old leg_weight.old rows.old
         correction.old posterior.old in
         let leg' = executed_leg by_place x leg posterior.old in
-        kept (best_of result.found result.weight) result.num_converged result.total_iterations (suc leg) leg_state.new
+        kept (best_of result.best) result.num_converged result.total_iterations (suc leg) leg_state.new
         leg_iterations.new leg_weight.new rows.new correction.new posterior.new
         ≡ kept_after x before leg leg' }
     ensures blank { Blank (leg * length priors.now + length priors.now) rows.new }

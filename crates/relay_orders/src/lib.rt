@@ -23,9 +23,8 @@ fn names_each_once(checks: usize, order: &[u32]) -> bool
         return false;
     }
     let mut seen = [0u8; MAX_CHECKS];
-    let mut i = 0;
-    while i < checks {
-        let c = at(order, i);
+    for check in order {
+        let c = *check as usize;
         if c >= checks {
             return false;
         }
@@ -33,7 +32,6 @@ fn names_each_once(checks: usize, order: &[u32]) -> bool
             return false;
         }
         seen[c] = 1;
-        i += 1;
     }
     true
 }
@@ -43,10 +41,10 @@ pub fn names_fault(checks: usize, order: &[u32]) -> Result<(), Refusal>
     requires { checks ≤ max_checks }
     ensures { result ≡ names_fault checks order.now }
 {
-    if names_each_once(checks, order) {
-        return Ok(());
+    if !names_each_once(checks, order) {
+        return Err(Refusal::OrderNotEachOnce);
     }
-    Err(Refusal::OrderNotEachOnce)
+    Ok(())
 }
 
 // Whether a mechanism of these entries was last named by a check above c. `last` has that check for
@@ -55,13 +53,10 @@ fn is_overtaken(c: u16, entries: &[u32], last: &[u16; MAX_MECHANISMS]) -> bool
     requires { Keys max_mechanisms entries.now }
     ensures { result ≡ overtaken c last.now entries.now }
 {
-    let mut i = 0;
-    while i < entries.len() {
-        let v = at(entries, i);
-        if c < last[v] {
+    for v in entries {
+        if c < last[*v as usize] {
             return true;
         }
-        i += 1;
     }
     false
 }
@@ -71,16 +66,18 @@ fn mark(c: u16, entries: &[u32], last: &mut [u16; MAX_MECHANISMS])
     requires { Keys max_mechanisms entries.now }
     ensures { last.new ≡ marked_at c last.old entries.now }
 {
-    let mut i = 0;
-    while i < entries.len() {
-        let v = at(entries, i);
-        last[v] = c;
-        i += 1;
+    for v in entries {
+        last[*v as usize] = c;
     }
 }
 
 // The first check in the order that shares a mechanism with a higher one named before it.
-fn exchanged_check(checks: usize, check_var: &[u32], check_offset: &[u32], order: &[u32]) -> Result<(), Refusal>
+fn exchanged_check(
+    checks: usize,
+    check_var: &[u32],
+    check_offset: &[u32],
+    order: &[u32],
+) -> Result<(), Refusal>
     requires checks_le_max_checks { checks ≤ max_checks }
     requires offsets { Offsets checks (length check_var.now) check_offset.now }
     requires keys { Keys max_mechanisms check_var.now }
@@ -88,9 +85,8 @@ fn exchanged_check(checks: usize, check_var: &[u32], check_offset: &[u32], order
     ensures { result ≡ exchanged (λ c. row check_offset.now c check_var.now) [] order.now }
 {
     let mut last = [0u16; MAX_MECHANISMS];
-    let mut i = 0;
-    while i < order.len() {
-        let c = at(order, i);
+    for check in order {
+        let c = *check as usize;
         let start = at(check_offset, c);
         let end = at(check_offset, c + 1);
         let short = c as u16;
@@ -98,7 +94,6 @@ fn exchanged_check(checks: usize, check_var: &[u32], check_offset: &[u32], order
             return Err(Refusal::OrderExchanged(c));
         }
         mark(short, &check_var[start..end], &mut last);
-        i += 1;
     }
     Ok(())
 }
@@ -107,17 +102,7 @@ fn exchanged_check(checks: usize, check_var: &[u32], check_offset: &[u32], order
 pub fn is_index_order(checks: usize, order: &[u32]) -> bool
     ensures { result ≡ true → order.now ≡ upto checks }
 {
-    if order.len() != checks {
-        return false;
-    }
-    let mut i = 0;
-    while i < checks {
-        if at(order, i) != i {
-            return false;
-        }
-        i += 1;
-    }
-    true
+    order.len() == checks && order.iter().enumerate().all(|(i, c)| *c as usize == i)
 }
 
 // Test 24, of an order that names each check once.

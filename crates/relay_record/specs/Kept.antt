@@ -7,7 +7,7 @@ use Rattle.numbers.specs.Limits.{max_mechanisms, max_count}
 use Rattle.numbers.specs.Floats.{zero⁺}
 use Rattle.numbers.specs.Loops.{spliced}
 use Rattle.refusals.specs.Refusal.{Answer}
-use Rattle.std.specs.Prelude.{Ok, Err}
+use Rattle.std.specs.Prelude.{Ok, Err, Option as Best, None, Some}
 use Rattle.refusals.specs.declared.Refusal.TheVariants.{LentListLength}
 use Rattle.refusals.specs.Tests.{unless, or_else}
 use Rattle.graph_lists.specs.Model.{graph_fault}
@@ -74,9 +74,9 @@ pub record LegsFit (legs mechanisms : ℕ) (states iterations : List ℕ) (weigh
 -- ---- between legs
 
 -- the best weight, as the code has it
-abbrev pub best_of : Bool → Float → Option Float
-best_of false weight = none
-best_of true weight = some weight
+abbrev pub best_of : Best Float → Option Float
+best_of None = none
+best_of (Some weight) = some weight
 
 -- of a run, what the code keeps: the one correction that would be answered now, for the last hard decision and the best correction
 pub record Kept : Type 0 where

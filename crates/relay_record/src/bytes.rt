@@ -5,11 +5,7 @@ ghost use Rattle.std.specs.Prelude.{◌≡◌, length, replicate};
 pub fn clear_bytes(xs: &mut [u8])
     ensures { xs.new ≡ replicate (length xs.old) 0 }
 {
-    let mut i = 0;
-    while i < xs.len() {
-        xs[i] = 0;
-        i += 1;
-    }
+    xs.fill(0);
 }
 
 // `to.copy_from_slice(from)`.
@@ -17,9 +13,5 @@ pub fn copy_bytes(from: &[u8], to: &mut [u8])
     requires { length to.old ≡ length from.now }
     ensures { to.new ≡ from.now }
 {
-    let mut i = 0;
-    while i < from.len() {
-        to[i] = from[i];
-        i += 1;
-    }
+    to.copy_from_slice(from);
 }

@@ -15,27 +15,22 @@ ghost use Rattle.relay_record.specs.Kept.{best_of, best_after, corrected, answer
 
 use bytes::{clear_bytes, copy_bytes};
 use refusals::Refusal;
-use refusals_tests::is_done;
 use relay_calls::Decoded;
 use relay_step::leg::{Leg, correction_weight};
 
 // What is kept between legs beside the lists: the least weight of a leg that converged, once there is one, and the counts.
 #[derive(Clone, Copy)]
 pub struct Tally {
-    pub found: bool,
-    pub weight: f64,
+    pub best: Option<f64>,
     pub num_converged: usize,
     pub total_iterations: usize,
 }
 
 // `best_weight.is_none_or(|current| weight < current)`.
-fn is_better(found: bool, current: f64, weight: f64) -> bool
-    ensures { result ≡ is_none_or (best_of found current) weight }
+fn is_better(best: Option<f64>, weight: f64) -> bool
+    ensures { result ≡ is_none_or (best_of best) weight }
 {
-    if found {
-        return weight < current;
-    }
-    true
+    best.is_none_or(|current| weight < current)
 }
 
 // A leg that converged with this weight: the least weight wins, the earlier leg on ties.
@@ -50,27 +45,20 @@ fn keep_least(
         × (tally.total_iterations ≤ suc max_count * max_count)
         × (iterations ≤ max_count) }
     requires correction_len { length correction.old ≡ length row.now }
-    ensures best { best_of result.found result.weight ≡ best_after true (best_of tally.found tally.weight) weight }
+    ensures best { best_of result.best ≡ best_after true (best_of tally.best) weight }
     ensures counts { (result.num_converged ≡ tally.num_converged + 1) × (result.total_iterations ≡ tally.total_iterations + iterations) }
     ensures correction { correction.new
-        ≡ corrected true (best_of tally.found tally.weight) weight row.now correction.old }
+        ≡ corrected true (best_of tally.best) weight row.now correction.old }
 {
-    let converged = tally.num_converged + 1;
-    let total = tally.total_iterations + iterations;
-    if is_better(tally.found, tally.weight, weight) {
+    let mut best = tally.best;
+    if is_better(best, weight) {
         copy_bytes(row, correction);
-        return Tally {
-            found: true,
-            weight: weight,
-            num_converged: converged,
-            total_iterations: total,
-        };
+        best = Some(weight);
     }
     Tally {
-        found: tally.found,
-        weight: tally.weight,
-        num_converged: converged,
-        total_iterations: total,
+        best,
+        num_converged: tally.num_converged + 1,
+        total_iterations: tally.total_iterations + iterations,
     }
 }
 
@@ -79,10 +67,9 @@ fn keep_last(found: bool, row: &[u8], correction: &mut [u8])
     requires { length correction.old ≡ length row.now }
     ensures { correction.new ≡ cond found correction.old row.now }
 {
-    if found {
-        return;
+    if !found {
+        copy_bytes(row, correction);
     }
-    copy_bytes(row, correction);
 }
 
 // A leg's entries in the leg lists.
@@ -125,8 +112,8 @@ pub fn record_leg(
         × (l.iterations ≤ max_count) }
     requires row_len { (length row.old ≡ length priors.now) × (length correction.old ≡ length priors.now) }
     requires leg_in_bounds { (leg < length leg_state.old) × (leg < length leg_iterations.old) × (leg < length leg_weight.old) }
-    ensures best { best_of result.found result.weight
-        ≡ best_after l.converged (best_of tally.found tally.weight)
+    ensures best { best_of result.best
+        ≡ best_after l.converged (best_of tally.best)
         (correction_weight priors.now row.old (length priors.now)) }
     ensures counts { (result.num_converged ≡ tally.num_converged + cond l.converged 1 0)
         × (result.total_iterations ≡ tally.total_iterations + l.iterations) }
@@ -137,7 +124,7 @@ pub fn record_leg(
         × (leg_weight.new ≡ set leg_weight.old leg values.leg_weight) }
     ensures row { row.new ≡ cond l.converged row.old (replicate (length row.old) 0) }
     ensures correction { correction.new
-        ≡ corrected l.converged (best_of tally.found tally.weight)
+        ≡ corrected l.converged (best_of tally.best)
         (correction_weight priors.now row.old (length priors.now)) row.old
         correction.old }
 {
@@ -163,58 +150,54 @@ pub fn record_leg(
         leg_iterations,
         leg_weight,
     );
-    keep_last(tally.found, row, correction);
+    keep_last(tally.best.is_some(), row, correction);
     clear_bytes(row);
     Tally {
-        found: tally.found,
-        weight: tally.weight,
-        num_converged: tally.num_converged,
         total_iterations: tally.total_iterations + l.iterations,
+        ..tally
     }
 }
 
 // What a run answers: its counts, with the weight where a leg converged. `each` is how many messages an iteration writes.
 pub fn answer_run(
-    found: bool,
-    weight: f64,
+    best: Option<f64>,
     executed_legs: usize,
     total_iterations: usize,
     each: u64,
 ) -> Decoded
     requires { total_iterations * each ≤ max_stores }
-    ensures { result ≡ answer_by (Ok tt) (best_of found weight) executed_legs total_iterations (total_iterations * each) }
+    ensures { result ≡ answer_by (Ok tt) (best_of best) executed_legs total_iterations (total_iterations * each) }
 {
     let stores = total_iterations as u64 * each;
-    if found {
-        return Decoded::Converged {
-            executed_legs: executed_legs,
-            total_iterations: total_iterations,
-            stores: stores,
-            weight: weight,
-        };
-    }
-    Decoded::NotConverged {
-        executed_legs: executed_legs,
-        total_iterations: total_iterations,
-        stores: stores,
+    match best {
+        Some(weight) => Decoded::Converged {
+            executed_legs,
+            total_iterations,
+            stores,
+            weight,
+        },
+        None => Decoded::NotConverged {
+            executed_legs,
+            total_iterations,
+            stores,
+        },
     }
 }
 
 // What is answered after a leg that is the last: 30, or the run.
 pub fn answer(
     a: Result<(), Refusal>,
-    found: bool,
-    weight: f64,
+    best: Option<f64>,
     executed_legs: usize,
     total_iterations: usize,
     each: u64,
 ) -> Decoded
     requires { total_iterations * each ≤ max_stores }
-    ensures { result ≡ answer_by a (best_of found weight) executed_legs total_iterations (total_iterations * each) }
+    ensures { result ≡ answer_by a (best_of best) executed_legs total_iterations (total_iterations * each) }
 {
     match a {
         Err(r) => Decoded::Refused(r),
-        Ok(()) => answer_run(found, weight, executed_legs, total_iterations, each),
+        Ok(()) => answer_run(best, executed_legs, total_iterations, each),
     }
 }
 
@@ -222,8 +205,5 @@ pub fn answer(
 pub fn ends(a: Result<(), Refusal>, stop: usize, num_converged: usize) -> bool
     ensures { result ≡ (not (is_done a) || leb stop num_converged) }
 {
-    if !is_done(a) {
-        return true;
-    }
-    stop <= num_converged
+    a.is_err() || stop <= num_converged
 }

@@ -1,18 +1,18 @@
-// Relay's settings, for users: the published operating point, and their test, 9 to 19. Each number is decided by itself and the first
-// that refuses is answered, so that no test waits on another's branch. What they mean stands in specs/.
+// Relay's settings, for users: the published operating point, and their test, 9 to 19: the first that refuses is answered. What they mean
+// stands in specs/.
 #![tactic(auto)]
 
 ghost use Rattle.std.specs.Prelude.{◌≡◌, ◌||◌, ◌*◌, leb, eqb, length};
 ghost use Rattle.std.specs.Float.Ieee.{le};
 ghost use Rattle.refusals.specs.Tests.{first_of};
 ghost use Rattle.relay_settings.specs.Settings.{published, check_settings, pre_good, leg_iterations_good, interval_good, sets_good};
-ghost use Rattle.relay_settings.specs.Settings.{clip_good, gamma_fault};
+ghost use Rattle.relay_settings.specs.Settings.{clip_good, alpha_good, gamma_fault};
 ghost use Rattle.relay_settings.specs.Settings.{source_fault, settings_fault};
 
 use numbers::is_finite;
 use numbers::limits::{MAX_COUNT, MAX_MECHANISMS};
 use refusals::Refusal;
-use refusals_tests::{at_most, both, finite_positive, or_else, unless};
+use refusals_tests::finite_positive;
 
 // The order in which messages are passed within an iteration.
 #[derive(Clone, Copy)]
@@ -97,6 +97,14 @@ pub fn clip_good(clip: Clip) -> bool
     }
 }
 
+// 10.
+#[tactic(auto, unfolding(crate::specs::Settings::alpha_good))]
+pub fn alpha_good(alpha: f64) -> bool
+    ensures { result ≡ alpha_good alpha }
+{
+    finite_positive(alpha)
+}
+
 // low is not above high.
 fn in_order(low: f64, high: f64) -> bool
     ensures { result ≡ le low high }
@@ -108,37 +116,31 @@ fn in_order(low: f64, high: f64) -> bool
 fn some_or_no_legs(n: usize, legs: usize) -> bool
     ensures { result ≡ (leb 1 n || eqb legs 0) }
 {
-    if 1 <= n {
-        return true;
-    }
-    legs == 0
+    1 <= n || legs == 0
 }
 
 // 12.
+#[tactic(auto, unfolding(crate::specs::Settings::pre_good))]
 fn pre_good(n: usize) -> bool
     ensures { result ≡ pre_good n }
 {
-    both(at_most(1, n), at_most(n, MAX_COUNT))
+    1 <= n && n <= MAX_COUNT
 }
 
 // 14.
+#[tactic(auto, unfolding(crate::specs::Settings::leg_iterations_good))]
 fn leg_iterations_good(legs: usize, n: usize) -> bool
     ensures { result ≡ leg_iterations_good legs n }
 {
-    both(at_most(n, MAX_COUNT), some_or_no_legs(n, legs))
+    n <= MAX_COUNT && some_or_no_legs(n, legs)
 }
 
 // 15.
+#[tactic(auto, unfolding(crate::specs::Settings::interval_good))]
 fn interval_good(low: f64, high: f64) -> bool
     ensures { result ≡ interval_good low high }
 {
-    both(
-        is_finite(low),
-        both(
-            is_finite(high),
-            both(is_finite(high - low), in_order(low, high)),
-        ),
-    )
+    is_finite(low) && is_finite(high) && is_finite(high - low) && in_order(low, high)
 }
 
 // n is the product of a and b, which may itself be too large a number.
@@ -148,95 +150,94 @@ fn is_product(n: usize, a: usize, b: usize) -> bool
     if a == 0 {
         return n == 0;
     }
-    if n % a != 0 {
-        return false;
-    }
-    n / a == b
+    n % a == 0 && n / a == b
 }
 
 // 18.
+#[tactic(auto, unfolding(crate::specs::Settings::sets_good))]
 fn sets_good(sets: usize, mechanisms: usize, gammas: usize) -> bool
     ensures { result ≡ sets_good sets mechanisms gammas }
 {
-    both(
-        at_most(sets, MAX_COUNT),
-        is_product(gammas, sets, mechanisms),
-    )
+    sets <= MAX_COUNT && is_product(gammas, sets, mechanisms)
 }
 
 // 19: the first gamma that is not finite.
 fn gammas_fault(gammas: &[f64]) -> Result<(), Refusal>
     ensures { result ≡ first_of (length gammas.now) (gamma_fault gammas.now) }
 {
-    let mut i = 0;
-    while i < gammas.len() {
-        if !is_finite(gammas[i]) {
+    for (i, gamma) in gammas.iter().enumerate() {
+        if !is_finite(*gamma) {
             return Err(Refusal::GammaNotFinite(i));
         }
-        i += 1;
     }
     Ok(())
 }
 
 // 17, 18 and 19: an explicit source alone is looked at.
-fn source_fault(source: GammaSource, legs: usize, mechanisms: usize, gammas: &[f64]) -> Result<(), Refusal>
+#[tactic(auto, unfolding(crate::specs::Settings::source_fault, refusals::specs::Tests::unless, refusals::specs::Tests::or_else,))]
+fn source_fault(
+    source: GammaSource,
+    legs: usize,
+    mechanisms: usize,
+    gammas: &[f64],
+) -> Result<(), Refusal>
     ensures { result ≡ source_fault source legs mechanisms gammas.now }
 {
     match source {
-        GammaSource::Explicit(sets) => or_else(
-            unless(some_or_no_legs(sets, legs), Refusal::NoGammaSets),
-            or_else(
-                unless(
-                    sets_good(sets, mechanisms, gammas.len()),
-                    Refusal::GammaSetsLength,
-                ),
-                gammas_fault(gammas),
-            ),
-        ),
+        GammaSource::Explicit(sets) => {
+            if !some_or_no_legs(sets, legs) {
+                return Err(Refusal::NoGammaSets);
+            }
+            if !sets_good(sets, mechanisms, gammas.len()) {
+                return Err(Refusal::GammaSetsLength);
+            }
+            gammas_fault(gammas)
+        }
         GammaSource::Seeded(_) => Ok(()),
     }
 }
 
 // 9, and `validate_config`: 10 to 19.
+#[tactic(auto, unfolding(crate::specs::Settings::settings_fault, refusals::specs::Tests::unless, refusals::specs::Tests::or_else))]
 fn settings_fault(t: Settings, mechanisms: usize, gammas: &[f64]) -> Result<(), Refusal>
     ensures { result ≡ settings_fault t mechanisms gammas.now }
 {
     let clip = t.clip;
     let source = t.gamma_source;
-    let counts = or_else(
-        unless(pre_good(t.pre_iterations), Refusal::BadIterations),
-        or_else(
-            unless(at_most(t.num_legs, MAX_COUNT), Refusal::TooManyLegs),
-            or_else(
-                unless(
-                    leg_iterations_good(t.num_legs, t.leg_iterations),
-                    Refusal::BadLegIterations,
-                ),
-                or_else(
-                    unless(
-                        interval_good(t.gamma_low, t.gamma_high),
-                        Refusal::BadGammaInterval,
-                    ),
-                    or_else(
-                        unless(at_most(1, t.stop_after_converged), Refusal::BadStop),
-                        source_fault(source, t.num_legs, mechanisms, gammas),
-                    ),
-                ),
-            ),
-        ),
-    );
-    let clip_fault = unless(clip_good(clip), Refusal::BadClip);
-    let alpha_fault = unless(finite_positive(t.alpha), Refusal::BadAlpha);
-    let others = or_else(unless(is_finite(t.gamma0), Refusal::BadGamma0), counts);
-    or_else(clip_fault, or_else(alpha_fault, others))
+    if !clip_good(clip) {
+        return Err(Refusal::BadClip);
+    }
+    if !alpha_good(t.alpha) {
+        return Err(Refusal::BadAlpha);
+    }
+    if !is_finite(t.gamma0) {
+        return Err(Refusal::BadGamma0);
+    }
+    if !pre_good(t.pre_iterations) {
+        return Err(Refusal::BadIterations);
+    }
+    if t.num_legs > MAX_COUNT {
+        return Err(Refusal::TooManyLegs);
+    }
+    if !leg_iterations_good(t.num_legs, t.leg_iterations) {
+        return Err(Refusal::BadLegIterations);
+    }
+    if !interval_good(t.gamma_low, t.gamma_high) {
+        return Err(Refusal::BadGammaInterval);
+    }
+    if t.stop_after_converged == 0 {
+        return Err(Refusal::BadStop);
+    }
+    source_fault(source, t.num_legs, mechanisms, gammas)
 }
 
 // 1, then 9 to 19. Without the size a place of 19 could pass 32 bits.
+#[tactic(auto, unfolding(crate::specs::Settings::check_settings, refusals::specs::Tests::unless, refusals::specs::Tests::or_else,))]
 pub fn check_settings(t: Settings, mechanisms: usize, gammas: &[f64]) -> Result<(), Refusal>
     ensures { result ≡ check_settings t mechanisms gammas.now }
 {
-    or_else(
-        unless(at_most(mechanisms, MAX_MECHANISMS), Refusal::SizeAboveLimit),
-        settings_fault(t, mechanisms, gammas),
-    )
+    if mechanisms > MAX_MECHANISMS {
+        return Err(Refusal::SizeAboveLimit);
+    }
+    settings_fault(t, mechanisms, gammas)
 }

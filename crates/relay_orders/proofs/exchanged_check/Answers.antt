@@ -1,10 +1,13 @@
 -- `relay_orders::exchanged_check` meets its contract. The invariant: nothing is exchanged among the names so far, and `last` has the highest of them for each
 -- mechanism. So the marks of a check's mechanisms tell whether it is late. Assumes nothing.
-use mathlib.Core.Path.{refl, ◌∙◌, ap}
+use mathlib.Core.Path.{◌≡◌, refl, ◌∙◌, ap}
+use mathlib.Core.Bool.{true}
+use mathlib.Core.List.{List}
 use Prim.Native.Nat.{ℕ, ◌≤◌, ◌<◌}
 use native.Mathlib.Omega.{arith}
-use lib.ListN.{length, length-replicate}
+use lib.ListN.{length, length-replicate, get_or}
 use Rattle.numbers.specs.Loops.{part}
+use Rattle.relay_orders.specs.Order.{names_once}
 use Rattle.relay_orders.proofs.All.{all_at}
 use Rattle.relay_orders.proofs.Counts.{names_below, names_once_is}
 use Rattle.graph_lists.specs.Sound.{Keys}
@@ -12,31 +15,32 @@ use Rattle.graph_lists.proofs.Cuts.{cut_bounds}
 use Rattle.graph_messages.proofs.Parts.{part_names}
 use Rattle.relay_orders.proofs.OrderTests.{tells_start, test_found, test_goes_on, test_tells, exchange_done, length_marked}
 use Rattle.relay_orders.proofs.exchanged_check.Goals as goal
-use Rattle.relay_orders.proofs.exchanged_check.Goals.{After-at-c, After-at-end}
+use Rattle.relay_orders.proofs.exchanged_check.Goals.{After-at-end}
 
--- that check is one of the checks
-named : (c : After-at-c) → c.at-c.result < c.args.checks
-named c = omega (arith, c.at-c.ensures, all_at (names_below ((names_once_is _ _).0 c.requires.order_value)) c.loop-i.i c.loop-i-test.true)
+-- each check that the order names is one of the checks
+named : (checks : ℕ) (order : List ℕ) (i : ℕ) → names_once checks order ≡ true → i < length order → get_or order i 0 < checks
+named checks order i e h = all_at (names_below ((names_once_is checks order).0 e)) i h
 
 -- its part lies within the entries
 bounds : (c : After-at-end) → (c.at-start.result ≤ c.at-end.result) × (c.at-end.result ≤ length c.args.check_var.now)
-bounds c = cut_bounds _ _ _ c.at-c.result _ _ c.requires.offsets ((omega (arith, c.at-c.ensures, all_at (names_below ((names_once_is _ _).0 c.requires.order_value)) c.loop-i.i c.loop-i-test.true))) c.at-start.ensures c.at-end.ensures
+bounds c = cut_bounds _ _ _ _ _ _ c.requires.offsets (named _ _ c.loop-check.check-index c.requires.order_value c.loop-check-test.true) c.at-start.ensures c.at-end.ensures
 
 -- and names mechanisms
 entries : (c : After-at-end) → Keys 65536 (part c.at-start.result c.at-end.result c.args.check_var.now)
-entries c = part_names _ _ _ _ c.requires.keys ((cut_bounds _ _ _ c.at-c.result _ _ c.requires.offsets ((omega (arith, c.at-c.ensures, all_at (names_below ((names_once_is _ _).0 c.requires.order_value)) c.loop-i.i c.loop-i-test.true))) c.at-start.ensures c.at-end.ensures)).1
+entries c = part_names _ _ _ _ c.requires.keys
+    (cut_bounds _ _ _ _ _ _ c.requires.offsets (named _ _ c.loop-check.check-index c.requires.order_value c.loop-check-test.true) c.at-start.ensures c.at-end.ensures).1
 
-pub loop-i-init : goal.loop-i-init
-loop-i-init c = (omega arith, length-replicate {A = ℕ} 65536 0, tells_start _, refl)
+pub loop-check-init : goal.loop-check-init
+loop-check-init c = (length-replicate {A = ℕ} 65536 0, tells_start _, refl)
 
 pub at-start-requires : goal.at-start-requires
-at-start-requires c = omega (arith, named (goal.at.at-start-requires c).After-at-c, c.requires.offsets.many)
+at-start-requires c = omega (arith, named _ _ c.loop-check.check-index c.requires.order_value c.loop-check-test.true, c.requires.offsets.many)
 
 pub at-end-requires : goal.at-end-requires
-at-end-requires c = omega (arith, named (goal.at.at-end-requires c).After-at-c, c.requires.offsets.many)
+at-end-requires c = omega (arith, named _ _ c.loop-check.check-index c.requires.order_value c.loop-check-test.true, c.requires.offsets.many)
 
 pub overflow_cast-short : goal.overflow_cast-short
-overflow_cast-short c = omega (arith, named (goal.at.overflow_cast-short c).After-at-c, c.requires.checks_le_max_checks)
+overflow_cast-short c = omega (arith, named _ _ c.loop-check.check-index c.requires.order_value c.loop-check-test.true, c.requires.checks_le_max_checks)
 
 pub slice_bounds-is_overtaken-count : goal.slice_bounds-is_overtaken-count
 slice_bounds-is_overtaken-count c = (bounds (goal.at.slice_bounds-is_overtaken-count c).After-at-end).0
@@ -53,9 +57,10 @@ is_overtaken-requires c = entries (goal.at.is_overtaken-requires c).After-at-end
 pub returns-then-is_overtaken : goal.returns-then-is_overtaken
 returns-then-is_overtaken c =
     test_found c.args.check_offset.now c.args.check_var.now
-    c.args.order.now c.loop-i.last c.loop-i.i _ _ _ _ c.loop-i-test.true
-    c.at-c.ensures c.at-start.ensures c.at-end.ensures refl c.loop-i.invariant.2 _ c.is_overtaken.ensures (entries (goal.at.returns-then-is_overtaken c).After-at-end) c.if-is_overtaken.true
-    ∙ c.loop-i.invariant.3
+    c.args.order.now c.loop-check.last c.loop-check.check-index _ _ _ _ c.loop-check-test.true
+    refl c.at-start.ensures c.at-end.ensures refl c.loop-check.invariant.1 _ c.is_overtaken.ensures
+    (entries (goal.at.returns-then-is_overtaken c).After-at-end) c.if-is_overtaken.true
+    ∙ c.loop-check.invariant.2
 
 pub slice_bounds-mark-count : goal.slice_bounds-mark-count
 slice_bounds-mark-count c = (bounds (goal.at.slice_bounds-mark-count c).After-at-end).0
@@ -69,17 +74,16 @@ slice_bounds-mark-end c = (bounds (goal.at.slice_bounds-mark-end c).After-at-end
 pub mark-requires : goal.mark-requires
 mark-requires c = entries (goal.at.mark-requires c).After-at-end
 
-pub loop-i-preserved : goal.loop-i-preserved
-loop-i-preserved c = (
-  omega arith,
-  ap length c.mark.ensures ∙ length_marked _ _ _ ∙ c.loop-i.invariant.1,
+pub loop-check-preserved : goal.loop-check-preserved
+loop-check-preserved c = (
+  ap length c.mark.ensures ∙ length_marked _ _ _ ∙ c.loop-check.invariant.0,
   test_tells c.args.check_offset.now c.args.check_var.now
-      c.args.order.now c.loop-i.last c.loop-i.i _ _ _ _ c.loop-i-test.true c.at-c.ensures c.at-start.ensures c.at-end.ensures refl
-      c.loop-i.invariant.2 _ c.is_overtaken.ensures c.if-is_overtaken.false c.loop-i.invariant.1 _ c.mark.ensures,
+      c.args.order.now c.loop-check.last c.loop-check.check-index _ _ _ _ c.loop-check-test.true refl c.at-start.ensures c.at-end.ensures refl
+      c.loop-check.invariant.1 _ c.is_overtaken.ensures c.if-is_overtaken.false c.loop-check.invariant.0 _ c.mark.ensures,
   test_goes_on c.args.check_offset.now c.args.check_var.now
-      c.args.order.now c.loop-i.last c.loop-i.i _ _ _ _ c.loop-i-test.true c.at-c.ensures c.at-start.ensures c.at-end.ensures refl
-      c.loop-i.invariant.2 _ c.is_overtaken.ensures (entries (goal.at.loop-i-preserved c).After-at-end) c.if-is_overtaken.false ∙ c.loop-i.invariant.3,
+      c.args.order.now c.loop-check.last c.loop-check.check-index _ _ _ _ c.loop-check-test.true refl c.at-start.ensures c.at-end.ensures refl
+      c.loop-check.invariant.1 _ c.is_overtaken.ensures (entries (goal.at.loop-check-preserved c).After-at-end) c.if-is_overtaken.false ∙ c.loop-check.invariant.2,
 )
 
 pub returns : goal.returns
-returns c = exchange_done _ _ c.loop-i.i c.loop-i-test.false ∙ c.loop-i.invariant.3
+returns c = exchange_done _ _ c.loop-check.check-index c.loop-check-test.false ∙ c.loop-check.invariant.2

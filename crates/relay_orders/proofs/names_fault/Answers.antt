@@ -4,10 +4,10 @@ use Rattle.refusals.specs.Tests.{unless}
 use Rattle.relay_orders.specs.Order.{names_fault}
 use Rattle.relay_orders.proofs.names_fault.Goals as goal
 
-pub returns-then-names_each_once : goal.returns-then-names_each_once
+pub returns-then-not-names_each_once : goal.returns-then-not-names_each_once
 unfolding names_fault unless
-returns-then-names_each_once c = rw (sym c.names_each_once.ensures ∙ c.if-names_each_once.true)
+returns-then-not-names_each_once c = rw (sym c.names_each_once.ensures ∙ c.if-not-names_each_once.true)
 
 pub returns : goal.returns
 unfolding names_fault unless
-returns c = rw (sym c.names_each_once.ensures ∙ c.if-names_each_once.false)
+returns c = rw (sym c.names_each_once.ensures ∙ c.if-not-names_each_once.false)

@@ -2,7 +2,6 @@
 use mathlib.Core.Bool.{not}
 use mathlib.Core.Path.{ap}
 use mathlib.Core.Path.{refl}
-use native.Mathlib.Omega.{arith}
 use lib.Ieee.{nan}
 use lib.ListN.{get_or}
 use Rattle.numbers.specs.Floats.{is_finite}
@@ -14,18 +13,15 @@ use Rattle.relay_settings.proofs.gammas_fault.Goals as goal
 
 pub loop-i-init : goal.loop-i-init
 unfolding first_of
-loop-i-init c = (omega arith, refl)
+loop-i-init c = refl
 
 pub returns-then-not-is_finite : goal.returns-then-not-is_finite
 unfolding gamma_fault
 returns-then-not-is_finite c = unless_refuse (λ k. is_finite (get_or c.args.gammas.now k nan)) GammaNotFinite
     c.loop-i.i _ _ c.loop-i-test.true
-    c.loop-i.invariant.1 c.is_finite.ensures (ap not c.if-not-is_finite.true)
+    c.loop-i.invariant c.is_finite.ensures (ap not c.if-not-is_finite.true)
 
 pub loop-i-preserved : goal.loop-i-preserved
 unfolding gamma_fault
-loop-i-preserved c = (
-  omega arith,
-  unless_go (λ k. is_finite (get_or c.args.gammas.now k nan)) GammaNotFinite
-      c.loop-i.i _ c.loop-i.invariant.1 c.is_finite.ensures (ap not c.if-not-is_finite.false),
-)
+loop-i-preserved c = unless_go (λ k. is_finite (get_or c.args.gammas.now k nan)) GammaNotFinite
+    c.loop-i.i _ c.loop-i.invariant c.is_finite.ensures (ap not c.if-not-is_finite.false)

@@ -1,14 +1,9 @@
 -- `relay_settings::gammas_fault` meets its contract. The invariant: none of the first i gammas is refused. Assumes nothing.
 use mathlib.Core.Path.{◌≡◌}
-use Prim.Native.Nat.{◌-◌, ◌≤◌}
-use lib.ListN.{length}
 use Rattle.refusals.specs.Tests.{first_of}
 use Rattle.std.specs.Prelude.{Ok}
 use Rattle.relay_settings.specs.Settings.{gamma_fault}
 use Rattle.relay_settings.proofs.gammas_fault.Given as goal
 
 abbrev pub invariant-loop-i : goal.invariant-loop-i
-invariant-loop-i l = (l.i ≤ length l.gammas) × (first_of l.i (gamma_fault l.gammas) ≡ Ok tt)
-
-abbrev pub decreases-loop-i : goal.decreases-loop-i
-decreases-loop-i l = length l.gammas - l.i
+invariant-loop-i l = first_of l.i (gamma_fault l.gammas) ≡ Ok tt

@@ -1,6 +1,10 @@
--- `relay_settings::is_product` meets its contract. A product with a factor 0 is 0; else the number has no rest, and the quotient is the other factor. Assumes nothing.
-use Rattle.relay_settings.proofs.Products.{product_with_rest}
+-- `relay_settings::is_product` meets its contract. A number with a rest is no product. Assumes nothing.
+use mathlib.Core.Path.{sym, ap, ◌∙◌}
+use Prim.Native.Nat.{◌%◌}
+use native.Mathlib.Nat.{mul-mod_right}
+use borrow.Author.Tests.{ne_eqb}
 use Rattle.relay_settings.proofs.is_product.Goals as goal
 
-pub returns-then-n-a-ne0 : goal.returns-then-n-a-ne0
-returns-then-n-a-ne0 c = product_with_rest _ _ _ c.if-n-a-ne0.true
+pub returns-else-n-a-eq0 : goal.returns-else-n-a-eq0
+returns-else-n-a-eq0 c =
+    ne_eqb _ _ c.if-n-a-eq0.false ∙ sym (ne_eqb _ _ (λ q. c.if-n-a-eq0.false (ap (λ x. x % c.args.a) q ∙ mul-mod_right c.args.a c.args.b)))

@@ -1,5 +1,6 @@
 -- `relay_calls::iterate::mechanism_finite` meets its contract. The mechanism's part lies within the entries, and both tests are the definition's.
 -- Assumes nothing.
+use mathlib.Core.Path.{refl}
 use Prim.Native.Nat.{◌≤◌}
 use lib.ListN.{length}
 use Rattle.graph_lists.proofs.Cuts.{cut_bounds}
@@ -17,14 +18,17 @@ within c = cut_bounds _ _ _ c.args.v _ _
 pub slice_bounds-messages_finite-end : goal.slice_bounds-messages_finite-end
 slice_bounds-messages_finite-end c = (within (goal.at.slice_bounds-messages_finite-end c).After-at-end).1
 
-pub messages_finite-messages-requires : goal.messages_finite-messages-requires
-messages_finite-messages-requires c = record {
+pub messages_finite-requires : goal.messages_finite-requires
+messages_finite-requires c = record {
   keys = part_names _ _ _ _ c.requires.walks.named
-      (within (goal.at.messages_finite-messages-requires c).After-at-end).1;
+      (within (goal.at.messages_finite-requires c).After-at-end).1;
   v_to_c_len = c.requires.v_to_c_len;
 }
 
-pub returns : goal.returns
-returns c = mechanism_is _ _ _ _ _ _ c.args.v _ _ _ _ _
-    c.at-start.ensures c.at-end.ensures c.is_finite.ensures
-    c.messages_finite-messages.ensures c.both.ensures
+pub returns-then-is_finite : goal.returns-then-is_finite
+returns-then-is_finite c = mechanism_is _ _ _ _ _ _ c.args.v _ _ _ _ _
+    c.at-start.ensures c.at-end.ensures c.is_finite.ensures c.messages_finite.ensures (rw c.if-is_finite.true)
+
+pub returns-else-is_finite : goal.returns-else-is_finite
+returns-else-is_finite c = mechanism_is _ _ _ _ _ _ c.args.v _ _ _ _ _
+    c.at-start.ensures c.at-end.ensures c.is_finite.ensures refl (rw c.if-is_finite.false)

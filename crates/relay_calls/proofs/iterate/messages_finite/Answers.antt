@@ -1,25 +1,25 @@
 -- `relay_calls::iterate::messages_finite` meets its contract. The invariant: both messages of the entries passed are finite.
 -- Assumes nothing.
-use native.Mathlib.Omega.{arith}
-use Rattle.numbers.proofs.Cases.{every_refuse, every_go}
-use Rattle.relay_calls.proofs.Calls.{message_is}
-use mathlib.Core.Path.{ap}
-use mathlib.Core.Bool.{not}
+use mathlib.Core.Path.{sym}
+use mathlib.Core.List.{[]}
+use Rattle.numbers.proofs.Cases.{every_stop, every_turn}
+use Rattle.relay_step.specs.Step.{state}
+use Rattle.relay_calls.specs.Calls.{message_finite, finite_at}
 use Rattle.relay_calls.proofs.iterate.messages_finite.Goals as goal
+use Rattle.relay_calls.proofs.iterate.messages_finite.Goals.{then-not-is_finite-via-then-not-is_finite, then-not-is_finite-via-else-not-is_finite+then-not-is_finite-2}
 
-pub returns-then-not-both : goal.returns-then-not-both
-returns-then-not-both c = every_refuse _ c.loop-i.i _ _
-    c.loop-i-test.true
-    (message_is _ _ _ c.loop-i.i _ _ _ _
-    c.at-m.ensures
-    c.is_finite.ensures c.is_finite-in-loop-i.ensures c.both.ensures) (ap not c.if-not-both.true)
+pub returns-then-not-is_finite : goal.returns-then-not-is_finite
+unfolding message_finite finite_at
+returns-then-not-is_finite c =
+    let stop = every_stop (message_finite (state c.args.c_to_v.now c.args.v_to_c.now []) c.args.entries.now) c.loop-entry.entry-index _ c.loop-entry-test.true in
+    elim c.then-not-is_finite.branch [
+      | then-not-is_finite-via-then-not-is_finite w ↦ sym (stop (rw (← c.is_finite.ensures, w.if-not-is_finite.true)))
+      | then-not-is_finite-via-else-not-is_finite+then-not-is_finite-2 w ↦
+          sym (stop (rw (← c.is_finite.ensures, w.if-not-is_finite.false, ← w.is_finite-else-not-is_finite.ensures, w.if-not-is_finite-2.true)))
+    ]
 
-pub loop-i-preserved : goal.loop-i-preserved
-loop-i-preserved c = (
-  omega arith,
-  every_go _ c.loop-i.i _
-      c.loop-i.invariant.1
-      (message_is _ _ _ c.loop-i.i _ _ _ _
-      c.at-m.ensures
-      c.is_finite.ensures c.is_finite-in-loop-i.ensures c.both.ensures) (ap not c.if-not-both.false),
-)
+pub loop-entry-preserved : goal.loop-entry-preserved
+unfolding message_finite finite_at
+loop-entry-preserved c =
+    every_turn (message_finite (state c.args.c_to_v.now c.args.v_to_c.now []) c.args.entries.now) c.loop-entry.entry-index c.loop-entry.invariant
+    (rw (← c.is_finite.ensures, c.if-not-is_finite.false, ← c.is_finite-else-not-is_finite.ensures, c.if-not-is_finite-2.false))

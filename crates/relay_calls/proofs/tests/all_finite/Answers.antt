@@ -1,27 +1,15 @@
--- `relay_calls::tests::all_finite` meets its contract. The invariant: the elements passed are finite.
+-- `relay_calls::tests::all_finite` meets its contract. Each element is finite.
 -- Assumes nothing.
-use mathlib.Core.Path.{◌≡◌, sym}
-use native.Mathlib.Omega.{arith}
-use lib.ListN.{length}
-use Rattle.numbers.proofs.Cases.{every_refuse, every_go}
+use Rattle.std.specs.Prelude.{◌↔◌, IsTrue, EachIndex, slice_index_or, length}
+use Rattle.std.specs.Float.{nan}
+use Rattle.std.proofs.Common.{rules}
+use Rattle.numbers.specs.Floats.{is_finite}
 use Rattle.relay_calls.specs.Calls.{finite_at, all_finite}
-use mathlib.Core.Path.{ap}
-use mathlib.Core.Bool.{not}
+use Rattle.relay_calls.proofs.Every.{every_iff}
 use Rattle.relay_calls.proofs.tests.all_finite.Goals as goal
 
-pub returns-then-not-is_finite : goal.returns-then-not-is_finite
-unfolding all_finite finite_at
-returns-then-not-is_finite c = every_refuse (finite_at c.args.xs.now)
-    c.loop-i.i _ _ c.loop-i-test.true c.is_finite.ensures (ap not c.if-not-is_finite.true)
-
-pub loop-i-preserved : goal.loop-i-preserved
-unfolding finite_at
-loop-i-preserved c = (
-  omega arith,
-  every_go (finite_at c.args.xs.now)
-      c.loop-i.i _ c.loop-i.invariant.1 c.is_finite.ensures (ap not c.if-not-is_finite.false),
-)
-
 pub returns : goal.returns
-unfolding all_finite
-returns c = let e : c.loop-i.i ≡ length c.args.xs.now = omega (arith, c.loop-i.invariant.0, c.loop-i-test.false) in sym (rw e at c.loop-i.invariant.1)
+unfolding all_finite finite_at
+returns c =
+    let each : IsTrue c.all.result ↔ EachIndex c.args.xs.now (λ k. IsTrue (is_finite (slice_index_or c.args.xs.now k nan))) = search rules in
+    every_iff (length c.args.xs.now) (finite_at c.args.xs.now) c.all.result each

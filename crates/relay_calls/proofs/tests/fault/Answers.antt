@@ -1,19 +1,18 @@
 -- `relay_calls::tests::fault` meets its contract. The graph's tests refuse, or those of the step answer.
 -- Assumes nothing.
+use Rattle.std.proofs.lemmas.Result.{err_from_is_err_and}
 use Rattle.relay_calls.specs.Calls.{step_fault, step_fits}
-use Rattle.refusals.proofs.Tests.{or_refused, or_passed}
+use Rattle.refusals.specs.Tests.{or_else}
 use Rattle.relay_calls.proofs.Calls.{checks_few}
-use mathlib.Core.Path.{ap}
-use mathlib.Core.Bool.{not}
 use Rattle.relay_calls.proofs.tests.fault.Goals as goal
 
-pub returns-then-not-is_done : goal.returns-then-not-is_done
-unfolding step_fault step_fits
-returns-then-not-is_done c = or_refused _ _ _ _ c.check_graph-a.ensures c.is_done.ensures (ap not c.if-not-is_done.true)
+pub returns-in_err-check_graph : goal.returns-in_err-check_graph
+unfolding step_fault step_fits or_else
+returns-in_err-check_graph c = let p = err_from_is_err_and c.from_residual.result c.from_residual.ensures.1 in rw (p.1, p.2, ← c.in_err-check_graph.ensures)
 
 pub step_fault-requires : goal.step_fault-requires
-step_fault-requires c = checks_few _ _ _ _ _ c.check_graph-a.ensures c.is_done.ensures (ap not c.if-not-is_done.false)
+step_fault-requires c = checks_few _ _ _ c.in_ok-check_graph.ensures
 
 pub returns : goal.returns
-unfolding step_fault step_fits
-returns c = or_passed _ _ _ _ _ c.check_graph-a.ensures c.is_done.ensures (ap not c.if-not-is_done.false) c.step_fault.ensures
+unfolding step_fault step_fits or_else
+returns c = rw (← c.in_ok-check_graph.ensures) c.step_fault.ensures

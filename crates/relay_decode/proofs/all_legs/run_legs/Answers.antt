@@ -1,9 +1,9 @@
 -- `relay_decode::all_legs::run_legs` meets its contract. The invariant: a run is reached of which this is kept and from which the legs left lead to the
 -- definition's end; the rows from here on are blank.
 -- Assumes nothing.
-use mathlib.Core.Path.{refl, ap, ◌∙◌}
+use mathlib.Core.Path.{ap, ◌∙◌}
 use mathlib.Core.Option.{none}
-use Prim.Native.Nat.{suc, ◌*◌}
+use Prim.Native.Nat.{suc, ◌+◌, ◌*◌}
 use native.Mathlib.Omega.{arith}
 use lib.ListN.{length}
 use Rattle.relay_record.specs.Kept.{shot_of, best_of, kept, Results}
@@ -12,17 +12,6 @@ use Rattle.relay_decode.proofs.all_legs.run_legs.Goals as goal
 
 pub loop-leg-init : goal.loop-leg-init
 loop-leg-init c = (
-  omega arith,
-  refl,
-  refl,
-  refl,
-  refl,
-  refl,
-  refl,
-  refl,
-  refl,
-  refl,
-  refl,
   reached_start
       (shot_of c.args.t c.args.gammas.now c.args.seed c.args.syndrome.now
       c.args.priors.now c.args.check_var.now c.args.check_offset.now
@@ -35,7 +24,7 @@ loop-leg-init c = (
 
 pub answer-requires : goal.answer-requires
 answer-requires c =
-    run_fits (shot_of c.args.t c.args.gammas.now c.args.seed c.args.syndrome.now c.args.priors.now c.args.check_var.now c.args.check_offset.now c.args.var_message.now c.args.var_offset.now c.args.order.now) _ _ _ _ _ _ _ _ _ c.loop-leg.leg (kept (best_of c.loop-leg.tally.found c.loop-leg.tally.weight) c.loop-leg.tally.num_converged c.loop-leg.tally.total_iterations c.loop-leg.leg c.loop-leg.leg_state c.loop-leg.leg_iterations c.loop-leg.leg_weight c.loop-leg.rows c.loop-leg.correction c.loop-leg.posterior) c.loop-leg.invariant.11 (omega (
+    run_fits (shot_of c.args.t c.args.gammas.now c.args.seed c.args.syndrome.now c.args.priors.now c.args.check_var.now c.args.check_offset.now c.args.var_message.now c.args.var_offset.now c.args.order.now) _ _ _ _ _ _ _ _ _ c.loop-leg.leg (kept (best_of c.loop-leg.tally.best) c.loop-leg.tally.num_converged c.loop-leg.tally.total_iterations c.loop-leg.leg c.loop-leg.leg_state c.loop-leg.leg_iterations c.loop-leg.leg_weight c.loop-leg.rows c.loop-leg.correction c.loop-leg.posterior) c.loop-leg.invariant.0 (omega (
       arith,
       c.loop-leg-test.true,
     )) c.next_leg-tally.ensures.turn c.args.each c.requires.each_bound
@@ -44,56 +33,47 @@ pub returns-then-ends-clause-answer : goal.returns-then-ends-clause-answer
 returns-then-ends-clause-answer c = (run_ended (shot_of c.args.t c.args.gammas.now c.args.seed c.args.syndrome.now
     c.args.priors.now c.args.check_var.now c.args.check_offset.now c.args.var_message.now c.args.var_offset.now c.args.order.now) _ _ _ _ _ _ _ _ _ c.args.each c.loop-leg.leg
     (kept
-    (best_of c.loop-leg.tally.found c.loop-leg.tally.weight) c.loop-leg.tally.num_converged
-    c.loop-leg.tally.total_iterations c.loop-leg.leg c.loop-leg.leg_state c.loop-leg.leg_iterations c.loop-leg.leg_weight c.loop-leg.rows c.loop-leg.correction c.loop-leg.posterior) c.loop-leg.invariant.11 (omega (
+    (best_of c.loop-leg.tally.best) c.loop-leg.tally.num_converged
+    c.loop-leg.tally.total_iterations c.loop-leg.leg c.loop-leg.leg_state c.loop-leg.leg_iterations c.loop-leg.leg_weight c.loop-leg.rows c.loop-leg.correction c.loop-leg.posterior) c.loop-leg.invariant.0 (omega (
       arith,
       c.loop-leg-test.true,
-    )) c.next_leg-tally.ensures.turn _ _ _ (c.next_leg-tally.auto.posterior ∙ c.loop-leg.invariant.6 ∙ c.requires.per_shot.posteriors)
+    )) c.next_leg-tally.ensures.turn _ _ _ (c.next_leg-tally.auto.posterior ∙ c.loop-leg.auto.posterior ∙ c.requires.per_shot.posteriors)
     c.first_not_finite-a.ensures c.ends.ensures c.if-ends.true c.answer.ensures).0
 
 pub returns-then-ends-clause-left : goal.returns-then-ends-clause-left
 returns-then-ends-clause-left c = (run_ended (shot_of c.args.t c.args.gammas.now c.args.seed c.args.syndrome.now
     c.args.priors.now c.args.check_var.now c.args.check_offset.now c.args.var_message.now c.args.var_offset.now c.args.order.now) _ _ _ _ _ _ _ _ _ c.args.each c.loop-leg.leg
     (kept
-    (best_of c.loop-leg.tally.found c.loop-leg.tally.weight) c.loop-leg.tally.num_converged
-    c.loop-leg.tally.total_iterations c.loop-leg.leg c.loop-leg.leg_state c.loop-leg.leg_iterations c.loop-leg.leg_weight c.loop-leg.rows c.loop-leg.correction c.loop-leg.posterior) c.loop-leg.invariant.11 (omega (
+    (best_of c.loop-leg.tally.best) c.loop-leg.tally.num_converged
+    c.loop-leg.tally.total_iterations c.loop-leg.leg c.loop-leg.leg_state c.loop-leg.leg_iterations c.loop-leg.leg_weight c.loop-leg.rows c.loop-leg.correction c.loop-leg.posterior) c.loop-leg.invariant.0 (omega (
       arith,
       c.loop-leg-test.true,
-    )) c.next_leg-tally.ensures.turn _ _ _ (c.next_leg-tally.auto.posterior ∙ c.loop-leg.invariant.6 ∙ c.requires.per_shot.posteriors)
+    )) c.next_leg-tally.ensures.turn _ _ _ (c.next_leg-tally.auto.posterior ∙ c.loop-leg.auto.posterior ∙ c.requires.per_shot.posteriors)
     c.first_not_finite-a.ensures c.ends.ensures c.if-ends.true c.answer.ensures).1
 
 pub loop-leg-preserved : goal.loop-leg-preserved
 loop-leg-preserved c = (
-  omega (arith, c.loop-leg-test.true),
-  c.next_leg-tally.auto.leg_state ∙ c.loop-leg.invariant.1,
-  c.next_leg-tally.auto.leg_iterations ∙ c.loop-leg.invariant.2,
-  c.next_leg-tally.auto.leg_weight ∙ c.loop-leg.invariant.3,
-  c.next_leg-tally.auto.rows ∙ c.loop-leg.invariant.4,
-  c.next_leg-tally.auto.correction ∙ c.loop-leg.invariant.5,
-  c.next_leg-tally.auto.posterior ∙ c.loop-leg.invariant.6,
-  c.next_leg-tally.auto.gamma ∙ c.loop-leg.invariant.7,
-  c.next_leg-tally.auto.bias ∙ c.loop-leg.invariant.8,
-  c.next_leg-tally.auto.c_to_v ∙ c.loop-leg.invariant.9,
-  c.next_leg-tally.auto.v_to_c ∙ c.loop-leg.invariant.10,
   run_on (shot_of c.args.t c.args.gammas.now c.args.seed c.args.syndrome.now
       c.args.priors.now c.args.check_var.now c.args.check_offset.now c.args.var_message.now c.args.var_offset.now c.args.order.now) _ _ _ _ _ _ _ _ _ c.loop-leg.leg
-      (kept (best_of c.loop-leg.tally.found c.loop-leg.tally.weight)
+      (kept (best_of c.loop-leg.tally.best)
       c.loop-leg.tally.num_converged c.loop-leg.tally.total_iterations
       c.loop-leg.leg c.loop-leg.leg_state c.loop-leg.leg_iterations c.loop-leg.leg_weight
-      c.loop-leg.rows c.loop-leg.correction c.loop-leg.posterior) c.loop-leg.invariant.11 (omega
-      (arith, c.loop-leg-test.true)) c.next_leg-tally.ensures.turn _ _ (c.next_leg-tally.auto.posterior ∙ c.loop-leg.invariant.6 ∙ c.requires.per_shot.posteriors)
+      c.loop-leg.rows c.loop-leg.correction c.loop-leg.posterior) c.loop-leg.invariant.0 (omega
+      (arith, c.loop-leg-test.true)) c.next_leg-tally.ensures.turn _ _ (c.next_leg-tally.auto.posterior ∙ c.loop-leg.auto.posterior ∙ c.requires.per_shot.posteriors)
       c.first_not_finite-a.ensures c.ends.ensures c.if-ends.false,
   blank_along _ _ _ c.next_leg-tally.ensures.blank,
-  omega (arith, c.next_leg-tally.ensures.few.0, c.loop-leg.invariant.13),
-  omega (arith, c.next_leg-tally.ensures.few.1, c.loop-leg.invariant.14),
+  omega (arith, c.next_leg-tally.ensures.few.0, c.loop-leg.invariant.2),
+  omega (arith, c.next_leg-tally.ensures.few.1, c.loop-leg.invariant.3),
 )
 
 pub returns-clause-answer : goal.returns-clause-answer
 returns-clause-answer c = (run_over (shot_of c.args.t c.args.gammas.now c.args.seed c.args.syndrome.now
     c.args.priors.now c.args.check_var.now c.args.check_offset.now c.args.var_message.now
-    c.args.var_offset.now c.args.order.now) _ _ _ _ _ _ _ _ _ c.args.each c.loop-leg.leg _ c.loop-leg.invariant.11 (omega (arith, c.loop-leg-test.false)) c.answer_run.ensures).0
+    c.args.var_offset.now c.args.order.now) _ _ _ _ _ _ _ _ _ c.args.each c.loop-leg.leg (c.args.t.num_legs + 1) _ c.loop-leg.invariant.0 (omega (arith, c.loop-leg-test.false))
+    (omega (arith, c.loop-leg-test.false)) c.answer_run.ensures).0
 
 pub returns-clause-left : goal.returns-clause-left
 returns-clause-left c = (run_over (shot_of c.args.t c.args.gammas.now c.args.seed c.args.syndrome.now
     c.args.priors.now c.args.check_var.now c.args.check_offset.now c.args.var_message.now
-    c.args.var_offset.now c.args.order.now) _ _ _ _ _ _ _ _ _ c.args.each c.loop-leg.leg _ c.loop-leg.invariant.11 (omega (arith, c.loop-leg-test.false)) c.answer_run.ensures).1
+    c.args.var_offset.now c.args.order.now) _ _ _ _ _ _ _ _ _ c.args.each c.loop-leg.leg (c.args.t.num_legs + 1) _ c.loop-leg.invariant.0 (omega (arith, c.loop-leg-test.false))
+    (omega (arith, c.loop-leg-test.false)) c.answer_run.ensures).1

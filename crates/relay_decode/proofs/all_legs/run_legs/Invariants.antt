@@ -1,21 +1,14 @@
 -- `relay_decode::all_legs::run_legs` meets its contract. The invariant: a run is reached of which this is kept and from which the legs left lead to the
 -- definition's end; the rows from here on are blank.
 -- Assumes nothing.
-use mathlib.Core.Path.{◌≡◌}
-use Prim.Native.Nat.{suc, ◌-◌, ◌*◌, ◌≤◌}
+use Prim.Native.Nat.{◌*◌, ◌≤◌}
 use lib.ListN.{length}
 use Rattle.relay_record.specs.Kept.{shot_of, best_of, kept, Blank}
 use Rattle.relay_decode.proofs.Runs.{Reached}
 use Rattle.relay_decode.proofs.all_legs.run_legs.Given as goal
 
 abbrev pub invariant-loop-leg : goal.invariant-loop-leg
-invariant-loop-leg l = (l.leg ≤ suc l.t.num_legs) × (length l.leg_state ≡ length l.initial.leg_state) ×
-    (length l.leg_iterations ≡ length l.initial.leg_iterations) × (length l.leg_weight ≡ length l.initial.leg_weight) ×
-    (length l.rows ≡ length l.initial.rows) × (length l.correction ≡ length l.initial.correction) × (length l.posterior ≡ length l.initial.posterior) × (length l.gamma ≡ length l.initial.gamma) ×
-    (length l.bias ≡ length l.initial.bias) × (length l.c_to_v ≡ length l.initial.c_to_v) × (length l.v_to_c ≡ length l.initial.v_to_c)
-    × Reached (shot_of l.t l.gammas l.seed l.syndrome l.priors l.check_var l.check_offset l.var_message l.var_offset l.order) l.leg (kept (best_of l.tally.found l.tally.weight)
+invariant-loop-leg l =
+    Reached (shot_of l.t l.gammas l.seed l.syndrome l.priors l.check_var l.check_offset l.var_message l.var_offset l.order) l.leg (kept (best_of l.tally.best)
     l.tally.num_converged l.tally.total_iterations l.leg l.leg_state l.leg_iterations l.leg_weight l.rows l.correction l.posterior)
     × Blank (l.leg * length l.priors) l.rows × (l.tally.num_converged ≤ l.leg) × (l.tally.total_iterations ≤ l.leg * 65535)
-
-abbrev pub decreases-loop-leg : goal.decreases-loop-leg
-decreases-loop-leg l = suc l.t.num_legs - l.leg

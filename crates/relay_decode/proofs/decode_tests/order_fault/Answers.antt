@@ -1,13 +1,12 @@
 -- `relay_decode::decode_tests::order_fault` meets its contract. The index order passes both tests; another is tested by one, then by the other.
 -- Assumes nothing.
 use mathlib.Core.Path.{sym, ap, ◌∙◌}
+use Rattle.std.proofs.lemmas.Result.{err_from_is_err_and}
 use Rattle.refusals.specs.Tests.{or_else}
-use Rattle.refusals.proofs.Tests.{or_refused, or_passed}
 use Rattle.graph_messages.specs.Needs.{of_checks}
 use Rattle.relay_orders.specs.Order.{names_fault, exchange_fault}
 use Rattle.relay_calls.proofs.Named.{index_passes}
 use Rattle.relay_decode.proofs.Faults.{names_passed}
-use mathlib.Core.Bool.{not}
 use Rattle.relay_decode.proofs.decode_tests.order_fault.Goals as goal
 
 pub returns-then-is_index_order : goal.returns-then-is_index_order
@@ -15,16 +14,18 @@ returns-then-is_index_order c = let g = of_checks c.args.checks c.args.check_var
     sym
     (ap (λ o. or_else (names_fault c.args.checks o) (exchange_fault c.args.schedule g o)) (c.is_index_order.ensures c.if-is_index_order.true) ∙ index_passes c.args.schedule g)
 
-pub returns-then-not-is_done : goal.returns-then-not-is_done
-returns-then-not-is_done c = or_refused _ _ _ _ c.names_fault-a.ensures c.is_done.ensures (ap not c.if-not-is_done.true)
+pub returns-in_err-names_fault : goal.returns-in_err-names_fault
+unfolding or_else
+returns-in_err-names_fault c = let p = err_from_is_err_and c.from_residual.result c.from_residual.ensures.1 in rw (p.1, p.2, ← c.in_err-names_fault.ensures)
 
 pub exchange_fault-requires : goal.exchange_fault-requires
 exchange_fault-requires c = record {
   checks_le_max_checks = c.requires.checks_le_max_checks;
   offsets = c.requires.offsets;
   keys = c.requires.keys;
-  order_value = names_passed _ _ _ _ c.names_fault-a.ensures c.is_done.ensures (ap not c.if-not-is_done.false);
+  order_value = names_passed _ _ c.in_ok-names_fault.ensures;
 }
 
 pub returns : goal.returns
-returns c = or_passed _ _ _ _ _ c.names_fault-a.ensures c.is_done.ensures (ap not c.if-not-is_done.false) c.exchange_fault.ensures
+unfolding or_else
+returns c = rw (← c.in_ok-names_fault.ensures) c.exchange_fault.ensures

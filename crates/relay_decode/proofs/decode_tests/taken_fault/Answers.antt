@@ -1,12 +1,11 @@
 -- `relay_decode::decode_tests::taken_fault` meets its contract. The tests of both calls, then 23 and 24; these see no more of the graph than its checks.
 -- Assumes nothing.
+use Rattle.std.proofs.lemmas.Result.{err_from_is_err_and}
 use Rattle.relay_decode.proofs.Faults.{order_asks, fault_before, fault_after}
-use mathlib.Core.Path.{ap}
-use mathlib.Core.Bool.{not}
 use Rattle.relay_decode.proofs.decode_tests.taken_fault.Goals as goal
 
-pub returns-then-not-is_done : goal.returns-then-not-is_done
-returns-then-not-is_done c = fault_before
+pub returns-in_err-shot_fault : goal.returns-in_err-shot_fault
+returns-in_err-shot_fault c = let p = err_from_is_err_and c.from_residual.result c.from_residual.ensures.1 in rw (p.1, p.2) (fault_before
     c.args.size.edges c.args.size.checks c.args.size.mechanisms c.args.t c.args.gammas.now c.args.seed
     c.args.syndrome.now c.args.priors.now c.args.check_var.now
     c.args.check_offset.now c.args.var_check.now c.args.var_message.now c.args.var_offset.now
@@ -22,7 +21,7 @@ returns-then-not-is_done c = fault_before
       c_to_v = c.args.c_to_v.now;
       v_to_c = c.args.v_to_c.now;
     })
-    _ _ c.shot_fault-a.ensures c.is_done.ensures (ap not c.if-not-is_done.true)
+    _ c.in_err-shot_fault.ensures)
 
 pub order_fault-requires : goal.order_fault-requires
 order_fault-requires c =
@@ -42,7 +41,7 @@ order_fault-requires c =
       c_to_v = c.args.c_to_v.now;
       v_to_c = c.args.v_to_c.now;
     })
-    _ _ c.shot_fault-a.ensures c.is_done.ensures (ap not c.if-not-is_done.false) in
+    c.in_ok-shot_fault.ensures in
     record {
       checks_le_max_checks = asked.0;
       offsets = asked.1.0;
@@ -66,4 +65,4 @@ returns c = fault_after
       c_to_v = c.args.c_to_v.now;
       v_to_c = c.args.v_to_c.now;
     })
-    _ _ _ c.shot_fault-a.ensures c.is_done.ensures (ap not c.if-not-is_done.false) c.order_fault.ensures
+    _ c.in_ok-shot_fault.ensures c.order_fault.ensures

@@ -10,7 +10,7 @@ returns c = record {
   turn = row_turn (shot_of c.args.t c.args.gammas.now c.args.seed c.args.syndrome.now
       c.args.priors.now c.args.check_var.now c.args.check_offset.now
       c.args.var_message.now c.args.var_offset.now c.args.order.now)
-      c.args.leg (best_of c.args.tally.found c.args.tally.weight) _
+      c.args.leg (best_of c.args.tally.best) _
       c.args.tally.num_converged _ c.args.tally.total_iterations _
       c.args.leg_state.now _ c.args.leg_iterations.now _ c.args.leg_weight.now _ _ _
       c.args.correction.now _ _ _ _ _ _ _ c.execute_leg-l.ensures.ran c.execute_leg-l.ensures.bits

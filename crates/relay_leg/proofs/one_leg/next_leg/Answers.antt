@@ -18,7 +18,7 @@ returns c =
     record {
       turn = rows_turn c.args.rows.now m c.args.leg c.requires.blank_2 w (shot_of c.args.t
           c.args.gammas.now c.args.seed c.args.syndrome.now c.args.priors.now c.args.check_var.now c.args.check_offset.now c.args.var_message.now c.args.var_offset.now
-          c.args.order.now) refl (best_of c.args.tally.found c.args.tally.weight) _
+          c.args.order.now) refl (best_of c.args.tally.best) _
           c.args.tally.num_converged _ c.args.tally.total_iterations _
           c.args.leg_state.now _ c.args.leg_iterations.now _ c.args.leg_weight.now _ _ _ c.args.correction.now _ c.args.posterior.now _ _ c.leg_in_row.ensures.turn d;
       blank = blank_after c.args.rows.now m c.args.leg c.requires.blank_2 w c.leg_in_row.new.row _
