@@ -11,7 +11,6 @@ ghost use Rattle.relay_gammas.specs.Gammas.{stream_number, start_of, seed_good, 
 use graph_messages::{copy, fill};
 use numbers::SplitMix64;
 use refusals::Refusal;
-use refusals_tests::unless;
 use relay_settings::{DrawRule, GammaSource, Settings};
 
 // Whether a draw takes a seed.
@@ -35,10 +34,14 @@ fn seed_good(source: GammaSource, seed: u64) -> bool
 }
 
 // 27.
+#[tactic(auto, unfolding(crate::specs::Gammas::seed_fault, refusals::specs::Tests::unless))]
 pub fn seed_fault(source: GammaSource, seed: u64) -> Result<(), Refusal>
     ensures { result ≡ seed_fault source seed }
 {
-    unless(seed_good(source, seed), Refusal::ShotTooLarge)
+    if !seed_good(source, seed) {
+        return Err(Refusal::ShotTooLarge);
+    }
+    Ok(())
 }
 
 // The stream number of a shot and a leg. It has 64 bits for a shot that 27 lets through; of any other seed the lower 48 bits count.

@@ -4,7 +4,6 @@
 
 use graph::Size;
 use refusals::Refusal;
-use refusals_tests::is_done;
 use replay_cases::{
     Words, float, is_answer, is_cleared, read_bytes, read_graph, read_sizes, same_floats,
 };
@@ -183,7 +182,7 @@ fn built(
         var_message,
         var_offset,
     )?;
-    if !is_done(a) {
+    if a.is_err() {
         return Some(false);
     }
     with_syndrome(

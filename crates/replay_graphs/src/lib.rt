@@ -4,7 +4,6 @@
 use graph::Size;
 use numbers::wrapping_mul;
 use refusals::Refusal;
-use refusals_tests::is_done;
 use replay_cases::{
     Words, is_answer, read_bytes, read_floats, read_graph, read_sizes, same_numbers,
 };
@@ -25,7 +24,7 @@ fn answered(
     if !is_answer(a, number, place) {
         return Some(false);
     }
-    let same = !is_done(a)
+    let same = a.is_err()
         || same_numbers(words, check_var)
             && same_numbers(words, check_offset)
             && same_numbers(words, var_check)

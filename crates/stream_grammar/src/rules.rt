@@ -1,26 +1,25 @@
 // The tests 41 to 45, each by itself.
-ghost use Rattle.std.specs.Prelude.{◌≡◌, not, ◌||◌};
+ghost use Rattle.std.specs.Prelude.{◌≡◌};
 ghost use Rattle.stream_grammar.specs.Stream.{is_settings, kind_good, counts_fit, length_good, time_good, counts_within};
 ghost use Rattle.stream_grammar.specs.Stream.{room_good, schedule_good};
 
 use numbers::limits::{ROOM_CHECKS, ROOM_EDGES, ROOM_LEGS, ROOM_MECHANISMS, ROOM_SHOT};
-use refusals_tests::{at_most, both, same_number};
 
 // Settings, of either kind.
+// Stays: a kind is whatever two bytes of a record say, and the definitions of 41 to 45 test it as that number.
+#[tactic(auto, unfolding(crate::specs::Stream::is_settings))]
 pub fn is_settings(kind: usize) -> bool
     ensures { result ≡ is_settings kind }
 {
-    if kind == 2 {
-        return true;
-    }
-    kind == 4
+    kind == 2 || kind == 4
 }
 
 // 41: the kind is known.
+#[tactic(auto, unfolding(crate::specs::Stream::kind_good))]
 pub fn kind_good(kind: usize) -> bool
     ensures { result ≡ kind_good kind }
 {
-    both(at_most(1, kind), at_most(kind, 4))
+    1 <= kind && kind <= 4
 }
 
 // A model's payload is as long as its counts say. No sum is made that could wrap.
@@ -42,14 +41,12 @@ fn counts_fit(size: usize, mechanisms: usize, edges: usize) -> bool
 }
 
 // 42: the payload length is right for the kind.
+#[tactic(auto, unfolding(crate::specs::Stream::length_good))]
 pub fn length_good(kind: usize, size: usize, mechanisms: usize, edges: usize, sum: usize) -> bool
     ensures { result ≡ length_good kind size mechanisms edges sum }
 {
     if kind == 1 {
-        return both(
-            at_most(12, size),
-            both(counts_fit(size, mechanisms, edges), same_number(sum, edges)),
-        );
+        return 12 <= size && counts_fit(size, mechanisms, edges) && sum == edges;
     }
     if is_settings(kind) {
         return size == 49;
@@ -57,37 +54,24 @@ pub fn length_good(kind: usize, size: usize, mechanisms: usize, edges: usize, su
     8 <= size
 }
 
-// a does not hold, or b does.
-fn implies(a: bool, b: bool) -> bool
-    ensures { result ≡ (not a || b) }
-{
-    if a {
-        return b;
-    }
-    true
-}
-
 // 43: no shot before model or settings.
+#[tactic(auto, unfolding(crate::specs::Stream::time_good))]
 pub fn time_good(kind: usize, has_model: bool, has_settings: bool) -> bool
     ensures { result ≡ time_good kind has_model has_settings }
 {
-    implies(kind == 3, both(has_model, has_settings))
+    kind != 3 || has_model && has_settings
 }
 
 // A model within the room.
+#[tactic(auto, unfolding(crate::specs::Stream::counts_within))]
 pub fn counts_within(checks: usize, mechanisms: usize, edges: usize) -> bool
     ensures { result ≡ counts_within checks mechanisms edges }
 {
-    both(
-        at_most(checks, ROOM_CHECKS),
-        both(
-            at_most(mechanisms, ROOM_MECHANISMS),
-            at_most(edges, ROOM_EDGES),
-        ),
-    )
+    checks <= ROOM_CHECKS && mechanisms <= ROOM_MECHANISMS && edges <= ROOM_EDGES
 }
 
 // 44: within the room.
+#[tactic(auto, unfolding(crate::specs::Stream::room_good))]
 pub fn room_good(
     kind: usize,
     size: usize,
@@ -108,8 +92,9 @@ pub fn room_good(
 }
 
 // 45: the schedule byte of settings.
+#[tactic(auto, unfolding(crate::specs::Stream::schedule_good))]
 pub fn schedule_good(kind: usize, schedule: usize) -> bool
     ensures { result ≡ schedule_good kind schedule }
 {
-    implies(is_settings(kind), at_most(schedule, 1))
+    !is_settings(kind) || schedule <= 1
 }
