@@ -40,16 +40,9 @@ pub enum LegRecord {
 pub fn record_of(state: u8, iterations: usize, weight: f64) -> LegRecord
     ensures { result ≡ record_of state iterations weight }
 {
-    if state == 1 {
-        return LegRecord::RanOut {
-            iterations: iterations,
-        };
+    match state {
+        1 => LegRecord::RanOut { iterations },
+        2 => LegRecord::Converged { weight, iterations },
+        _ => LegRecord::NotExecuted,
     }
-    if state == 2 {
-        return LegRecord::Converged {
-            weight: weight,
-            iterations: iterations,
-        };
-    }
-    LegRecord::NotExecuted
 }

@@ -12,8 +12,9 @@ ghost use Rattle.relay_calls.specs.Calls.{byte_fault, syndrome_fault, all_finite
 
 use numbers::is_finite;
 use refusals::Refusal;
+use refusals_tests::finite_positive;
 use relay_orders::names_fault;
-use relay_settings::{Clip, alpha_good, clip_good};
+use relay_settings::{Clip, clip_good};
 
 // A byte of a syndrome is 0 or 1.
 fn is_bit(b: u8) -> bool
@@ -83,7 +84,7 @@ fn state_finite(gamma: &[f64], c_to_v: &[f64], v_to_c: &[f64], posterior: &[f64]
 }
 
 // 9, 10, 20, 21, 22, 23 and 25, of as many checks as a graph may have.
-#[tactic(auto, unfolding(refusals::specs::Tests::unless, refusals::specs::Tests::or_else))]
+#[tactic(auto, unfolding(refusals::specs::Tests::unless, refusals::specs::Tests::or_else, relay_settings::specs::Settings::alpha_good))]
 fn step_fault(
     size: graph::Size,
     alpha: f64,
@@ -109,7 +110,7 @@ fn step_fault(
     if !clip_good(clip) {
         return Err(Refusal::BadClip);
     }
-    if !alpha_good(alpha) {
+    if !finite_positive(alpha) {
         return Err(Refusal::BadAlpha);
     }
     syndrome_fault(size.checks, syndrome)?;

@@ -99,7 +99,7 @@ pub fn clip_good(clip: Clip) -> bool
 
 // 10.
 #[tactic(auto, unfolding(crate::specs::Settings::alpha_good))]
-pub fn alpha_good(alpha: f64) -> bool
+fn alpha_good(alpha: f64) -> bool
     ensures { result ≡ alpha_good alpha }
 {
     finite_positive(alpha)
