@@ -49,8 +49,10 @@ pub fn parallel_checks(
         messages c_to_v.new v_to_c.now
         ≡ checks_to by_place (checks_alone checks.now) scale syndrome.now before checks.now.rows }
 {
+    // A copy: no store in the loop can change it, so that where its lists lie is read once.
+    let checks = *checks;
     for c in 0..checks.rows {
-        parallel_check(c, scale, syndrome, checks, v_to_c, c_to_v);
+        parallel_check(c, scale, syndrome, &checks, v_to_c, c_to_v);
     }
 }
 
@@ -79,8 +81,10 @@ pub fn update_and_average(
     ensures average { ewa_posterior.new
         ≡ averaged (variables_alone variables.now) priors.now weight (messages c_to_v.now []) ewa_posterior.old }
 {
+    // A copy, as in `parallel_checks`. `serial_checks` is slower with copies.
+    let variables = *variables;
     for (v, x) in ewa_posterior.iter_mut().enumerate() {
-        let sum = crate::variable::update_variable(v, priors, variables, c_to_v, v_to_c);
+        let sum = crate::variable::update_variable(v, priors, &variables, c_to_v, v_to_c);
         *x = running_average(weight, *x, sum);
     }
 }
