@@ -150,18 +150,11 @@ pub fn total(entries: &[u32], c_to_v: &[f64]) -> f64
     sum
 }
 
-// All set to x.
-pub fn fill(x: f64, xs: &mut [f64])
-    ensures { xs.new ≡ replicate (length xs.old) x }
-{
-    xs.fill(x);
-}
-
 // All zeroed.
 pub fn clear(xs: &mut [f64])
     ensures { xs.new ≡ replicate (length xs.old) zero⁺ }
 {
-    fill(0.0, xs);
+    xs.fill(0.0);
 }
 
 // Each message of a variable set to that variable's value.

@@ -234,7 +234,7 @@ fn all_rounds(
         belief after ewa_posterior.new
         ≡ all_rounds_of by_place g serial scale syndrome.now priors.now n }
 {
-    graph_messages::copy(priors, ewa_posterior);
+    ewa_posterior.copy_from_slice(priors);
     if n < 6 {
         outer_round(
             n,

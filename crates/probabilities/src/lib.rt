@@ -12,7 +12,6 @@ ghost use Rattle.probabilities.specs.Ratios.{Split, cut_sum, size_of};
 ghost use Rattle.probabilities.specs.Calls.{is_probability, probability_fault, prior_answer, priors_outcome, priors_of};
 
 use refusals::Refusal;
-use refusals_tests::{both, is_done, same_number};
 
 // ---- the logarithm, in whole numbers of 2^-32
 

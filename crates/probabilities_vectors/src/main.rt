@@ -2,8 +2,6 @@
 // works out of the definition.
 #![tactic(auto)]
 
-ghost use Rattle.std.specs.Prelude.{◌*◌, ◌^◌, ◌≤◌, nat_abs};
-
 use numbers::SplitMix64;
 use std::io;
 

@@ -8,7 +8,6 @@ ghost use Rattle.numbers.specs.Loops.{part};
 ghost use Rattle.relay_settings.specs.declared.GammaSource.TheVariants.{Explicit, Seeded};
 ghost use Rattle.relay_gammas.specs.Gammas.{stream_number, start_of, seed_good, seed_fault, drawn, relay_gamma, gamma_of};
 
-use graph_messages::{copy, fill};
 use numbers::SplitMix64;
 use refusals::Refusal;
 use relay_settings::{DrawRule, GammaSource, Settings};
@@ -91,7 +90,7 @@ fn copy_set(sets: usize, leg: usize, flat: &[f64], gamma: &mut [f64])
 {
     let start = set_of(leg, sets) * gamma.len();
     let end = start + gamma.len();
-    copy(&flat[start..end], gamma);
+    gamma.copy_from_slice(&flat[start..end]);
 }
 
 // `prepare_relay_gamma`: the gammas of a relayed leg.
@@ -123,7 +122,7 @@ pub fn prepare_gamma(t: Settings, flat: &[f64], seed: u64, leg: usize, gamma: &m
 {
     let source = t.gamma_source;
     if leg == 0 {
-        fill(t.gamma0, gamma);
+        gamma.fill(t.gamma0);
         return;
     }
     relay_gamma(source, t.gamma_low, t.gamma_high, flat, seed, leg, gamma);

@@ -13,7 +13,6 @@ ghost use Rattle.relay_calls.specs.Records.{values_of, record_of_leg};
 ghost use Rattle.relay_calls.specs.Decode.{is_none_or};
 ghost use Rattle.relay_record.specs.Kept.{best_of, best_after, corrected, answer_by};
 
-use bytes::{clear_bytes, copy_bytes};
 use refusals::Refusal;
 use relay_calls::Decoded;
 use relay_step::leg::{Leg, correction_weight};
@@ -52,7 +51,7 @@ fn keep_least(
 {
     let mut best = tally.best;
     if is_better(best, weight) {
-        copy_bytes(row, correction);
+        correction.copy_from_slice(row);
         best = Some(weight);
     }
     Tally {
@@ -68,7 +67,7 @@ fn keep_last(found: bool, row: &[u8], correction: &mut [u8])
     ensures { correction.new ≡ cond found correction.old row.now }
 {
     if !found {
-        copy_bytes(row, correction);
+        correction.copy_from_slice(row);
     }
 }
 
@@ -151,7 +150,7 @@ pub fn record_leg(
         leg_weight,
     );
     keep_last(tally.best.is_some(), row, correction);
-    clear_bytes(row);
+    row.fill(0);
     Tally {
         total_iterations: tally.total_iterations + l.iterations,
         ..tally

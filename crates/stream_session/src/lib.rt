@@ -11,7 +11,7 @@ ghost use Rattle.numbers.specs.Loops.{over};
 ghost use Rattle.stream_session.specs.Shots.{start_session, told, taken, left, byte_taken, end_text};
 
 use numbers::limits::ROOM_LINE;
-use refusals::{Refusal, number_of};
+use refusals::number_of;
 use relay_settings::Settings;
 use stream_reader::Reader;
 

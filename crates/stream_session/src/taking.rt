@@ -6,7 +6,6 @@ ghost use Rattle.stream_table.specs.Table.{model_fault, settings_answer, shot_de
 
 use crate::{Known, Session, telling};
 use numbers::limits::{ROOM_LINE, ROOM_MECHANISMS};
-use refusals::Refusal;
 
 // Settings: they replace earlier ones, of either kind, and the model stays.
 fn take_settings(s: Session, payload: &[u8], line: &mut [u8; ROOM_LINE]) -> Session

@@ -4,7 +4,7 @@ use Rattle.relay_gammas.proofs.Draws.{relayed, zero_is, relayed_is}
 use Rattle.relay_gammas.proofs.prepare_gamma.Goals as goal
 
 pub returns-then-leg-eq0 : goal.returns-then-leg-eq0
-returns-then-leg-eq0 c = zero_is c.args.t _ _ _ _ _ c.if-leg-eq0.true c.fill.ensures
+returns-then-leg-eq0 c = zero_is c.args.t _ _ _ _ _ c.if-leg-eq0.true (c.fill.ensures.after (λ y h. h))
 
 pub relay_gamma-requires : goal.relay_gamma-requires
 relay_gamma-requires c = let h = relayed _ c.if-leg-eq0.false in

@@ -1,7 +1,7 @@
 -- `min_sum::run::choose` meets its contract. The invariant: the beliefs passed are chosen. Assumes nothing.
 use mathlib.Core.Path.{◌≡◌}
 use mathlib.Core.List.{[]}
-use lib.ListN.{length, take}
+use lib.ListN.{take}
 use Rattle.graph_messages.specs.Sides.{variables_alone}
 use Rattle.min_sum_pass.specs.MinSum.{messages, belief, chosen_to}
 use Rattle.min_sum.proofs.run.choose.Given as goal

@@ -1,7 +1,6 @@
 -- `min_sum::run::outer_round` meets its contract. The invariant: the iterations passed are those of the round, from the messages that the first two calls set. Assumes nothing.
 use mathlib.Core.Path.{◌≡◌}
 use mathlib.Core.List.{[]}
-use lib.ListN.{length}
 use Rattle.graph_lists.specs.Messages.{by_place}
 use Rattle.graph_messages.specs.Sides.{sides}
 use Rattle.min_sum_pass.specs.MinSum.{messages, belief, outer_round_to}
