@@ -9,10 +9,10 @@ use Rattle.min_sum.proofs.run.outer_round.Goals as goal
 pub loop-i-init : goal.loop-i-init
 loop-i-init c = (
   omega arith,
-  c.clear.auto.xs ∙ c.requires.run_lists.messages.to_variables,
-  c.from_variables.auto.v_to_c ∙ c.requires.run_lists.messages.to_checks,
-  c.requires.run_lists.averages,
-  round_starts _ _ _ _ _ _ _ _ _ _ (c.clear.ensures ∙ ap (λ n. replicate n zero⁺) (c.requires.run_lists.messages.to_variables ∙ sym c.requires.one_graph.edges)) c.from_variables.ensures,
+  c.clear.auto.xs ∙ c.requires.messages.to_variables,
+  c.from_variables.auto.v_to_c ∙ c.requires.messages.to_checks,
+  c.requires.averages,
+  round_starts _ _ _ _ _ _ _ _ _ _ (c.clear.ensures ∙ ap (λ n. replicate n zero⁺) (c.requires.messages.to_variables ∙ sym c.args.run.now.one_graph.edges)) c.from_variables.ensures,
 )
 
 pub loop-i-preserved : goal.loop-i-preserved

@@ -9,9 +9,9 @@ use Rattle.min_sum_pass.specs.MinSum.{messages, belief, outer_round_to}
 use Rattle.min_sum.proofs.run.outer_round.Given as goal
 
 abbrev pub invariant-loop-i : goal.invariant-loop-i
-invariant-loop-i l = (l.i ≤ l.inner) × (length l.c_to_v ≡ l.variables.n) × (length l.v_to_c ≡ l.variables.n) × (length l.ewa_posterior ≡ l.variables.rows)
+invariant-loop-i l = (l.i ≤ l.inner) × (length l.c_to_v ≡ l.run.variables.n) × (length l.v_to_c ≡ l.run.variables.n) × (length l.ewa_posterior ≡ l.run.variables.rows)
     × (belief (messages l.c_to_v l.v_to_c) l.ewa_posterior
-    ≡ outer_round_to by_place (sides l.checks l.variables) l.serial l.scale l.syndrome l.priors l.outer (belief (messages [] []) l.initial.ewa_posterior) l.i)
+    ≡ outer_round_to by_place (sides l.run.checks l.run.variables) l.run.serial l.run.scale l.run.syndrome.now l.run.priors.now l.outer (belief (messages [] []) l.initial.ewa_posterior) l.i)
 
 abbrev pub decreases-loop-i : goal.decreases-loop-i
 decreases-loop-i l = l.inner - l.i
