@@ -11,6 +11,18 @@ ghost use Rattle.min_sum.specs.Beliefs.{beliefs_lists, beliefs_outcome, ran as r
 use graph_messages::rows::Rows;
 use refusals::Refusal;
 
+// What the iterations of a run share: whether they are serial, the scale, a syndrome and priors, and both sides of the graph of these.
+#[derive(Clone, Copy)]
+struct Run<'a> {
+    serial: bool,
+    scale: f64,
+    syndrome: &'a [u8],
+    priors: &'a [f64],
+    checks: Rows<'a>,
+    variables: Rows<'a>,
+    ghost one_graph: { OneGraph checks variables syndrome.now priors.now },
+}
+
 // The weight of an iteration: 1 in the very first, else 0.3.
 fn weight(outer: usize, i: usize) -> f64
     ensures { result ≡ weight_of outer i }
@@ -24,28 +36,23 @@ fn weight(outer: usize, i: usize) -> f64
 // An iteration that is not serial: all checks, then all variables.
 fn iterate_parallel(
     weight: f64,
-    scale: f64,
-    syndrome: &[u8],
-    priors: &[f64],
-    checks: &Rows<'_>,
-    variables: &Rows<'_>,
+    run: &Run<'_>,
     c_to_v: &mut [f64],
     v_to_c: &mut [f64],
     ewa_posterior: &mut [f64],
 )
-    requires one_graph { OneGraph checks.now variables.now syndrome.now priors.now }
-    requires run_lists { RunLists variables.now.n variables.now.rows c_to_v.old v_to_c.old ewa_posterior.old }
-    ensures { let g = sides checks.now variables.now in
+    requires { RunLists run.now.variables.n run.now.variables.rows c_to_v.old v_to_c.old ewa_posterior.old }
+    ensures { let g = sides run.now.checks run.now.variables in
         let before = belief (messages c_to_v.old v_to_c.old) ewa_posterior.old in
         let after = messages c_to_v.new v_to_c.new in
         belief after ewa_posterior.new
-        ≡ iterated by_place g false scale syndrome.now priors.now weight before }
+        ≡ iterated by_place g false run.now.scale run.now.syndrome.now run.now.priors.now weight before }
 {
-    min_sum_pass::pass::parallel_checks(scale, syndrome, checks, v_to_c, c_to_v);
+    min_sum_pass::pass::parallel_checks(run.scale, run.syndrome, &run.checks, v_to_c, c_to_v);
     min_sum_pass::pass::update_and_average(
         weight,
-        priors,
-        variables,
+        run.priors,
+        &run.variables,
         c_to_v,
         v_to_c,
         ewa_posterior,
@@ -55,214 +62,115 @@ fn iterate_parallel(
 // A serial iteration: each check, and then its variables.
 fn iterate_serial(
     weight: f64,
-    scale: f64,
-    syndrome: &[u8],
-    priors: &[f64],
-    checks: &Rows<'_>,
-    variables: &Rows<'_>,
+    run: &Run<'_>,
     c_to_v: &mut [f64],
     v_to_c: &mut [f64],
     ewa_posterior: &mut [f64],
 )
-    requires one_graph { OneGraph checks.now variables.now syndrome.now priors.now }
-    requires run_lists { RunLists variables.now.n variables.now.rows c_to_v.old v_to_c.old ewa_posterior.old }
-    ensures { let g = sides checks.now variables.now in
+    requires { RunLists run.now.variables.n run.now.variables.rows c_to_v.old v_to_c.old ewa_posterior.old }
+    ensures { let g = sides run.now.checks run.now.variables in
         let before = belief (messages c_to_v.old v_to_c.old) ewa_posterior.old in
         let after = messages c_to_v.new v_to_c.new in
         belief after ewa_posterior.new
-        ≡ iterated by_place g true scale syndrome.now priors.now weight before }
+        ≡ iterated by_place g true run.now.scale run.now.syndrome.now run.now.priors.now weight before }
 {
-    min_sum_pass::pass::serial_checks(scale, syndrome, priors, checks, variables, c_to_v, v_to_c);
-    min_sum_pass::pass::average(weight, priors, variables, c_to_v, ewa_posterior);
+    min_sum_pass::pass::serial_checks(
+        run.scale,
+        run.syndrome,
+        run.priors,
+        &run.checks,
+        &run.variables,
+        c_to_v,
+        v_to_c,
+    );
+    min_sum_pass::pass::average(weight, run.priors, &run.variables, c_to_v, ewa_posterior);
 }
 
 // An iteration, serial or not.
 fn iterate(
-    serial: bool,
     weight: f64,
-    scale: f64,
-    syndrome: &[u8],
-    priors: &[f64],
-    checks: &Rows<'_>,
-    variables: &Rows<'_>,
+    run: &Run<'_>,
     c_to_v: &mut [f64],
     v_to_c: &mut [f64],
     ewa_posterior: &mut [f64],
 )
-    requires one_graph { OneGraph checks.now variables.now syndrome.now priors.now }
-    requires run_lists { RunLists variables.now.n variables.now.rows c_to_v.old v_to_c.old ewa_posterior.old }
-    ensures { let g = sides checks.now variables.now in
+    requires { RunLists run.now.variables.n run.now.variables.rows c_to_v.old v_to_c.old ewa_posterior.old }
+    ensures { let g = sides run.now.checks run.now.variables in
         let before = belief (messages c_to_v.old v_to_c.old) ewa_posterior.old in
         let after = messages c_to_v.new v_to_c.new in
         belief after ewa_posterior.new
-        ≡ iterated by_place g serial scale syndrome.now priors.now weight before }
+        ≡ iterated by_place g run.now.serial run.now.scale run.now.syndrome.now run.now.priors.now weight before }
 {
-    if serial {
-        iterate_serial(
-            weight,
-            scale,
-            syndrome,
-            priors,
-            checks,
-            variables,
-            c_to_v,
-            v_to_c,
-            ewa_posterior,
-        );
+    if run.serial {
+        iterate_serial(weight, run, c_to_v, v_to_c, ewa_posterior);
         return;
     }
-    iterate_parallel(
-        weight,
-        scale,
-        syndrome,
-        priors,
-        checks,
-        variables,
-        c_to_v,
-        v_to_c,
-        ewa_posterior,
-    );
+    iterate_parallel(weight, run, c_to_v, v_to_c, ewa_posterior);
 }
 
 // An outer round: messages start from the running posterior.
 fn outer_round(
     inner: usize,
     outer: usize,
-    serial: bool,
-    scale: f64,
-    syndrome: &[u8],
-    priors: &[f64],
-    checks: &Rows<'_>,
-    variables: &Rows<'_>,
+    run: &Run<'_>,
     c_to_v: &mut [f64],
     v_to_c: &mut [f64],
     ewa_posterior: &mut [f64],
 )
-    requires one_graph { OneGraph checks.now variables.now syndrome.now priors.now }
-    requires run_lists { RunLists variables.now.n variables.now.rows c_to_v.old v_to_c.old ewa_posterior.old }
-    ensures { let g = sides checks.now variables.now in
+    requires { RunLists run.now.variables.n run.now.variables.rows c_to_v.old v_to_c.old ewa_posterior.old }
+    ensures { let g = sides run.now.checks run.now.variables in
         let before = belief (messages c_to_v.old v_to_c.old) ewa_posterior.old in
         let after = messages c_to_v.new v_to_c.new in
         belief after ewa_posterior.new
-        ≡ outer_round_of by_place g serial scale syndrome.now priors.now inner outer before }
+        ≡ outer_round_of by_place g run.now.serial run.now.scale run.now.syndrome.now run.now.priors.now inner outer before }
 {
     graph_messages::clear(c_to_v);
-    graph_messages::from_variables(checks.entries, ewa_posterior, v_to_c);
+    graph_messages::from_variables(run.checks.entries, ewa_posterior, v_to_c);
     for i in 0..inner {
-        iterate(
-            serial,
-            weight(outer, i),
-            scale,
-            syndrome,
-            priors,
-            checks,
-            variables,
-            c_to_v,
-            v_to_c,
-            ewa_posterior,
-        );
+        iterate(weight(outer, i), run, c_to_v, v_to_c, ewa_posterior);
     }
 }
 
 // Two outer rounds of as many iterations each.
 fn two_outer_rounds(
     inner: usize,
-    serial: bool,
-    scale: f64,
-    syndrome: &[u8],
-    priors: &[f64],
-    checks: &Rows<'_>,
-    variables: &Rows<'_>,
+    run: &Run<'_>,
     c_to_v: &mut [f64],
     v_to_c: &mut [f64],
     ewa_posterior: &mut [f64],
 )
-    requires one_graph { OneGraph checks.now variables.now syndrome.now priors.now }
-    requires run_lists { RunLists variables.now.n variables.now.rows c_to_v.old v_to_c.old ewa_posterior.old }
-    ensures { let g = sides checks.now variables.now in
+    requires { RunLists run.now.variables.n run.now.variables.rows c_to_v.old v_to_c.old ewa_posterior.old }
+    ensures { let g = sides run.now.checks run.now.variables in
         let before = belief (messages c_to_v.old v_to_c.old) ewa_posterior.old in
         let after = messages c_to_v.new v_to_c.new in
         belief after ewa_posterior.new
-        ≡ outer_round_of by_place g serial scale syndrome.now priors.now inner 1
-        (outer_round_of by_place g serial scale syndrome.now priors.now inner 0 before) }
+        ≡ outer_round_of by_place g run.now.serial run.now.scale run.now.syndrome.now run.now.priors.now inner 1
+        (outer_round_of by_place g run.now.serial run.now.scale run.now.syndrome.now run.now.priors.now inner 0 before) }
 {
-    outer_round(
-        inner,
-        0,
-        serial,
-        scale,
-        syndrome,
-        priors,
-        checks,
-        variables,
-        c_to_v,
-        v_to_c,
-        ewa_posterior,
-    );
-    outer_round(
-        inner,
-        1,
-        serial,
-        scale,
-        syndrome,
-        priors,
-        checks,
-        variables,
-        c_to_v,
-        v_to_c,
-        ewa_posterior,
-    );
+    outer_round(inner, 0, run, c_to_v, v_to_c, ewa_posterior);
+    outer_round(inner, 1, run, c_to_v, v_to_c, ewa_posterior);
 }
 
 // Two outer rounds of n / 2 from 6 on, so that 7 are 3 and 3; else one of n.
 fn all_rounds(
     n: usize,
-    serial: bool,
-    scale: f64,
-    syndrome: &[u8],
-    priors: &[f64],
-    checks: &Rows<'_>,
-    variables: &Rows<'_>,
+    run: &Run<'_>,
     c_to_v: &mut [f64],
     v_to_c: &mut [f64],
     ewa_posterior: &mut [f64],
 )
-    requires one_graph { OneGraph checks.now variables.now syndrome.now priors.now }
-    requires run_lists { RunLists variables.now.n variables.now.rows c_to_v.old v_to_c.old ewa_posterior.old }
-    ensures { let g = sides checks.now variables.now in
+    requires { RunLists run.now.variables.n run.now.variables.rows c_to_v.old v_to_c.old ewa_posterior.old }
+    ensures { let g = sides run.now.checks run.now.variables in
         let after = messages c_to_v.new v_to_c.new in
         belief after ewa_posterior.new
-        ≡ all_rounds_of by_place g serial scale syndrome.now priors.now n }
+        ≡ all_rounds_of by_place g run.now.serial run.now.scale run.now.syndrome.now run.now.priors.now n }
 {
-    ewa_posterior.copy_from_slice(priors);
+    ewa_posterior.copy_from_slice(run.priors);
     if n < 6 {
-        outer_round(
-            n,
-            0,
-            serial,
-            scale,
-            syndrome,
-            priors,
-            checks,
-            variables,
-            c_to_v,
-            v_to_c,
-            ewa_posterior,
-        );
+        outer_round(n, 0, run, c_to_v, v_to_c, ewa_posterior);
         return;
     }
-    two_outer_rounds(
-        n / 2,
-        serial,
-        scale,
-        syndrome,
-        priors,
-        checks,
-        variables,
-        c_to_v,
-        v_to_c,
-        ewa_posterior,
-    );
+    two_outer_rounds(n / 2, run, c_to_v, v_to_c, ewa_posterior);
 }
 
 // The raw posterior in place of the belief, where both are above zero or both not, and its magnitude is larger.
@@ -299,51 +207,34 @@ fn choose(
 }
 
 // The beliefs after n iterations.
-pub(crate) fn min_sum_bp(
+fn min_sum_bp(
     n: usize,
-    serial: bool,
-    scale: f64,
-    syndrome: &[u8],
-    priors: &[f64],
-    checks: &Rows<'_>,
-    variables: &Rows<'_>,
+    run: &Run<'_>,
     c_to_v: &mut [f64],
     v_to_c: &mut [f64],
     ewa_posterior: &mut [f64],
     posterior: &mut [f64],
 )
-    requires one_graph { OneGraph checks.now variables.now syndrome.now priors.now }
-    requires run_lists { RunLists variables.now.n variables.now.rows c_to_v.old v_to_c.old ewa_posterior.old }
-    requires posterior_len { length posterior.old ≡ variables.now.rows }
-    ensures { let g = sides checks.now variables.now in
-        posterior.new ≡ min_sum_bp by_place g serial scale syndrome.now priors.now n }
+    requires run_lists { RunLists run.now.variables.n run.now.variables.rows c_to_v.old v_to_c.old ewa_posterior.old }
+    requires posterior_len { length posterior.old ≡ run.now.variables.rows }
+    ensures { let g = sides run.now.checks run.now.variables in
+        posterior.new ≡ min_sum_bp by_place g run.now.serial run.now.scale run.now.syndrome.now run.now.priors.now n }
 {
-    all_rounds(
-        n,
-        serial,
-        scale,
-        syndrome,
-        priors,
-        checks,
-        variables,
-        c_to_v,
-        v_to_c,
-        ewa_posterior,
-    );
-    choose(priors, variables, c_to_v, ewa_posterior, posterior);
+    all_rounds(n, run, c_to_v, v_to_c, ewa_posterior);
+    choose(run.priors, &run.variables, c_to_v, ewa_posterior, posterior);
 }
 
 // Past the tests: the run, 30 with the first mechanism whose belief is not finite, and zeroed work lists.
-pub(crate) fn ran(
+pub(crate) fn ran<'g>(
     n: usize,
     serial: bool,
     scale: f64,
-    syndrome: &[u8],
-    priors: &[f64],
-    check_var: &[u32],
-    check_offset: &[u32],
-    var_message: &[u32],
-    var_offset: &[u32],
+    syndrome: &'g [u8],
+    priors: &'g [f64],
+    check_var: &'g [u32],
+    check_offset: &'g [u32],
+    var_message: &'g [u32],
+    var_offset: &'g [u32],
     c_to_v: &mut [f64],
     v_to_c: &mut [f64],
     ewa_posterior: &mut [f64],
@@ -371,19 +262,15 @@ pub(crate) fn ran(
         entries: var_message,
         offsets: var_offset,
     };
-    min_sum_bp(
-        n,
-        serial,
-        scale,
-        syndrome,
-        priors,
-        &checks,
-        &variables,
-        c_to_v,
-        v_to_c,
-        ewa_posterior,
-        posterior,
-    );
+    let run = Run {
+        serial: serial,
+        scale: scale,
+        syndrome: syndrome,
+        priors: priors,
+        checks: checks,
+        variables: variables,
+    };
+    min_sum_bp(n, &run, c_to_v, v_to_c, ewa_posterior, posterior);
     graph_messages::clear(ewa_posterior);
     graph_messages::clear(c_to_v);
     graph_messages::clear(v_to_c);

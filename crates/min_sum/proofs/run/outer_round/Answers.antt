@@ -7,7 +7,7 @@ use Rattle.min_sum.proofs.Rounds.{round_starts, round_turn, round_done}
 use Rattle.min_sum.proofs.run.outer_round.Goals as goal
 
 pub loop-i-init : goal.loop-i-init
-loop-i-init c = round_starts _ _ _ _ _ _ _ _ _ _ (c.clear.ensures ∙ ap (λ n. replicate n zero⁺) (c.requires.run_lists.messages.to_variables ∙ sym c.requires.one_graph.edges)) c.from_variables.ensures
+loop-i-init c = round_starts _ _ _ _ _ _ _ _ _ _ (c.clear.ensures ∙ ap (λ n. replicate n zero⁺) (c.requires.messages.to_variables ∙ sym c.args.run.now.one_graph.edges)) c.from_variables.ensures
 
 pub loop-i-preserved : goal.loop-i-preserved
 loop-i-preserved c = round_turn _ _ _ _ _ _ c.loop-i.i _ _ _ _ c.weight.ensures c.loop-i.invariant c.iterate.ensures

@@ -8,4 +8,4 @@ use Rattle.min_sum.proofs.run.outer_round.Given as goal
 
 abbrev pub invariant-loop-i : goal.invariant-loop-i
 invariant-loop-i l = belief (messages l.c_to_v l.v_to_c) l.ewa_posterior
-    ≡ outer_round_to by_place (sides l.checks l.variables) l.serial l.scale l.syndrome l.priors l.outer (belief (messages [] []) l.initial.ewa_posterior) l.i
+    ≡ outer_round_to by_place (sides l.run.checks l.run.variables) l.run.serial l.run.scale l.run.syndrome.now l.run.priors.now l.outer (belief (messages [] []) l.initial.ewa_posterior) l.i
