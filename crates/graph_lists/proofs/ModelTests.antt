@@ -1,15 +1,14 @@
 -- Tests 3 to 6 of docs/REFERENCE.md one by one: what each tells where it is passed, and each as the code has it. Assumes nothing.
-use mathlib.Core.Bool.{Bool, true, false, ◌||◌, not, or_assoc, true≢false, false≢true}
-use mathlib.Core.List.{List, [], ◌∷◌, ◌++◌}
+use mathlib.Core.Bool.{Bool, true, false, not, true≢false, false≢true}
+use mathlib.Core.List.{List}
 use mathlib.Core.Logic.{⊎_elim}
 use mathlib.Core.Path.{◌≡◌, refl, sym, ap, ◌∙◌}
 use Prim.Native.Nat.{ℕ, zero, suc, ◌+◌, ◌-◌, ◌<◌, ◌≤◌}
 use native.Mathlib.Numerals.{add-one}
 use native.Mathlib.Omega.{arith}
-use lib.Dec.{eqb}
 use lib.ListN.{length, get_or, take, drop}
-use lib.Seq.{get_or-take, length-take-le, take-suc}
-use borrow.Author.Tests.{le-leb, lt-leb, le-ltb, ltb-true, leb-true, eqb-true, lt-ltb, ne_eqb}
+use lib.Seq.{get_or-take, length-take-le}
+use borrow.Author.Tests.{le-leb, lt-leb, le-ltb, ltb-true, leb-true, eqb-true, lt-ltb}
 use Rattle.numbers.proofs.Cases.{last_or_before, less_or_not, and_both}
 use Rattle.numbers.proofs.Loops.{every_at, length_part, get_d_part}
 use Rattle.numbers.specs.Loops.{part}
@@ -27,17 +26,6 @@ use Rattle.graph_lists.proofs.Rising.{steps_rise, above_new}
 use Rattle.graph_lists.proofs.Rows.{has_at}
 
 -- ---- repeats
-
--- what is in two lists, one after the other, is in one of them
-has_append : (xs ys : List ℕ) (x : ℕ) → has (xs ++ ys) x ≡ (has xs x || has ys x)
-unfolding has
-has_append [] ys x = refl
-has_append (y ∷ xs) ys x = rw (has_append xs ys x) (sym (or_assoc (eqb y x) (has xs x) (has ys x)))
-
--- one detector more that is another
-pub repeat_turn : (ds : List ℕ) (j d e : ℕ) → j < length ds → e ≡ get_or ds j 0 → has (take j ds) d ≡ false → (e ≡ d → ⊥) → has (take (j + 1) ds) d ≡ false
-unfolding has
-repeat_turn ds j d e l q h n = rw (add-one, take-suc ds j 0 l, has_append, h, ne_eqb (get_or ds j 0) d (λ z. n (q ∙ z)))
 
 -- one that is the same
 pub repeat_found : (ds : List ℕ) (i j d e : ℕ) → j < i → i ≤ length ds → e ≡ get_or ds j 0 → e ≡ d → has (take i ds) d ≡ true
@@ -121,18 +109,6 @@ rising_yes off r a b p q h = let e : b ≡ get_or off (suc r) 0 = rw add-one at 
 pub rising_no : (off : List ℕ) (r a b : ℕ) → a ≡ get_or off r 0 → b ≡ get_or off (r + 1) 0 → b < a → rising off r ≡ false
 unfolding rising
 rising_no off r a b p q h = let e : b ≡ get_or off (suc r) 0 = rw add-one at q in lt-leb (get_or off r 0) (get_or off (suc r) 0) (omega arith)
-
--- a detector that is above the last one: the front goes on
-pub front_turn : (ds : List ℕ) (r last d : ℕ) → last ≡ get_or ds r 0 → d ≡ get_or ds (r + 1) 0 → last < d → ((i : ℕ) → i < r → get_or ds i 0 < get_or ds (suc i) 0)
-    → (i : ℕ) → i < r + 1 → get_or ds i 0 < get_or ds (suc i) 0
-front_turn ds r last d p q h up i l =
-    let w : d ≡ get_or ds (suc r) 0 = rw add-one at q in
-    ⊎_elim (λ (e : i ≡ r). rw e (omega arith)) (up i) (last_or_before i r (omega arith))
-
--- one that is not: it ends
-pub front_ends : (ds : List ℕ) (r last d : ℕ) → last ≡ get_or ds r 0 → d ≡ get_or ds (r + 1) 0 → d ≤ last → r < length ds → ((i : ℕ) → i < r → get_or ds i 0 < get_or ds (suc i) 0)
-    → RisesTo ds r
-front_ends ds r last d p q h l up = let w : d ≡ get_or ds (suc r) 0 = rw add-one at q in record { within = l; rises = up; stops = λ k. omega arith }
 
 -- a detector out of range
 pub detector_range : (checks m : ℕ) (ds : List ℕ) (i d : ℕ) → d ≡ get_or ds i 0 → checks ≤ d → Err (DetectorOutOfRange m) ≡ detector_fault checks m ds i

@@ -1,14 +1,13 @@
 -- The steps of the quick test, as the code has them. Assumes nothing.
 use mathlib.Core.Bool.{Bool, true, false, and-false}
 use mathlib.Core.List.{List}
-use mathlib.Core.Path.{◌≡◌, refl, sym, ◌∙◌}
+use mathlib.Core.Path.{◌≡◌, refl, ◌∙◌}
 use Prim.Native.Nat.{ℕ, suc, ◌+◌, ◌-◌, ◌<◌, ◌≤◌}
 use native.Mathlib.Numerals.{add-one}
 use native.Mathlib.Omega.{arith}
 use lib.Dec.{eqb, leb}
 use lib.ListN.{length, get_or, take, drop}
 use borrow.Author.Tests.{le-leb, lt-leb, le-ltb, lt-ltb}
-use Rattle.numbers.proofs.Loops.{length_part}
 use Rattle.numbers.specs.Loops.{every}
 use Rattle.graph_lists.specs.Graph.{Graph}
 use Rattle.graph_lists.specs.Model.{offsets_good, is_graph}
@@ -115,7 +114,3 @@ module _ (edges : ℕ) (g : Graph) (f : Long edges g) where
       → offsets_good g.mechanisms edges g.var_offset ≡ true → r ≡ every g.mechanisms (var_good g) → r ≡ is_graph g
   unfolding graph_test
   whole_4 r a b c d = d ∙ rw (a, b, c) at (test_is edges g f)
-
--- parts of lists of one length are of one length
-pub parts_long : (a e : ℕ) (xs ys : List ℕ) → e ≤ length xs → length ys ≡ length xs → length (take (e - a) (drop a ys)) ≡ length (take (e - a) (drop a xs))
-parts_long a e xs ys h k = length_part a e ys (omega arith) ∙ sym (length_part a e xs h)

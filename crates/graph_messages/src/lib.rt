@@ -151,6 +151,7 @@ pub fn total(entries: &[u32], c_to_v: &[f64]) -> f64
 }
 
 // All zeroed.
+// Stays: its must-fail edit, clear_to_negative_zero, names it, and zero is said once.
 pub fn clear(xs: &mut [f64])
     ensures { xs.new ≡ replicate (length xs.old) zero⁺ }
 {

@@ -1,5 +1,4 @@
-// Inner: small tests that answer a bool, and how tests that follow one another answer: what every call's tests are put together from. It
-// asks nothing of its caller.
+// Inner: small tests that answer a bool, and how tests that follow one another answer. It asks nothing of its caller.
 #![tactic(auto)]
 
 ghost use Rattle.std.specs.Prelude.{◌≡◌, ◌&&◌, suc, eqb, leb};
@@ -12,6 +11,7 @@ use refusals::Refusal;
 // ---- of numbers and bools
 
 // a and b are the same number.
+// Stays: its must-fail edits, same_or_greater and same_or_less, name it; callers write `==`.
 pub fn same_number(a: usize, b: usize) -> bool
     ensures { result ≡ eqb a b }
 {
@@ -29,13 +29,15 @@ pub fn one_more(a: usize, b: usize) -> bool
 }
 
 // a is at most b.
+// Stays: its must-fail edits, at_least and at_most_below, name it; callers write `<=`.
 pub fn at_most(a: usize, b: usize) -> bool
     ensures { result ≡ leb a b }
 {
     a <= b
 }
 
-// a and b both hold. A function of its own, so that a test of many parts has no branches to prove.
+// a and b both hold.
+// Stays: its must-fail edits, both_first and both_second, name it; callers write `&&`.
 pub fn both(a: bool, b: bool) -> bool
     ensures { result ≡ (a && b) }
 {
@@ -64,6 +66,7 @@ pub fn finite_positive(x: f64) -> bool
 // ---- of refusals
 
 // Whether nothing is refused.
+// Stays: its must-fail edits, done_is_refused and refused_is_done, name it; callers write `?` or `is_err`.
 pub fn is_done(a: Result<(), Refusal>) -> bool
     ensures { result ≡ is_done a }
 {
@@ -74,6 +77,7 @@ pub fn is_done(a: Result<(), Refusal>) -> bool
 }
 
 // One test: the refusal, unless it is passed.
+// Stays: its must-fail edits, failed_is_done and passed_is_refused, name it; callers write `if !passed { return Err(r); }`.
 pub fn unless(passed: bool, r: Refusal) -> Result<(), Refusal>
     ensures { result ≡ unless_of passed r }
 {
@@ -84,6 +88,7 @@ pub fn unless(passed: bool, r: Refusal) -> Result<(), Refusal>
 }
 
 // Two tests, one after the other: the first that refuses.
+// Stays: its must-fail edits, last_that_refuses and second_forgotten, name it; callers write `?`.
 pub fn or_else(first: Result<(), Refusal>, second: Result<(), Refusal>) -> Result<(), Refusal>
     ensures { result ≡ or_else first second }
 {

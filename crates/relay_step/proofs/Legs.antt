@@ -30,7 +30,6 @@ pub parity_turn : (bits entries : List ℕ) (i v p : ℕ) → i < length entries
 unfolding parity
 parity_turn bits entries i v p h e q = fold_turn _ _ p _ entries i v 0 h e q refl
 
-
 -- ---- `run_leg`
 
 module _ (step : State → State) (test : List Float → Bool) where

@@ -171,8 +171,7 @@ pub fn is_cleared(list: &[f64]) -> bool {
 pub fn is_answer(a: Result<(), Refusal>, number: u64, place: u64) -> bool {
     match a {
         Ok(()) => number == 0 && place == 0,
-        Err(r) => number_of(r) as u64 == number
-            && place_of(r).unwrap_or(0) as u64 == place,
+        Err(r) => number_of(r) as u64 == number && place_of(r).unwrap_or(0) as u64 == place,
     }
 }
 

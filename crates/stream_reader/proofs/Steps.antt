@@ -2,16 +2,12 @@
 use Rattle.std.proofs.Common.{◌≡◌, ℕ, ◌+◌, ◌-◌, ◌*◌, ◌/◌, ◌%◌, ◌^◌, ◌<◌, ◌≤◌, false, eqb, List, length, set, sym, arith, le-ltb, lt-ltb, ne_eqb, le-leb}
 use lib.Seq.{set_out}
 use borrow.Author.Tests.{lt-leb}
-use Rattle.numbers.proofs.Cases.{same_test}
 use Rattle.stream_reader.specs.Reading.{grown, summed, byte_kept}
 
 -- ---- the end of a record
 
 pub head_only : (t l : ℕ) → t < 6 → false ≡ eqb t (6 + l)
 head_only t l h = sym (ne_eqb t (6 + l) (λ e. omega arith))
-
-pub past_head : (t l : ℕ) → 6 ≤ t → eqb (t - 6) l ≡ eqb t (6 + l)
-past_head t l h = same_test (t - 6) l t (6 + l) (λ e. omega arith) (λ e. omega arith)
 
 -- ---- a number that grows
 
