@@ -225,6 +225,7 @@ fn serial_pass(
         state c_to_v.new v_to_c.new posterior.new
         ≡ serial_pass by_place g alpha clip syndrome.now bias.now order.now before }
 {
+    let checks = *checks;
     for c in order {
         serial_check(
             *c as usize,
@@ -232,7 +233,7 @@ fn serial_pass(
             clip,
             syndrome,
             bias,
-            checks,
+            &checks,
             variables,
             c_to_v,
             v_to_c,
