@@ -86,13 +86,15 @@ fn check_pass(
         state c_to_v.new v_to_c.now []
         ≡ check_pass by_place g alpha clip syndrome.now order.now before }
 {
+    // A copy: else each check would read again where its lists lie.
+    let checks = *checks;
     for check in order {
         update_one(
             *check as usize,
             alpha,
             clip,
             syndrome,
-            checks,
+            &checks,
             v_to_c,
             c_to_v,
         );
@@ -113,8 +115,9 @@ fn variable_pass(
         state c_to_v.now v_to_c.new posterior.new
         ≡ variable_pass (variables_alone variables.now) bias.now before variables.now.rows }
 {
+    let variables = *variables;
     for v in 0..variables.rows {
-        update_variable(v, bias, variables, c_to_v, v_to_c, posterior);
+        update_variable(v, bias, &variables, c_to_v, v_to_c, posterior);
     }
 }
 
@@ -222,6 +225,7 @@ fn serial_pass(
         state c_to_v.new v_to_c.new posterior.new
         ≡ serial_pass by_place g alpha clip syndrome.now bias.now order.now before }
 {
+    let checks = *checks;
     for c in order {
         serial_check(
             *c as usize,
@@ -229,7 +233,7 @@ fn serial_pass(
             clip,
             syndrome,
             bias,
-            checks,
+            &checks,
             variables,
             c_to_v,
             v_to_c,
