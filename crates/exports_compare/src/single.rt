@@ -64,9 +64,7 @@ pub extern "C" fn chowderkite_wrapping_mul(a: u64, b: u64) -> u64
 pub extern "C" fn chowderkite_next_state(state: u64) -> u64
     ensures { result ≡ advanced state }
 {
-    let mut generator = SplitMix64::new(state);
-    let _ = generator.draw();
-    generator.state
+    SplitMix64::new(state).draw().next.state
 }
 
 // The draw from a state.
@@ -74,7 +72,7 @@ pub extern "C" fn chowderkite_next_state(state: u64) -> u64
 pub extern "C" fn chowderkite_draw(state: u64) -> u64
     ensures { result ≡ mixed (advanced state) }
 {
-    SplitMix64::new(state).draw()
+    SplitMix64::new(state).draw().value
 }
 
 // `numbers::unit`.

@@ -69,6 +69,14 @@ pub struct SplitMix64 {
     pub state: u64,
 }
 
+// A draw, with the generator that gives the next.
+// Stays: the project asks for a method with self that answers the draw with the next state (docs/REFERENCE.md, "A form for each place").
+#[derive(Clone, Copy)]
+pub struct Drawn {
+    pub value: u64,
+    pub next: SplitMix64,
+}
+
 impl SplitMix64 {
     // The generator that a seed starts.
     pub fn new(seed: u64) -> Self
@@ -78,15 +86,17 @@ impl SplitMix64 {
     }
 
     // A draw: the state advances, and the value is the advanced state, mixed.
-    pub fn draw(&mut self) -> u64
-        ensures value { result ≡ mixed (advanced self.old.state) }
-        ensures next { self.new.state ≡ advanced self.old.state }
+    pub fn draw(self) -> Drawn
+        ensures value { result.value ≡ mixed (advanced self.state) }
+        ensures next { result.next.state ≡ advanced self.state }
     {
         let z = self.state.wrapping_add(0x9E3779B97F4A7C15);
-        self.state = z;
         let a = wrapping_mul(z ^ (z >> 30), 0xBF58476D1CE4E5B9);
         let b = wrapping_mul(a ^ (a >> 27), 0x94D049BB133111EB);
-        b ^ (b >> 31)
+        Drawn {
+            value: b ^ (b >> 31),
+            next: SplitMix64 { state: z },
+        }
     }
 }
 

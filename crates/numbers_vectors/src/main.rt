@@ -10,8 +10,10 @@ fn write_draws(rt: &impl Print, seed: u64) -> io::Result<()> {
     println!(rt; "seed {seed}")?;
     let mut generator = SplitMix64::new(seed);
     for _ in 0u64..5 {
-        let value = generator.draw();
+        let drawn = generator.draw();
+        let value = drawn.value;
         println!(rt; "{value}")?;
+        generator = drawn.next;
     }
     Ok(())
 }

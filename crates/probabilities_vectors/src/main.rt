@@ -20,12 +20,14 @@ fn write_prior(rt: &impl Print, p: f64) -> io::Result<()> {
 fn write_draws(rt: &impl Print, n: u64) -> io::Result<()> {
     let mut generator = SplitMix64::new(1);
     for _ in 0u64..n {
-        let p = numbers::unit(generator.draw());
+        let drawn = generator.draw();
+        let p = numbers::unit(drawn.value);
         write_prior(rt, p)?;
         write_prior(rt, p * 0.001)?;
         write_prior(rt, 1.0 - p * 0.000001)?;
         write_prior(rt, p * 2e-13)?;
         write_prior(rt, 1.0 - p * 2e-13)?;
+        generator = drawn.next;
     }
     Ok(())
 }

@@ -68,8 +68,9 @@ fn draw_gammas(low: f64, high: f64, start: u64, gamma: &mut [f64])
 {
     let mut generator = SplitMix64::new(start);
     for g in gamma.iter_mut() {
-        let draw = generator.draw();
-        *g = numbers::gamma(low, high, draw);
+        let d = generator.draw();
+        *g = numbers::gamma(low, high, d.value);
+        generator = d.next;
     }
 }
 

@@ -14,7 +14,7 @@ loop-g-init c = (c.new-generator.ensures, refl)
 
 pub loop-g-preserved : goal.loop-g-preserved
 loop-g-preserved c = (
-  draw_state _ _ _ c.loop-g.g-index _ c.loop-g.invariant.0 _ c.draw-draw.ensures.next,
+  draw_state _ _ _ c.loop-g.g-index _ c.loop-g.invariant.0 _ c.draw-d.ensures.next,
   let h : c.loop-g.g-index < length c.loop-g.gamma = omega arith in
-      draw_turn _ _ _ c.loop-g.g-index _ c.loop-g.invariant.0 c.loop-g.gamma _ _ h c.loop-g.invariant.1 c.draw-draw.ensures.value c.gamma.ensures,
+      draw_turn _ _ _ c.loop-g.g-index _ c.loop-g.invariant.0 c.loop-g.gamma _ _ h c.loop-g.invariant.1 c.draw-d.ensures.value c.gamma.ensures,
 )
