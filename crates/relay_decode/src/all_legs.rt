@@ -7,9 +7,11 @@ ghost use Rattle.relay_stores.specs.Stores.{most_iterations, max_stores};
 ghost use Rattle.relay_calls.specs.Decode.{decode_legs};
 ghost use Rattle.relay_calls.specs.Calls.{decode_outcome, after_legs, decode_lists};
 ghost use Rattle.relay_calls.specs.Formula.{stores_in, taken_leaves};
+ghost use Rattle.relay_leg.specs.Legs.{shot_by, LegReads};
 ghost use Rattle.relay_record.specs.Kept.{shot_of, Reads, answer_of, is_refused, results, results_of, started, LegsFit, LegsLong, PerShot};
 ghost use Rattle.graph_messages.specs.Needs.{PerEdge};
 
+use graph_messages::rows::Rows;
 use graph_messages::{clear, copy, first_not_finite};
 use refusals::Refusal;
 use relay_calls::Decoded;
@@ -26,10 +28,8 @@ fn run_legs(
     seed: u64,
     syndrome: &[u8],
     priors: &[f64],
-    check_var: &[u32],
-    check_offset: &[u32],
-    var_message: &[u32],
-    var_offset: &[u32],
+    checks: &Rows<'_>,
+    variables: &Rows<'_>,
     order: &[u32],
     leg_state: &mut [u8],
     leg_iterations: &mut [u32],
@@ -43,22 +43,21 @@ fn run_legs(
     v_to_c: &mut [f64],
     each: u64,
 ) -> Decoded
-    requires reads { Reads t gammas.now syndrome.now priors.now check_var.now check_offset.now var_message.now var_offset.now
-        order.now }
-    requires legs_long { LegsLong (suc t.num_legs) (length priors.now) leg_state.old leg_iterations.old leg_weight.old rows.old }
-    requires per_shot { PerShot (length priors.now) correction.old posterior.old gamma.old bias.old }
-    requires per_edge { PerEdge (length check_var.now) c_to_v.old v_to_c.old }
+    requires reads { LegReads t gammas.now syndrome.now priors.now checks.now variables.now order.now }
+    requires legs_long { LegsLong (suc t.num_legs) variables.now.rows leg_state.old leg_iterations.old leg_weight.old rows.old }
+    requires per_shot { PerShot variables.now.rows correction.old posterior.old gamma.old bias.old }
+    requires per_edge { PerEdge variables.now.n c_to_v.old v_to_c.old }
     requires each_bound { most_iterations t * each ≤ max_stores }
-    requires posterior_value { let x = shot_of t gammas.now seed syndrome.now priors.now check_var.now check_offset.now
-        var_message.now var_offset.now order.now in
+    requires posterior_value { let x = shot_by t gammas.now seed syndrome.now priors.now checks.now
+        variables.now order.now in
         results leg_state.old leg_iterations.old leg_weight.old rows.old correction.old posterior.old
         ≡ started x }
-    ensures answer { let x = shot_of t gammas.now seed syndrome.now priors.now check_var.now
-        check_offset.now var_message.now var_offset.now order.now in
+    ensures answer { let x = shot_by t gammas.now seed syndrome.now priors.now checks.now
+        variables.now order.now in
         let end = decode_legs by_place x in
         result ≡ answer_of each end }
-    ensures left { let x = shot_of t gammas.now seed syndrome.now priors.now check_var.now
-        check_offset.now var_message.now var_offset.now order.now in
+    ensures left { let x = shot_by t gammas.now seed syndrome.now priors.now checks.now
+        variables.now order.now in
         let end = decode_legs by_place x in
         (is_refused result ≡ false
         → results leg_state.new leg_iterations.new leg_weight.new rows.new
@@ -81,10 +80,8 @@ fn run_legs(
             seed,
             syndrome,
             priors,
-            check_var,
-            check_offset,
-            var_message,
-            var_offset,
+            checks,
+            variables,
             order,
             leg_state,
             leg_iterations,
@@ -183,10 +180,8 @@ fn run_shot(
     seed: u64,
     syndrome: &[u8],
     priors: &[f64],
-    check_var: &[u32],
-    check_offset: &[u32],
-    var_message: &[u32],
-    var_offset: &[u32],
+    checks: &Rows<'_>,
+    variables: &Rows<'_>,
     order: &[u32],
     leg_state: &mut [u8],
     leg_iterations: &mut [u32],
@@ -200,26 +195,25 @@ fn run_shot(
     v_to_c: &mut [f64],
     each: u64,
 ) -> Decoded
-    requires reads { Reads t gammas.now syndrome.now priors.now check_var.now check_offset.now var_message.now var_offset.now
-        order.now }
-    requires legs_long { LegsLong (suc t.num_legs) (length priors.now) leg_state.old leg_iterations.old leg_weight.old rows.old }
-    requires per_shot { PerShot (length priors.now) correction.old posterior.old gamma.old bias.old }
-    requires per_edge { PerEdge (length check_var.now) c_to_v.old v_to_c.old }
+    requires reads { LegReads t gammas.now syndrome.now priors.now checks.now variables.now order.now }
+    requires legs_long { LegsLong (suc t.num_legs) variables.now.rows leg_state.old leg_iterations.old leg_weight.old rows.old }
+    requires per_shot { PerShot variables.now.rows correction.old posterior.old gamma.old bias.old }
+    requires per_edge { PerEdge variables.now.n c_to_v.old v_to_c.old }
     requires each_bound { most_iterations t * each ≤ max_stores }
-    ensures answer { let x = shot_of t gammas.now seed syndrome.now priors.now check_var.now
-        check_offset.now var_message.now var_offset.now order.now in
+    ensures answer { let x = shot_by t gammas.now seed syndrome.now priors.now checks.now
+        variables.now order.now in
         let end = decode_legs by_place x in
         result ≡ answer_of each end }
-    ensures left { let x = shot_of t gammas.now seed syndrome.now priors.now check_var.now
-        check_offset.now var_message.now var_offset.now order.now in
+    ensures left { let x = shot_by t gammas.now seed syndrome.now priors.now checks.now
+        variables.now order.now in
         let end = decode_legs by_place x in
         results leg_state.new leg_iterations.new leg_weight.new rows.new
         correction.new posterior.new
         ≡ results_of x end }
-    ensures work { (gamma.new ≡ replicate (length priors.now) zero⁺)
-        × (bias.new ≡ replicate (length priors.now) zero⁺)
-        × (c_to_v.new ≡ replicate (length check_var.now) zero⁺)
-        × (v_to_c.new ≡ replicate (length check_var.now) zero⁺) }
+    ensures work { (gamma.new ≡ replicate variables.now.rows zero⁺)
+        × (bias.new ≡ replicate variables.now.rows zero⁺)
+        × (c_to_v.new ≡ replicate variables.now.n zero⁺)
+        × (v_to_c.new ≡ replicate variables.now.n zero⁺) }
 {
     clear_records(leg_state, leg_iterations, leg_weight, rows, correction);
     copy(priors, posterior);
@@ -229,10 +223,8 @@ fn run_shot(
         seed,
         syndrome,
         priors,
-        check_var,
-        check_offset,
-        var_message,
-        var_offset,
+        checks,
+        variables,
         order,
         leg_state,
         leg_iterations,
@@ -266,10 +258,8 @@ fn decode_fronts(
     seed: u64,
     syndrome: &[u8],
     priors: &[f64],
-    check_var: &[u32],
-    check_offset: &[u32],
-    var_message: &[u32],
-    var_offset: &[u32],
+    checks: &Rows<'_>,
+    variables: &Rows<'_>,
     order: &[u32],
     leg_state: &mut [u8],
     leg_iterations: &mut [u32],
@@ -283,14 +273,13 @@ fn decode_fronts(
     v_to_c: &mut [f64],
     each: u64,
 ) -> Decoded
-    requires reads { Reads t gammas.now syndrome.now priors.now check_var.now check_offset.now var_message.now var_offset.now
-        order.now }
-    requires legs_fit { LegsFit (suc t.num_legs) (length priors.now) leg_state.old leg_iterations.old leg_weight.old rows.old }
-    requires per_shot { PerShot (length priors.now) correction.old posterior.old gamma.old bias.old }
-    requires per_edge { PerEdge (length check_var.now) c_to_v.old v_to_c.old }
+    requires reads { LegReads t gammas.now syndrome.now priors.now checks.now variables.now order.now }
+    requires legs_fit { LegsFit (suc t.num_legs) variables.now.rows leg_state.old leg_iterations.old leg_weight.old rows.old }
+    requires per_shot { PerShot variables.now.rows correction.old posterior.old gamma.old bias.old }
+    requires per_edge { PerEdge variables.now.n c_to_v.old v_to_c.old }
     requires each_bound { most_iterations t * each ≤ max_stores }
-    ensures { let x = shot_of t gammas.now seed syndrome.now priors.now check_var.now
-        check_offset.now var_message.now var_offset.now order.now in
+    ensures { let x = shot_by t gammas.now seed syndrome.now priors.now checks.now
+        variables.now order.now in
         let before = decode_lists leg_state.old leg_iterations.old leg_weight.old rows.old
         correction.old posterior.old gamma.old bias.old c_to_v.old
         v_to_c.old in
@@ -298,25 +287,93 @@ fn decode_fronts(
         let after = decode_lists leg_state.new leg_iterations.new leg_weight.new rows.new
         correction.new posterior.new gamma.new bias.new c_to_v.new
         v_to_c.new in
-        decode_outcome result after ≡ after_legs (length check_var.now) x end (stores_in each end) before }
+        decode_outcome result after ≡ after_legs variables.now.n x end (stores_in each end) before }
 {
     let legs = t.num_legs + 1;
-    let cells = legs * priors.len();
+    let cells = legs * variables.rows;
     run_shot(
         t,
         gammas,
         seed,
         syndrome,
         priors,
-        check_var,
-        check_offset,
-        var_message,
-        var_offset,
+        checks,
+        variables,
         order,
         &mut leg_state[0..legs],
         &mut leg_iterations[0..legs],
         &mut leg_weight[0..legs],
         &mut rows[0..cells],
+        correction,
+        posterior,
+        gamma,
+        bias,
+        c_to_v,
+        v_to_c,
+        each,
+    )
+}
+
+// A decode past 24, by the two sides of the graph: 29, then the legs.
+pub(crate) fn decode_sides(
+    t: Settings,
+    gammas: &[f64],
+    seed: u64,
+    syndrome: &[u8],
+    priors: &[f64],
+    checks: &Rows<'_>,
+    variables: &Rows<'_>,
+    order: &[u32],
+    leg_state: &mut [u8],
+    leg_iterations: &mut [u32],
+    leg_weight: &mut [f64],
+    rows: &mut [u8],
+    correction: &mut [u8],
+    posterior: &mut [f64],
+    gamma: &mut [f64],
+    bias: &mut [f64],
+    c_to_v: &mut [f64],
+    v_to_c: &mut [f64],
+) -> Decoded
+    requires reads { LegReads t gammas.now syndrome.now priors.now checks.now variables.now order.now }
+    requires legs_fit { LegsFit (suc t.num_legs) variables.now.rows leg_state.old leg_iterations.old leg_weight.old rows.old }
+    requires per_shot { PerShot variables.now.rows correction.old posterior.old gamma.old bias.old }
+    requires per_edge { PerEdge variables.now.n c_to_v.old v_to_c.old }
+    requires check_var_len_bound { (length checks.now.entries.now ≤ max_edges) × (length variables.now.entries.now ≤ max_edges) }
+    ensures { let x = shot_by t gammas.now seed syndrome.now priors.now checks.now
+        variables.now order.now in
+        let before = decode_lists leg_state.old leg_iterations.old leg_weight.old rows.old
+        correction.old posterior.old gamma.old bias.old c_to_v.old
+        v_to_c.old in
+        let after = decode_lists leg_state.new leg_iterations.new leg_weight.new rows.new
+        correction.new posterior.new gamma.new bias.new c_to_v.new
+        v_to_c.new in
+        decode_outcome result after ≡ taken_leaves variables.now.n x before }
+{
+    let schedule = t.schedule;
+    let each = stores_each(
+        schedule,
+        variables.rows,
+        checks.entries,
+        variables.entries,
+        variables.offsets,
+    );
+    if !stores_fit(t, each) {
+        return Decoded::Refused(Refusal::TooManyStores);
+    }
+    decode_fronts(
+        t,
+        gammas,
+        seed,
+        syndrome,
+        priors,
+        checks,
+        variables,
+        order,
+        leg_state,
+        leg_iterations,
+        leg_weight,
+        rows,
         correction,
         posterior,
         gamma,
@@ -366,21 +423,26 @@ pub fn decode_taken(
         v_to_c.new in
         decode_outcome result after ≡ taken_leaves (length check_var.now) x before }
 {
-    let schedule = t.schedule;
-    let each = stores_each(schedule, priors.len(), check_var, var_message, var_offset);
-    if !stores_fit(t, each) {
-        return Decoded::Refused(Refusal::TooManyStores);
-    }
-    decode_fronts(
+    let checks = Rows {
+        rows: syndrome.len(),
+        n: priors.len(),
+        entries: check_var,
+        offsets: check_offset,
+    };
+    let variables = Rows {
+        rows: priors.len(),
+        n: check_var.len(),
+        entries: var_message,
+        offsets: var_offset,
+    };
+    decode_sides(
         t,
         gammas,
         seed,
         syndrome,
         priors,
-        check_var,
-        check_offset,
-        var_message,
-        var_offset,
+        &checks,
+        &variables,
         order,
         leg_state,
         leg_iterations,
@@ -392,6 +454,5 @@ pub fn decode_taken(
         bias,
         c_to_v,
         v_to_c,
-        each,
     )
 }

@@ -12,14 +12,16 @@ use lib.Seq.{ext_get_or}
 use Rattle.numbers.specs.Loops.{spliced}
 use Rattle.numbers.proofs.Loops.{length_spliced, spliced_out, spliced_in}
 use Rattle.graph_lists.specs.Messages.{by_place, from_variables, cleared}
-use Rattle.graph_messages.specs.Needs.{walked, of_checks}
+use Rattle.graph_messages.specs.Sides.{sides, checks_alone}
+use Rattle.graph_messages.specs.declared.rows.Rows.{Rows}
 use Rattle.relay_settings.specs.declared.Settings.{Settings}
 use Rattle.relay_settings.specs.declared.GammaSource.TheVariants.{Explicit}
 use Rattle.relay_step.specs.Step.{State, state, iteration}
 use Rattle.relay_gammas.specs.Gammas.{gamma_of}
 use Rattle.relay_step.specs.Leg.{Leg, leg, start_leg, hard_decision, matches, satisfied, run_leg, correction_weight}
 use Rattle.relay_calls.specs.Decode.{Shot, iteration_limit, step_of, executed_leg}
-use Rattle.relay_record.specs.Kept.{shot_of, Reads, Kept, kept, best_after, corrected, kept_with, row_after, kept_after, Blank}
+use Rattle.relay_record.specs.Kept.{Kept, kept, best_after, corrected, kept_with, row_after, kept_after, Blank}
+use Rattle.relay_leg.specs.Legs.{shot_by, LegReads}
 use Rattle.relay_step.proofs.Parts.{Stands, out, within, stands}
 use Rattle.relay_calls.proofs.BestSoFar.{row_room, limit_some}
 use Rattle.relay_calls.proofs.LegStores.{leg_few}
@@ -38,7 +40,7 @@ unfolding iteration_limit
 limit_relayed t zero h = absurd (h refl)
 limit_relayed t (suc r) h = refl
 
-module _ (t : Settings) (flat : List Float) (syndrome : List ℕ) (prior : List Float) (cv co vm vo order : List ℕ) (reads : Reads t flat syndrome prior cv co vm vo order) where
+module _ (t : Settings) (flat : List Float) (syndrome : List ℕ) (prior : List Float) (checks variables : Rows) (order : List ℕ) (reads : LegReads t flat syndrome prior checks variables order) where
   -- a leg has some iteration
   pub some_limit : (r : ℕ) → r ≤ t.num_legs → 0 < iteration_limit t r
   some_limit = limit_some t reads.pre_some reads.leg_some
@@ -50,43 +52,42 @@ module _ (t : Settings) (flat : List Float) (syndrome : List ℕ) (prior : List 
   limit_few (suc r) = reads.leg_few
 
   -- the sets of an explicit source, by the length of a list of gammas
-  pub sets_along : (gamma : List Float) (r : ℕ) → length gamma ≡ length prior → r ≤ t.num_legs → 0 < r → (sets : ℕ) → t.gamma_source ≡ Explicit sets
+  pub sets_along : (gamma : List Float) (r : ℕ) → length gamma ≡ variables.rows → r ≤ t.num_legs → 0 < r → (sets : ℕ) → t.gamma_source ≡ Explicit sets
       → (0 < sets) × (length flat ≡ sets * length gamma)
   sets_along gamma r e h k sets s = let w = reads.sets_many (omega arith) sets s in (w.0, rw e w.1)
 
   -- a leg's row lies within the flat list of rows
-  pub row_within : (rows : List ℕ) (r : ℕ) → length rows ≡ suc t.num_legs * length prior → r ≤ t.num_legs → r * length prior + length prior ≤ length rows
-  row_within rows r e h = omega (arith, e, row_room (length prior) (suc t.num_legs) r (omega arith))
+  pub row_within : (rows : List ℕ) (r : ℕ) → length rows ≡ suc t.num_legs * variables.rows → r ≤ t.num_legs → r * variables.rows + variables.rows ≤ length rows
+  row_within rows r e h = omega (arith, e, row_room variables.rows (suc t.num_legs) r (omega arith))
 
 -- ---- the leg as executed
 
-module _ (t : Settings) (flat : List Float) (seed : ℕ) (syndrome : List ℕ) (prior : List Float) (cv co vm vo order : List ℕ) where
+module _ (t : Settings) (flat : List Float) (seed : ℕ) (syndrome : List ℕ) (prior : List Float) (checks variables : Rows) (order : List ℕ) where
   -- it is the definition's leg, and takes no more iterations than its limit
-  pub executed_is : (r limit : ℕ) (gamma c v p : List Float) (l : Leg) → gamma ≡ gamma_of t flat (length prior) seed r
-      → state c v [] ≡ start_leg (walked 0 0 cv [] [] []) prior [] → limit ≡ iteration_limit t r
-      → l ≡ run_leg (iteration t.schedule by_place (walked (length syndrome) (length prior) cv co vm vo) t.alpha t.clip syndrome prior gamma order) (satisfied (of_checks
-      (length syndrome) cv co) syndrome) limit false 0 (state c v p)
-      → (l ≡ executed_leg by_place (shot_of t flat seed syndrome prior cv co vm vo order) r p) × (l.iterations ≤ iteration_limit t r)
+  pub executed_is : (r limit : ℕ) (gamma c v p : List Float) (l : Leg) → gamma ≡ gamma_of t flat variables.rows seed r
+      → state c v [] ≡ start_leg (checks_alone checks) prior [] → limit ≡ iteration_limit t r
+      → l ≡ run_leg (iteration t.schedule by_place (sides checks variables) t.alpha t.clip syndrome prior gamma order) (satisfied (checks_alone checks) syndrome) limit false 0 (state c v p)
+      → (l ≡ executed_leg by_place (shot_by t flat seed syndrome prior checks variables order) r p) × (l.iterations ≤ iteration_limit t r)
   unfolding executed_leg step_of start_leg cleared from_variables satisfied matches
   executed_is r limit gamma c v p l g s e q =
-      let u : state c v p ≡ start_leg (walked (length syndrome) (length prior) cv co vm vo) prior p = ap (λ (z : State). state z.c_to_v z.v_to_c p) s in
-      let few = leg_few (iteration t.schedule by_place (walked (length syndrome) (length prior) cv co vm vo) t.alpha t.clip syndrome prior gamma order) (satisfied
-      (of_checks (length syndrome) cv co) syndrome) limit false 0 (state c v p) in
+      let u : state c v p ≡ start_leg (sides checks variables) prior p = ap (λ (z : State). state z.c_to_v z.v_to_c p) s in
+      let few = leg_few (iteration t.schedule by_place (sides checks variables) t.alpha t.clip syndrome prior gamma order) (satisfied
+      (checks_alone checks) syndrome) limit false 0 (state c v p) in
       (q ∙ rw (g, e, u), omega (arith, ap (λ (y : Leg). y.iterations) q, few, e))
 
 -- ---- what a leg adds
 
 module _ (x : Shot) (r : ℕ) (best best' : Option Float) (num num' total total' : ℕ) (ss ss' is is' : List ℕ) (ws ws' : List Float) (row row' cor cor' : List ℕ) (p' : List Float) (l : Leg) where
   -- all that it adds: `row` is its hard decision, and `row'` what it leaves of it
-  pub row_turn : (c v : List Float) (b : Bool) (k : ℕ) → leg b k (state c v p') ≡ l → row ≡ hard_decision p' → length row ≡ x.graph.mechanisms
-      → best' ≡ best_after b best (correction_weight x.prior row x.graph.mechanisms)
+  pub row_turn : (c v : List Float) (b : Bool) (k m : ℕ) → m ≡ x.graph.mechanisms → leg b k (state c v p') ≡ l → row ≡ hard_decision p' → length row ≡ x.graph.mechanisms
+      → best' ≡ best_after b best (correction_weight x.prior row m)
       → (num' ≡ num + cond b 1 0) × (total' ≡ total + k)
-      → Entered b (correction_weight x.prior row x.graph.mechanisms) k r ss is ws ss' is' ws'
+      → Entered b (correction_weight x.prior row m) k r ss is ws ss' is' ws'
       → row' ≡ cond b row (replicate (length row) 0)
-      → cor' ≡ corrected b best (correction_weight x.prior row x.graph.mechanisms) row cor
+      → cor' ≡ corrected b best (correction_weight x.prior row m) row cor
       → kept best' num' total' (suc r) ss' is' ws' row' cor' p' ≡ kept_with x (kept best num total r ss is ws [] cor []) r l (row_after x l)
   unfolding kept_with row_after
-  row_turn c v b k e h m q n s w o = rw (q, n.0, n.1, s.0, s.1, s.2, w, m, o, ← e, h)
+  row_turn c v b k m z e h many q n s w o = rw (q, n.0, n.1, s.0, s.1, s.2, w, many, o, z, ← e, h)
 
 -- ---- the row in the flat list
 

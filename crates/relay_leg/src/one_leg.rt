@@ -2,13 +2,14 @@
 ghost use Rattle.std.specs.Prelude.{◌≡◌, [], ◌+◌, ◌*◌, ◌<◌, ◌≤◌, suc, length};
 ghost use Rattle.graph_lists.specs.Messages.{by_place};
 ghost use Rattle.numbers.specs.Limits.{max_count};
-ghost use Rattle.graph_lists.specs.Sound.{Keys};
-ghost use Rattle.graph_messages.specs.Needs.{walked, PerEdge};
+ghost use Rattle.graph_messages.specs.Needs.{PerEdge};
+ghost use Rattle.graph_messages.specs.Sides.{checks_alone};
 ghost use Rattle.relay_step.specs.Step.{state};
 ghost use Rattle.relay_step.specs.Leg.{leg as leg_of, hard_decision, start_leg};
 ghost use Rattle.relay_calls.specs.Decode.{iteration_limit, executed_leg};
-ghost use Rattle.relay_record.specs.Kept.{shot_of, Reads, best_of, kept, kept_with, row_after, kept_after, Blank, LegsLong, PerShot};
+ghost use Rattle.relay_record.specs.Kept.{best_of, kept, kept_with, row_after, kept_after, Blank, LegsLong, PerShot};
 ghost use Rattle.relay_step.specs.Places.{LegLists};
+ghost use Rattle.relay_leg.specs.Legs.{shot_by, LegReads};
 
 use graph_messages::rows::Rows;
 use graph_messages::{clear, from_variables};
@@ -28,14 +29,13 @@ fn iteration_limit(t: Settings, leg: usize) -> usize
 }
 
 // `start_leg`: check messages cleared, variable messages at the priors.
-fn start_leg(check_var: &[u32], priors: &[f64], c_to_v: &mut [f64], v_to_c: &mut [f64])
-    requires keys { Keys (length priors.now) check_var.now }
-    requires per_edge { PerEdge (length check_var.now) c_to_v.old v_to_c.old }
-    ensures { let g = walked 0 0 check_var.now [] [] [] in
-        state c_to_v.new v_to_c.new [] ≡ start_leg g priors.now [] }
+fn start_leg(checks: &Rows<'_>, priors: &[f64], c_to_v: &mut [f64], v_to_c: &mut [f64])
+    requires priors_len { length priors.now ≡ checks.now.n }
+    requires per_edge { PerEdge (length checks.now.entries.now) c_to_v.old v_to_c.old }
+    ensures { state c_to_v.new v_to_c.new [] ≡ start_leg (checks_alone checks.now) priors.now [] }
 {
     clear(c_to_v);
-    from_variables(check_var, priors, v_to_c);
+    from_variables(checks.entries, priors, v_to_c);
 }
 
 // One executed leg, from the posterior that the legs before it left.
@@ -46,10 +46,8 @@ fn execute_leg(
     seed: u64,
     syndrome: &[u8],
     priors: &[f64],
-    check_var: &[u32],
-    check_offset: &[u32],
-    var_message: &[u32],
-    var_offset: &[u32],
+    checks: &Rows<'_>,
+    variables: &Rows<'_>,
     order: &[u32],
     gamma: &mut [f64],
     bias: &mut [f64],
@@ -58,13 +56,12 @@ fn execute_leg(
     posterior: &mut [f64],
     bits: &mut [u8],
 ) -> Leg
-    requires reads { Reads t gammas.now syndrome.now priors.now check_var.now check_offset.now var_message.now var_offset.now
-        order.now }
+    requires reads { LegReads t gammas.now syndrome.now priors.now checks.now variables.now order.now }
     requires leg_bound { leg ≤ t.num_legs }
-    requires leg_lists { LegLists (length priors.now) gamma.old bias.old posterior.old bits.old }
-    requires per_edge { PerEdge (length check_var.now) c_to_v.old v_to_c.old }
-    ensures ran { let x = shot_of t gammas.now seed syndrome.now priors.now check_var.now
-        check_offset.now var_message.now var_offset.now order.now in
+    requires leg_lists { LegLists variables.now.rows gamma.old bias.old posterior.old bits.old }
+    requires per_edge { PerEdge variables.now.n c_to_v.old v_to_c.old }
+    ensures ran { let x = shot_by t gammas.now seed syndrome.now priors.now checks.now
+        variables.now order.now in
         let after = state c_to_v.new v_to_c.new posterior.new in
         leg_of result.converged result.iterations after ≡ executed_leg by_place x leg posterior.old }
     ensures bits { bits.new ≡ hard_decision posterior.new }
@@ -75,21 +72,9 @@ fn execute_leg(
     let clip = t.clip;
     let limit = iteration_limit(t, leg);
     prepare_gamma(t, gammas, seed, leg, gamma);
-    start_leg(check_var, priors, c_to_v, v_to_c);
-    let checks = Rows {
-        rows: syndrome.len(),
-        n: priors.len(),
-        entries: check_var,
-        offsets: check_offset,
-    };
-    let variables = Rows {
-        rows: priors.len(),
-        n: check_var.len(),
-        entries: var_message,
-        offsets: var_offset,
-    };
+    start_leg(checks, priors, c_to_v, v_to_c);
     run_leg(
-        limit, schedule, alpha, clip, syndrome, priors, gamma, &checks, &variables, order, bias,
+        limit, schedule, alpha, clip, syndrome, priors, gamma, checks, variables, order, bias,
         c_to_v, v_to_c, posterior, bits,
     )
 }
@@ -103,10 +88,8 @@ fn leg_in_row(
     seed: u64,
     syndrome: &[u8],
     priors: &[f64],
-    check_var: &[u32],
-    check_offset: &[u32],
-    var_message: &[u32],
-    var_offset: &[u32],
+    checks: &Rows<'_>,
+    variables: &Rows<'_>,
     order: &[u32],
     leg_state: &mut [u8],
     leg_iterations: &mut [u32],
@@ -119,15 +102,14 @@ fn leg_in_row(
     c_to_v: &mut [f64],
     v_to_c: &mut [f64],
 ) -> Tally
-    requires reads { Reads t gammas.now syndrome.now priors.now check_var.now check_offset.now var_message.now var_offset.now
-        order.now }
+    requires reads { LegReads t gammas.now syndrome.now priors.now checks.now variables.now order.now }
     requires leg_bound { (leg ≤ t.num_legs) × (tally.num_converged ≤ suc max_count) × (tally.total_iterations ≤ suc max_count * max_count) }
     requires leg_in_bounds { (leg < length leg_state.old) × (leg < length leg_iterations.old) × (leg < length leg_weight.old) }
-    requires row_len { length row.old ≡ length priors.now }
-    requires per_shot { PerShot (length priors.now) correction.old posterior.old gamma.old bias.old }
-    requires per_edge { PerEdge (length check_var.now) c_to_v.old v_to_c.old }
-    ensures turn { let x = shot_of t gammas.now seed syndrome.now priors.now check_var.now
-        check_offset.now var_message.now var_offset.now order.now in
+    requires row_len { length row.old ≡ variables.now.rows }
+    requires per_shot { PerShot variables.now.rows correction.old posterior.old gamma.old bias.old }
+    requires per_edge { PerEdge variables.now.n c_to_v.old v_to_c.old }
+    ensures turn { let x = shot_by t gammas.now seed syndrome.now priors.now checks.now
+        variables.now order.now in
         let before = kept (best_of tally.best) tally.num_converged tally.total_iterations leg
         leg_state.old leg_iterations.old leg_weight.old [] correction.old [] in
         let leg' = executed_leg by_place x leg posterior.old in
@@ -137,23 +119,8 @@ fn leg_in_row(
     ensures few { (result.num_converged ≤ tally.num_converged + 1) × (result.total_iterations ≤ tally.total_iterations + max_count) }
 {
     let l = execute_leg(
-        leg,
-        t,
-        gammas,
-        seed,
-        syndrome,
-        priors,
-        check_var,
-        check_offset,
-        var_message,
-        var_offset,
-        order,
-        gamma,
-        bias,
-        c_to_v,
-        v_to_c,
-        posterior,
-        row,
+        leg, t, gammas, seed, syndrome, priors, checks, variables, order, gamma, bias, c_to_v,
+        v_to_c, posterior, row,
     );
     record_leg(
         leg,
@@ -177,10 +144,8 @@ pub fn next_leg(
     seed: u64,
     syndrome: &[u8],
     priors: &[f64],
-    check_var: &[u32],
-    check_offset: &[u32],
-    var_message: &[u32],
-    var_offset: &[u32],
+    checks: &Rows<'_>,
+    variables: &Rows<'_>,
     order: &[u32],
     leg_state: &mut [u8],
     leg_iterations: &mut [u32],
@@ -193,15 +158,14 @@ pub fn next_leg(
     c_to_v: &mut [f64],
     v_to_c: &mut [f64],
 ) -> Tally
-    requires reads { Reads t gammas.now syndrome.now priors.now check_var.now check_offset.now var_message.now var_offset.now
-        order.now }
+    requires reads { LegReads t gammas.now syndrome.now priors.now checks.now variables.now order.now }
     requires leg_bound { (leg ≤ t.num_legs) × (tally.num_converged ≤ suc max_count) × (tally.total_iterations ≤ suc max_count * max_count) }
-    requires legs_long { LegsLong (suc t.num_legs) (length priors.now) leg_state.old leg_iterations.old leg_weight.old rows.old }
-    requires blank_2 { Blank (leg * length priors.now) rows.old }
-    requires per_shot { PerShot (length priors.now) correction.old posterior.old gamma.old bias.old }
-    requires per_edge { PerEdge (length check_var.now) c_to_v.old v_to_c.old }
-    ensures turn { let x = shot_of t gammas.now seed syndrome.now priors.now check_var.now
-        check_offset.now var_message.now var_offset.now order.now in
+    requires legs_long { LegsLong (suc t.num_legs) variables.now.rows leg_state.old leg_iterations.old leg_weight.old rows.old }
+    requires blank_2 { Blank (leg * variables.now.rows) rows.old }
+    requires per_shot { PerShot variables.now.rows correction.old posterior.old gamma.old bias.old }
+    requires per_edge { PerEdge variables.now.n c_to_v.old v_to_c.old }
+    ensures turn { let x = shot_by t gammas.now seed syndrome.now priors.now checks.now
+        variables.now order.now in
         let before = kept (best_of tally.best) tally.num_converged tally.total_iterations leg
         leg_state.old leg_iterations.old leg_weight.old rows.old
         correction.old posterior.old in
@@ -209,11 +173,11 @@ pub fn next_leg(
         kept (best_of result.best) result.num_converged result.total_iterations (suc leg) leg_state.new
         leg_iterations.new leg_weight.new rows.new correction.new posterior.new
         ≡ kept_after x before leg leg' }
-    ensures blank { Blank (leg * length priors.now + length priors.now) rows.new }
+    ensures blank { Blank (leg * variables.now.rows + variables.now.rows) rows.new }
     ensures few { (result.num_converged ≤ tally.num_converged + 1) × (result.total_iterations ≤ tally.total_iterations + max_count) }
 {
-    let start = leg * priors.len();
-    let end = start + priors.len();
+    let start = leg * variables.rows;
+    let end = start + variables.rows;
     leg_in_row(
         leg,
         tally,
@@ -222,10 +186,8 @@ pub fn next_leg(
         seed,
         syndrome,
         priors,
-        check_var,
-        check_offset,
-        var_message,
-        var_offset,
+        checks,
+        variables,
         order,
         leg_state,
         leg_iterations,

@@ -2,17 +2,16 @@
 -- Assumes nothing.
 use Prim.Native.Nat.{◌+◌, ◌*◌}
 use native.Mathlib.Numerals.{add-one}
-use lib.ListN.{length}
 use Rattle.graph_lists.specs.Messages.{by_place}
 use Rattle.relay_calls.specs.Decode.{decode_legs}
-use Rattle.relay_record.specs.Kept.{shot_of}
+use Rattle.relay_leg.specs.Legs.{shot_by}
 use Rattle.relay_decode.proofs.Shots.{shot_is, front_tail}
 use Rattle.relay_decode.proofs.all_legs.decode_fronts.Goals as goal
 
 pub returns : goal.returns
 returns c =
-    shot_is (shot_of c.args.t c.args.gammas.now c.args.seed c.args.syndrome.now
-    c.args.priors.now c.args.check_var.now c.args.check_offset.now c.args.var_message.now c.args.var_offset.now c.args.order.now) (length c.args.check_var.now)
+    shot_is (shot_by c.args.t c.args.gammas.now c.args.seed c.args.syndrome.now
+    c.args.priors.now c.args.checks.now c.args.variables.now c.args.order.now) c.args.variables.now.n
     (record {
       leg_state = c.args.leg_state.now;
       leg_iterations = c.args.leg_iterations.now;
@@ -27,9 +26,8 @@ returns c =
     })
     c.run_shot.new.leg_state c.run_shot.new.leg_iterations
     c.run_shot.new.leg_weight c.run_shot.new.rows _ _ _ _ _ _ _ _ _ _
-    c.args.each (decode_legs by_place (shot_of c.args.t c.args.gammas.now c.args.seed c.args.syndrome.now
-    c.args.priors.now c.args.check_var.now c.args.check_offset.now c.args.var_message.now
-    c.args.var_offset.now c.args.order.now)) _ c.run_shot.ensures.answer c.run_shot.ensures.left (
+    c.args.each (decode_legs by_place (shot_by c.args.t c.args.gammas.now c.args.seed c.args.syndrome.now
+    c.args.priors.now c.args.checks.now c.args.variables.now c.args.order.now)) _ c.run_shot.ensures.answer c.run_shot.ensures.left (
       front_tail (c.args.t.num_legs + 1) c.args.leg_state.now c.run_shot.new.leg_state
           c.run_shot.auto.leg_state (rw add-one c.requires.legs_fit.of_states),
       front_tail
@@ -39,6 +37,6 @@ returns c =
           (c.args.t.num_legs + 1) c.args.leg_weight.now c.run_shot.new.leg_weight
           c.run_shot.auto.leg_weight (rw add-one c.requires.legs_fit.of_weights),
       front_tail
-          ((c.args.t.num_legs + 1) * length c.args.priors.now) c.args.rows.now c.run_shot.new.rows
+          ((c.args.t.num_legs + 1) * c.args.variables.now.rows) c.args.rows.now c.run_shot.new.rows
           c.run_shot.auto.rows (rw add-one c.requires.legs_fit.of_rows),
     ) c.run_shot.ensures.work

@@ -5,18 +5,17 @@ use mathlib.Core.Path.{ap, ◌∙◌}
 use mathlib.Core.Option.{none}
 use Prim.Native.Nat.{suc, ◌+◌, ◌*◌}
 use native.Mathlib.Omega.{arith}
-use lib.ListN.{length}
-use Rattle.relay_record.specs.Kept.{shot_of, best_of, kept, Results}
+use Rattle.relay_leg.specs.Legs.{shot_by}
+use Rattle.relay_record.specs.Kept.{best_of, kept, Results}
 use Rattle.relay_decode.proofs.Runs.{reached_start, run_on, run_fits, run_ended, run_over, blank_start, blank_along}
 use Rattle.relay_decode.proofs.all_legs.run_legs.Goals as goal
 
 pub loop-leg-init : goal.loop-leg-init
 loop-leg-init c = (
   reached_start
-      (shot_of c.args.t c.args.gammas.now c.args.seed c.args.syndrome.now
-      c.args.priors.now c.args.check_var.now c.args.check_offset.now
-      c.args.var_message.now c.args.var_offset.now c.args.order.now) none 0 0 _ _ _ _ _ _ c.requires.posterior_value,
-  blank_start (suc c.args.t.num_legs * length c.args.priors.now) _ _
+      (shot_by c.args.t c.args.gammas.now c.args.seed c.args.syndrome.now
+      c.args.priors.now c.args.checks.now c.args.variables.now c.args.order.now) none 0 0 _ _ _ _ _ _ c.requires.posterior_value,
+  blank_start (suc c.args.t.num_legs * c.args.variables.now.rows) _ _
       (ap (λ (z : Results). z.rows) c.requires.posterior_value),
   omega arith,
   omega arith,
@@ -24,14 +23,14 @@ loop-leg-init c = (
 
 pub answer-requires : goal.answer-requires
 answer-requires c =
-    run_fits (shot_of c.args.t c.args.gammas.now c.args.seed c.args.syndrome.now c.args.priors.now c.args.check_var.now c.args.check_offset.now c.args.var_message.now c.args.var_offset.now c.args.order.now) _ _ _ _ _ _ _ _ _ c.loop-leg.leg (kept (best_of c.loop-leg.tally.best) c.loop-leg.tally.num_converged c.loop-leg.tally.total_iterations c.loop-leg.leg c.loop-leg.leg_state c.loop-leg.leg_iterations c.loop-leg.leg_weight c.loop-leg.rows c.loop-leg.correction c.loop-leg.posterior) c.loop-leg.invariant.0 (omega (
+    run_fits (shot_by c.args.t c.args.gammas.now c.args.seed c.args.syndrome.now c.args.priors.now c.args.checks.now c.args.variables.now c.args.order.now) _ _ _ _ _ _ _ _ _ c.loop-leg.leg (kept (best_of c.loop-leg.tally.best) c.loop-leg.tally.num_converged c.loop-leg.tally.total_iterations c.loop-leg.leg c.loop-leg.leg_state c.loop-leg.leg_iterations c.loop-leg.leg_weight c.loop-leg.rows c.loop-leg.correction c.loop-leg.posterior) c.loop-leg.invariant.0 (omega (
       arith,
       c.loop-leg-test.true,
     )) c.next_leg-tally.ensures.turn c.args.each c.requires.each_bound
 
 pub returns-then-ends-clause-answer : goal.returns-then-ends-clause-answer
-returns-then-ends-clause-answer c = (run_ended (shot_of c.args.t c.args.gammas.now c.args.seed c.args.syndrome.now
-    c.args.priors.now c.args.check_var.now c.args.check_offset.now c.args.var_message.now c.args.var_offset.now c.args.order.now) _ _ _ _ _ _ _ _ _ c.args.each c.loop-leg.leg
+returns-then-ends-clause-answer c = (run_ended (shot_by c.args.t c.args.gammas.now c.args.seed c.args.syndrome.now
+    c.args.priors.now c.args.checks.now c.args.variables.now c.args.order.now) _ _ _ _ _ _ _ _ _ c.args.each c.loop-leg.leg
     (kept
     (best_of c.loop-leg.tally.best) c.loop-leg.tally.num_converged
     c.loop-leg.tally.total_iterations c.loop-leg.leg c.loop-leg.leg_state c.loop-leg.leg_iterations c.loop-leg.leg_weight c.loop-leg.rows c.loop-leg.correction c.loop-leg.posterior) c.loop-leg.invariant.0 (omega (
@@ -41,8 +40,8 @@ returns-then-ends-clause-answer c = (run_ended (shot_of c.args.t c.args.gammas.n
     c.first_not_finite-a.ensures c.ends.ensures c.if-ends.true c.answer.ensures).0
 
 pub returns-then-ends-clause-left : goal.returns-then-ends-clause-left
-returns-then-ends-clause-left c = (run_ended (shot_of c.args.t c.args.gammas.now c.args.seed c.args.syndrome.now
-    c.args.priors.now c.args.check_var.now c.args.check_offset.now c.args.var_message.now c.args.var_offset.now c.args.order.now) _ _ _ _ _ _ _ _ _ c.args.each c.loop-leg.leg
+returns-then-ends-clause-left c = (run_ended (shot_by c.args.t c.args.gammas.now c.args.seed c.args.syndrome.now
+    c.args.priors.now c.args.checks.now c.args.variables.now c.args.order.now) _ _ _ _ _ _ _ _ _ c.args.each c.loop-leg.leg
     (kept
     (best_of c.loop-leg.tally.best) c.loop-leg.tally.num_converged
     c.loop-leg.tally.total_iterations c.loop-leg.leg c.loop-leg.leg_state c.loop-leg.leg_iterations c.loop-leg.leg_weight c.loop-leg.rows c.loop-leg.correction c.loop-leg.posterior) c.loop-leg.invariant.0 (omega (
@@ -53,8 +52,8 @@ returns-then-ends-clause-left c = (run_ended (shot_of c.args.t c.args.gammas.now
 
 pub loop-leg-preserved : goal.loop-leg-preserved
 loop-leg-preserved c = (
-  run_on (shot_of c.args.t c.args.gammas.now c.args.seed c.args.syndrome.now
-      c.args.priors.now c.args.check_var.now c.args.check_offset.now c.args.var_message.now c.args.var_offset.now c.args.order.now) _ _ _ _ _ _ _ _ _ c.loop-leg.leg
+  run_on (shot_by c.args.t c.args.gammas.now c.args.seed c.args.syndrome.now
+      c.args.priors.now c.args.checks.now c.args.variables.now c.args.order.now) _ _ _ _ _ _ _ _ _ c.loop-leg.leg
       (kept (best_of c.loop-leg.tally.best)
       c.loop-leg.tally.num_converged c.loop-leg.tally.total_iterations
       c.loop-leg.leg c.loop-leg.leg_state c.loop-leg.leg_iterations c.loop-leg.leg_weight
@@ -67,13 +66,11 @@ loop-leg-preserved c = (
 )
 
 pub returns-clause-answer : goal.returns-clause-answer
-returns-clause-answer c = (run_over (shot_of c.args.t c.args.gammas.now c.args.seed c.args.syndrome.now
-    c.args.priors.now c.args.check_var.now c.args.check_offset.now c.args.var_message.now
-    c.args.var_offset.now c.args.order.now) _ _ _ _ _ _ _ _ _ c.args.each c.loop-leg.leg (c.args.t.num_legs + 1) _ c.loop-leg.invariant.0 (omega (arith, c.loop-leg-test.false))
+returns-clause-answer c = (run_over (shot_by c.args.t c.args.gammas.now c.args.seed c.args.syndrome.now
+    c.args.priors.now c.args.checks.now c.args.variables.now c.args.order.now) _ _ _ _ _ _ _ _ _ c.args.each c.loop-leg.leg (c.args.t.num_legs + 1) _ c.loop-leg.invariant.0 (omega (arith, c.loop-leg-test.false))
     (omega (arith, c.loop-leg-test.false)) c.answer_run.ensures).0
 
 pub returns-clause-left : goal.returns-clause-left
-returns-clause-left c = (run_over (shot_of c.args.t c.args.gammas.now c.args.seed c.args.syndrome.now
-    c.args.priors.now c.args.check_var.now c.args.check_offset.now c.args.var_message.now
-    c.args.var_offset.now c.args.order.now) _ _ _ _ _ _ _ _ _ c.args.each c.loop-leg.leg (c.args.t.num_legs + 1) _ c.loop-leg.invariant.0 (omega (arith, c.loop-leg-test.false))
+returns-clause-left c = (run_over (shot_by c.args.t c.args.gammas.now c.args.seed c.args.syndrome.now
+    c.args.priors.now c.args.checks.now c.args.variables.now c.args.order.now) _ _ _ _ _ _ _ _ _ c.args.each c.loop-leg.leg (c.args.t.num_legs + 1) _ c.loop-leg.invariant.0 (omega (arith, c.loop-leg-test.false))
     (omega (arith, c.loop-leg-test.false)) c.answer_run.ensures).1

@@ -1,19 +1,17 @@
--- `relay_decode::all_legs::decode_taken` meets its contract. Where the formula fits, the legs are run with it; else nothing is written.
+-- `relay_decode::all_legs::decode_sides` meets its contract. Where the formula fits, the legs are run with it; else nothing is written.
 -- Assumes nothing.
 use mathlib.Core.Path.{◌∙◌}
 use mathlib.Core.List.{[]}
-use lib.ListN.{length}
 use Rattle.relay_stores.proofs.Squares.{each_same}
-use Rattle.relay_record.specs.Kept.{shot_of}
+use Rattle.relay_leg.specs.Legs.{shot_by}
 use Rattle.relay_decode.proofs.Shots.{taken_refused, taken_ran}
 use mathlib.Core.Path.{ap}
 use mathlib.Core.Bool.{not}
-use Rattle.relay_decode.proofs.all_legs.decode_taken.Goals as goal
+use Rattle.relay_decode.proofs.all_legs.decode_sides.Goals as goal
 
 pub returns-then-not-stores_fit : goal.returns-then-not-stores_fit
 returns-then-not-stores_fit c =
-    taken_refused (shot_of c.args.t c.args.gammas.now c.args.seed c.args.syndrome.now c.args.priors.now c.args.check_var.now c.args.check_offset.now c.args.var_message.now
-    c.args.var_offset.now c.args.order.now) (length c.args.check_var.now)
+    taken_refused (shot_by c.args.t c.args.gammas.now c.args.seed c.args.syndrome.now c.args.priors.now c.args.checks.now c.args.variables.now c.args.order.now) c.args.variables.now.n
     (record {
       leg_state = c.args.leg_state.now;
       leg_iterations = c.args.leg_iterations.now;
@@ -26,13 +24,13 @@ returns-then-not-stores_fit c =
       c_to_v = c.args.c_to_v.now;
       v_to_c = c.args.v_to_c.now;
     }) _ _
-    (c.stores_each-each.ensures ∙ each_same c.args.t.schedule (length c.args.priors.now) c.args.check_var.now c.args.var_message.now c.args.var_offset.now 0 (length c.args.syndrome.now) [] c.args.check_offset.now [] [])
+    (c.stores_each-each.ensures ∙ each_same c.args.t.schedule c.args.variables.now.rows c.args.checks.now.entries.now c.args.variables.now.entries.now c.args.variables.now.offsets.now 0 c.args.checks.now.rows [] c.args.checks.now.offsets.now [] [])
     c.stores_fit.ensures
     (ap not c.if-not-stores_fit.true)
 
 pub returns : goal.returns
 returns c =
-    taken_ran (shot_of c.args.t c.args.gammas.now c.args.seed c.args.syndrome.now c.args.priors.now c.args.check_var.now c.args.check_offset.now c.args.var_message.now c.args.var_offset.now c.args.order.now) (length c.args.check_var.now)
+    taken_ran (shot_by c.args.t c.args.gammas.now c.args.seed c.args.syndrome.now c.args.priors.now c.args.checks.now c.args.variables.now c.args.order.now) c.args.variables.now.n
     (record {
       leg_state = c.args.leg_state.now;
       leg_iterations = c.args.leg_iterations.now;
@@ -45,7 +43,7 @@ returns c =
       c_to_v = c.args.c_to_v.now;
       v_to_c = c.args.v_to_c.now;
     }) _ _
-    (c.stores_each-each.ensures ∙ each_same c.args.t.schedule (length c.args.priors.now) c.args.check_var.now c.args.var_message.now c.args.var_offset.now 0 (length c.args.syndrome.now) [] c.args.check_offset.now
+    (c.stores_each-each.ensures ∙ each_same c.args.t.schedule c.args.variables.now.rows c.args.checks.now.entries.now c.args.variables.now.entries.now c.args.variables.now.offsets.now 0 c.args.checks.now.rows [] c.args.checks.now.offsets.now
     [] [])
     c.stores_fit.ensures
     _ (ap not c.if-not-stores_fit.false) c.decode_fronts.ensures
