@@ -2,3 +2,4 @@
 pub mod Parts
 pub mod Least
 pub mod Walks
+pub mod Sides

@@ -4,12 +4,7 @@ use mathlib.Core.List.{List}
 use Prim.Native.Nat.{ℕ, ◌+◌, ◌<◌}
 use lib.Ieee.{Float, nan}
 use lib.ListN.{length, get_or, take, set}
-use Rattle.numbers.specs.Loops.{row}
 use Rattle.numbers.proofs.Turns.{fold_turn}
-use Rattle.graph_lists.specs.Sound.{Keys}
-use Rattle.graph_lists.proofs.Cuts.{row_end}
-use Rattle.graph_messages.specs.declared.rows.Rows.{Rows}
-use Rattle.graph_messages.proofs.Parts.{part_names}
 use Rattle.min_sum_pass.specs.MinSum.{damped, damped_messages}
 
 -- the messages that entries name, one entry further
@@ -17,7 +12,3 @@ pub written_turn : (sum : Float) (c_to_v v_to_c out : List Float) (xs : List ℕ
     → out ≡ damped_messages sum c_to_v v_to_c (take i xs) → x ≡ damped sum (get_or c_to_v m nan) (get_or out m nan) → set out m x ≡ damped_messages sum c_to_v v_to_c (take (i + 1) xs)
 unfolding damped_messages
 written_turn sum c_to_v v_to_c out xs i m x h e s d = fold_turn _ _ _ _ xs i m 0 h e s (ap (set out m) d)
-
--- a row's entries, as the code reads them, name what all of their side do
-pub row_names : (c : Rows) (r m : ℕ) (xs : List ℕ) → r < c.rows → m ≡ c.n → xs ≡ row c.offsets.now r c.entries.now → Keys m xs
-row_names c r m xs h e q = rw (e, q) (part_names _ _ _ _ c.walks.named (row_end _ _ _ c.walks.parts r h))

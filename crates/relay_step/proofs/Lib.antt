@@ -1,6 +1,5 @@
 -- The laws that stand by themselves, for the proofs of this crate and of those above it.
 pub mod Parts
-pub mod Sides
 pub mod Lengths
 pub mod Variables
 pub mod Passes

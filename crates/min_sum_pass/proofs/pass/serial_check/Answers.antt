@@ -1,7 +1,7 @@
 -- `min_sum_pass::pass::serial_check` meets its contract. Too few entries skip the check, and others send and have their variables updated. Assumes nothing.
 use mathlib.Core.Path.{sym}
 use Rattle.min_sum_pass.proofs.Checks.{serial_skipped, serial_sent}
-use Rattle.min_sum_pass.proofs.Variables.{row_names}
+use Rattle.graph_messages.proofs.Sides.{row_names}
 use Rattle.min_sum_pass.proofs.pass.serial_check.Goals as goal
 
 pub returns-then-update_part : goal.returns-then-update_part

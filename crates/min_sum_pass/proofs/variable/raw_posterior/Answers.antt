@@ -1,6 +1,6 @@
 -- `min_sum_pass::variable::raw_posterior` meets its contract. The variable's entries name messages, and its sum is the definition's. Assumes nothing.
 use Rattle.min_sum_pass.specs.MinSum.{raw_posterior}
-use Rattle.min_sum_pass.proofs.Variables.{row_names}
+use Rattle.graph_messages.proofs.Sides.{row_names}
 use Rattle.min_sum_pass.proofs.variable.raw_posterior.Goals as goal
 
 pub total-requires : goal.total-requires

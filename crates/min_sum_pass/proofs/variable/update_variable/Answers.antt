@@ -1,6 +1,6 @@
 -- `min_sum_pass::variable::update_variable` meets its contract. The variable's entries name messages, and its update is the definition's. Assumes nothing.
 use Rattle.min_sum_pass.specs.MinSum.{raw_posterior, update_variable}
-use Rattle.min_sum_pass.proofs.Variables.{row_names}
+use Rattle.graph_messages.proofs.Sides.{row_names}
 use Rattle.min_sum_pass.proofs.variable.update_variable.Goals as goal
 
 pub update_entries-requires-clause-keys : goal.update_entries-requires-clause-keys

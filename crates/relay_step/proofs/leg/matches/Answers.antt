@@ -1,7 +1,7 @@
 -- `relay_step::leg::matches` meets its contract. The check's entries name bits, and their parity is the definition's.
 -- Assumes nothing.
 use Rattle.relay_step.specs.Leg.{matches}
-use Rattle.relay_step.proofs.Sides.{row_names}
+use Rattle.graph_messages.proofs.Sides.{row_names}
 use Rattle.relay_step.proofs.leg.matches.Goals as goal
 
 pub parity-requires : goal.parity-requires

@@ -7,7 +7,7 @@ use lib.ListN.{get_or}
 use Rattle.numbers.specs.Loops.{part, spliced}
 use Rattle.relay_check.specs.Check.{check_messages}
 use Rattle.relay_step.proofs.Passes.{serial_is}
-use Rattle.relay_step.proofs.Sides.{row_names}
+use Rattle.graph_messages.proofs.Sides.{row_names}
 use Rattle.relay_step.proofs.step.serial_check.Goals as goal
 use Rattle.relay_step.proofs.step.serial_check.Goals.{Joined-clip, in-Off, in-On}
 

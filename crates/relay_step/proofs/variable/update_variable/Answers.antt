@@ -1,7 +1,7 @@
 -- `relay_step::variable::update_variable` meets its contract. The variable's entries name messages, and its update is the definition's.
 -- Assumes nothing.
 use Rattle.relay_step.specs.Step.{update_variable}
-use Rattle.relay_step.proofs.Sides.{row_names}
+use Rattle.graph_messages.proofs.Sides.{row_names}
 use Rattle.relay_step.proofs.variable.update_variable.Goals as goal
 
 pub update_entries-requires-clause-keys : goal.update_entries-requires-clause-keys
