@@ -10,7 +10,7 @@ use Rattle.graph_lists.specs.Graph.{Graph}
 use Rattle.graph_lists.specs.Model.{BuildOutcome, build_outcome}
 use Rattle.graph_probabilities.specs.Calls.{ProbabilityOutcome, probability_outcome}
 use Rattle.min_sum.specs.Beliefs.{BeliefsLists, BeliefsOutcome, beliefs_outcome}
-use Rattle.relay_calls.specs.declared.Decoded.{Decoded}
+use Rattle.relay_calls.specs.Answers.{DecodeAnswer}
 use Rattle.relay_calls.specs.Calls.{StepLists, StepOutcome, step_outcome, DecodeLists, DecodeOutcome, decode_outcome}
 use Rattle.exports_values.specs.Codes.{code_of, decoded_code, decoded_counts, decoded_weight}
 use Rattle.exports_bodies.specs.Answers.{graph_left, graph_left_by, made_left, made_left_by, priors_left, priors_left_by, beliefs_left, beliefs_left_by, step_left, step_left_by, decode_left, decode_left_by}
@@ -38,6 +38,6 @@ pub step_left_as : (code : ℕ) (a : Answer) (l : StepLists) (o : StepOutcome) �
 step_left_as code a l o is_code is-outcome = ap (λ k. step_left k l) is_code ∙ ap step_left_by is-outcome
 
 -- and of a decode
-pub decode_left_as : (code : ℕ) (counts old : List ℕ) (weight was : List Float) (d : Decoded) (l : DecodeLists) (o : DecodeOutcome) → code ≡ decoded_code d
+pub decode_left_as : (code : ℕ) (counts old : List ℕ) (weight was : List Float) (d : DecodeAnswer) (l : DecodeLists) (o : DecodeOutcome) → code ≡ decoded_code d
     → counts ≡ decoded_counts d old → weight ≡ decoded_weight d was → decode_outcome d l ≡ o → decode_left code counts weight l ≡ decode_left_by o old was
 decode_left_as code counts old weight was d l o p q r e = rw (p, q, r) (ap (λ (x : DecodeOutcome). decode_left_by x old was) e)

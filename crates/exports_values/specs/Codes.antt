@@ -15,6 +15,7 @@ use Rattle.relay_settings.specs.declared.GammaSource.{GammaSource}
 use Rattle.relay_settings.specs.declared.GammaSource.TheVariants.{Explicit, Seeded}
 use Rattle.relay_settings.specs.declared.Settings.{Settings}
 use Rattle.relay_calls.specs.declared.Decoded.{Decoded}
+use Rattle.relay_calls.specs.Answers.{DecodeAnswer}
 
 -- ---- the version
 
@@ -120,20 +121,20 @@ counts_in t =
 -- ---- a decode
 
 -- a decode's answer as a code
-abbrev pub decoded_code : Decoded → ℕ
-decoded_code (Decoded.Converged n t m w) = 0
-decoded_code (Decoded.NotConverged n t m) = 0
-decoded_code (Decoded.Refused r) = code_of (Err r)
+abbrev pub decoded_code : DecodeAnswer → ℕ
+decoded_code (Ok (Decoded.Converged n t m w)) = 0
+decoded_code (Ok (Decoded.NotConverged n t m)) = 0
+decoded_code (Err r) = code_of (Err r)
 
 -- beside it four counts: converged (1 or 0), executed legs, total iterations, message stores. Refusal 30 zeroes them, as it does all results, and any other
 -- writes nothing
-abbrev pub decoded_counts : Decoded → List ℕ → List ℕ
-decoded_counts (Decoded.Converged n t m w) old = 1 ∷ (n ∷ (t ∷ (m ∷ [])))
-decoded_counts (Decoded.NotConverged n t m) old = 0 ∷ (n ∷ (t ∷ (m ∷ [])))
-decoded_counts (Decoded.Refused r) old = cond (eqb (number_of r) 30) (0 ∷ (0 ∷ (0 ∷ (0 ∷ [])))) old
+abbrev pub decoded_counts : DecodeAnswer → List ℕ → List ℕ
+decoded_counts (Ok (Decoded.Converged n t m w)) old = 1 ∷ (n ∷ (t ∷ (m ∷ [])))
+decoded_counts (Ok (Decoded.NotConverged n t m)) old = 0 ∷ (n ∷ (t ∷ (m ∷ [])))
+decoded_counts (Err r) old = cond (eqb (number_of r) 30) (0 ∷ (0 ∷ (0 ∷ (0 ∷ [])))) old
 
 -- and the weight, positive zero where there is none
-abbrev pub decoded_weight : Decoded → List Float → List Float
-decoded_weight (Decoded.Converged n t m w) old = w ∷ []
-decoded_weight (Decoded.NotConverged n t m) old = zero⁺ ∷ []
-decoded_weight (Decoded.Refused r) old = cond (eqb (number_of r) 30) (zero⁺ ∷ []) old
+abbrev pub decoded_weight : DecodeAnswer → List Float → List Float
+decoded_weight (Ok (Decoded.Converged n t m w)) old = w ∷ []
+decoded_weight (Ok (Decoded.NotConverged n t m)) old = zero⁺ ∷ []
+decoded_weight (Err r) old = cond (eqb (number_of r) 30) (zero⁺ ∷ []) old

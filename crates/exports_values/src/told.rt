@@ -27,32 +27,36 @@ fn tell_refusal(r: Refusal, counts: &mut [u64; 4], weight: &mut [f64; 1]) -> u64
 }
 
 // A decode's code, counts and weight.
-pub fn tell(decoded: Decoded, counts: &mut [u64; 4], weight: &mut [f64; 1]) -> u64
+pub fn tell(decoded: Result<Decoded, Refusal>, counts: &mut [u64; 4], weight: &mut [f64; 1]) -> u64
     ensures code { result ≡ decoded_code decoded }
     ensures counts { counts.new ≡ decoded_counts decoded counts.old }
     ensures weight { weight.new ≡ decoded_weight decoded weight.old }
 {
     match decoded {
-        Decoded::Converged {
-            executed_legs,
-            total_iterations,
-            stores,
-            weight: w,
-        } => {
+        Ok(
+            Decoded::Converged {
+                executed_legs,
+                total_iterations,
+                stores,
+                weight: w,
+            },
+        ) => {
             *counts = [1, executed_legs as u64, total_iterations as u64, stores];
             *weight = [w];
             0
         }
-        Decoded::NotConverged {
-            executed_legs,
-            total_iterations,
-            stores,
-        } => {
+        Ok(
+            Decoded::NotConverged {
+                executed_legs,
+                total_iterations,
+                stores,
+            },
+        ) => {
             *counts = [0, executed_legs as u64, total_iterations as u64, stores];
             *weight = [0.0];
             0
         }
-        Decoded::Refused(r) => tell_refusal(r, counts, weight),
+        Err(r) => tell_refusal(r, counts, weight),
     }
 }
 

@@ -28,7 +28,6 @@ use Rattle.relay_settings.specs.declared.Clip.{Clip}
 use Rattle.relay_settings.specs.declared.Schedule.{Schedule}
 use Rattle.relay_stores.specs.Stores.{stores_each}
 use Rattle.relay_stores.proofs.EachIteration.{by_place_full}
-use Rattle.relay_calls.specs.declared.Decoded.TheVariants as Decoded
 use Rattle.relay_calls.specs.Decode.{Shot, Ended}
 use Rattle.relay_calls.specs.Calls.{StepLists, step_outcome, step_fits, step_rest, step_fault, stepped, iteration_by, iteration_call, DecodeLists, decode_outcome, decode_rest, decode_fault, after_legs, decode_by, decode_in_order, decode, with_order}
 use Rattle.relay_calls.specs.Formula.{stores_in}
@@ -216,8 +215,8 @@ pub record AllRefuse (r : Refusal) (edges : ℕ) (priors : List Float) (o : Numb
       → numbered_beliefs edges priors o syndrome iterations scale serial l ≡ beliefs_outcome (Err r) l
   pub iteration : (schedule : Schedule) (alpha : Float) (clip : Clip) (gamma : List Float) (syndrome order : List ℕ) (l : StepLists)
       → numbered_iteration edges priors o schedule alpha clip gamma syndrome order l ≡ step_outcome (Err r) l
-  pub decode_in_order_lem : (x : Shot) (l : DecodeLists) → x.prior ≡ priors → numbered_decode_in_order edges o x l ≡ decode_outcome (Decoded.Refused r) l
-  pub decode : (x : Shot) (l : DecodeLists) → x.prior ≡ priors → numbered_decode edges o x l ≡ decode_outcome (Decoded.Refused r) l
+  pub decode_in_order_lem : (x : Shot) (l : DecodeLists) → x.prior ≡ priors → numbered_decode_in_order edges o x l ≡ decode_outcome (Err r) l
+  pub decode : (x : Shot) (l : DecodeLists) → x.prior ≡ priors → numbered_decode edges o x l ≡ decode_outcome (Err r) l
 
 -- they are where the graph's own tests are
 all_refuse : (r : Refusal) (edges : ℕ) (priors : List Float) (o : Numbered) → numbered_fault edges priors o ≡ Err r → AllRefuse r edges priors o

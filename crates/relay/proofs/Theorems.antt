@@ -17,7 +17,7 @@ use Rattle.relay_settings.specs.declared.Schedule.{Schedule}
 use Rattle.relay_settings.specs.declared.Schedule.TheVariants.{Flooding, CheckSerial}
 use Rattle.relay_calls.specs.declared.LegRecord.{LegRecord}
 use Rattle.relay_orders.specs.Order.{NamesOnce, KeepsOrder, FirstLate, names_fault, exchange_fault, exchanged}
-use Rattle.relay_calls.specs.declared.Decoded.{Decoded}
+use Rattle.relay_calls.specs.Answers.{DecodeAnswer}
 use Rattle.relay_step.specs.Step.{State, iteration}
 use Rattle.relay_step.specs.Leg.{start_leg, run_leg, satisfied}
 use Rattle.relay_gammas.specs.Gammas.{gamma_of}
@@ -48,12 +48,12 @@ pub one_record : (leg_state leg_iterations : List ℕ) (leg_weight : List Float)
 one_record leg_state leg_iterations leg_weight r x y h k = h ∙ sym k
 
 -- two results that the contract of `decode_in_order` allows for one input coincide: the answer, and each lent list
-pub one_decode_in_order : (edges : ℕ) (x : Shot) (l : DecodeLists) (a b : Decoded) (p q : DecodeLists) → decode_outcome a p ≡ decode_in_order edges x l → decode_outcome b q ≡ decode_in_order edges x l
+pub one_decode_in_order : (edges : ℕ) (x : Shot) (l : DecodeLists) (a b : DecodeAnswer) (p q : DecodeLists) → decode_outcome a p ≡ decode_in_order edges x l → decode_outcome b q ≡ decode_in_order edges x l
     → (a ≡ b) × (p ≡ q)
 one_decode_in_order edges x l a b p q h k = let e = h ∙ sym k in (ap (λ (o : DecodeOutcome). o.answer) e, ap (λ (o : DecodeOutcome). o.left) e)
 
 -- and so do two that the contract of `decode` allows
-pub one_decode : (edges : ℕ) (x : Shot) (l : DecodeLists) (a b : Decoded) (p q : DecodeLists) → decode_outcome a p ≡ decode edges x l → decode_outcome b q ≡ decode edges x l → (a ≡ b) × (p ≡ q)
+pub one_decode : (edges : ℕ) (x : Shot) (l : DecodeLists) (a b : DecodeAnswer) (p q : DecodeLists) → decode_outcome a p ≡ decode edges x l → decode_outcome b q ≡ decode edges x l → (a ≡ b) × (p ≡ q)
 one_decode edges x l a b p q h k = let e = h ∙ sym k in (ap (λ (o : DecodeOutcome). o.answer) e, ap (λ (o : DecodeOutcome). o.left) e)
 
 -- ---- "Decode's definition repeats this step in the order handed in"

@@ -79,7 +79,7 @@ pub fn iteration(
         ≡ iteration_call size.edges priors.now g schedule alpha clip gamma.now syndrome.now
         order.now before }
 {
-    relay_calls::tests::fault(
+    let tested = relay_calls::tests::fault(
         size,
         priors,
         check_var,
@@ -96,7 +96,8 @@ pub fn iteration(
         v_to_c,
         posterior,
         bias,
-    )?;
+    );
+    tested?;
     relay_calls::iterate::stepped(
         schedule,
         alpha,
@@ -142,7 +143,7 @@ pub fn decode_in_order(
     bias: &mut [f64],
     c_to_v: &mut [f64],
     v_to_c: &mut [f64],
-) -> Decoded
+) -> Result<Decoded, Refusal>
     ensures { let g = graph size.checks size.mechanisms check_var.now
         check_offset.now var_check.now var_message.now var_offset.now in
         let x = shot g priors.now settings gammas.now order.now syndrome.now seed in
@@ -154,7 +155,7 @@ pub fn decode_in_order(
         v_to_c.new in
         decode_outcome result after ≡ decode_in_order size.edges x before }
 {
-    let a = relay_decode::decode_tests::taken_fault(
+    relay_decode::decode_tests::taken_fault(
         size,
         priors,
         check_var,
@@ -177,32 +178,29 @@ pub fn decode_in_order(
         bias,
         c_to_v,
         v_to_c,
-    );
-    match a {
-        Err(r) => Decoded::Refused(r),
-        Ok(()) => relay_decode::all_legs::decode_taken(
-            settings,
-            gammas,
-            seed,
-            syndrome,
-            priors,
-            check_var,
-            check_offset,
-            var_message,
-            var_offset,
-            order,
-            leg_state,
-            leg_iterations,
-            leg_weight,
-            rows,
-            correction,
-            posterior,
-            gamma,
-            bias,
-            c_to_v,
-            v_to_c,
-        ),
-    }
+    )?;
+    relay_decode::all_legs::decode_taken(
+        settings,
+        gammas,
+        seed,
+        syndrome,
+        priors,
+        check_var,
+        check_offset,
+        var_message,
+        var_offset,
+        order,
+        leg_state,
+        leg_iterations,
+        leg_weight,
+        rows,
+        correction,
+        posterior,
+        gamma,
+        bias,
+        c_to_v,
+        v_to_c,
+    )
 }
 
 // `RelayBp::decode`: that, with the checks in index order.
@@ -228,7 +226,7 @@ pub fn decode(
     bias: &mut [f64],
     c_to_v: &mut [f64],
     v_to_c: &mut [f64],
-) -> Decoded
+) -> Result<Decoded, Refusal>
     ensures { let g = graph size.checks size.mechanisms check_var.now
         check_offset.now var_check.now var_message.now var_offset.now in
         let x = shot g priors.now settings gammas.now [] syndrome.now seed in
@@ -240,7 +238,7 @@ pub fn decode(
         v_to_c.new in
         decode_outcome result after ≡ decode_of size.edges x before }
 {
-    let a = relay_decode::decode_tests::shot_fault(
+    relay_decode::decode_tests::shot_fault(
         size,
         priors,
         check_var,
@@ -262,29 +260,26 @@ pub fn decode(
         bias,
         c_to_v,
         v_to_c,
-    );
-    match a {
-        Err(r) => Decoded::Refused(r),
-        Ok(()) => relay_decode::counted::decode_counted(
-            settings,
-            gammas,
-            seed,
-            syndrome,
-            priors,
-            check_var,
-            check_offset,
-            var_message,
-            var_offset,
-            leg_state,
-            leg_iterations,
-            leg_weight,
-            rows,
-            correction,
-            posterior,
-            gamma,
-            bias,
-            c_to_v,
-            v_to_c,
-        ),
-    }
+    )?;
+    relay_decode::counted::decode_counted(
+        settings,
+        gammas,
+        seed,
+        syndrome,
+        priors,
+        check_var,
+        check_offset,
+        var_message,
+        var_offset,
+        leg_state,
+        leg_iterations,
+        leg_weight,
+        rows,
+        correction,
+        posterior,
+        gamma,
+        bias,
+        c_to_v,
+        v_to_c,
+    )
 }

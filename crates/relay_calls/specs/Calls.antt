@@ -15,6 +15,7 @@ use Rattle.graph_lists.specs.Model.{graph_fault}
 use Rattle.relay_settings.specs.declared.Clip.{Clip}
 use Rattle.relay_settings.specs.declared.Schedule.{Schedule}
 use Rattle.relay_calls.specs.declared.Decoded.{Decoded}
+use Rattle.relay_calls.specs.Answers.{DecodeAnswer}
 use Rattle.relay_settings.specs.Settings.{clip_good, alpha_good, settings_fault}
 use Rattle.relay_gammas.specs.Gammas.{seed_fault}
 use Rattle.relay_step.specs.Step.{State, state, iteration}
@@ -152,10 +153,10 @@ decode_lists states iterations weights rows correction posterior gamma bias c_to
 
 -- the answer, and the lists as they are after
 pub record DecodeOutcome : Type 0 where
-  pub answer : Decoded
+  pub answer : DecodeAnswer
   pub left : DecodeLists
 
-abbrev pub decode_outcome : Decoded → DecodeLists → DecodeOutcome
+abbrev pub decode_outcome : DecodeAnswer → DecodeLists → DecodeOutcome
 decode_outcome a l = record { answer = a; left = l }
 
 -- 22: the legs' lists have at least num_legs + 1 rows, and the others fit a graph with this many edges exactly
@@ -187,9 +188,9 @@ unfoldable pub decode_fault : ℕ → Shot → DecodeLists → Answer
 decode_fault edges x l = or_else (graph_fault edges x.prior x.graph) (decode_rest edges x l)
 
 -- what a run that wrote so many messages answers
-abbrev pub answered : Run → ℕ → Option Float → Decoded
-answered run stores none = Decoded.NotConverged run.executed_legs run.total_iterations stores
-answered run stores (some weight) = Decoded.Converged run.executed_legs run.total_iterations stores weight
+abbrev pub answered : Run → ℕ → Option Float → DecodeAnswer
+answered run stores none = Ok (Decoded.NotConverged run.executed_legs run.total_iterations stores)
+answered run stores (some weight) = Ok (Decoded.Converged run.executed_legs run.total_iterations stores weight)
 
 -- the lists after a run: the legs' records over the front of theirs, whose surplus is kept, and zeroed work lists
 unfoldable pub left_by : ℕ → Shot → Run → DecodeLists → DecodeLists
@@ -230,12 +231,12 @@ zeroed edges x l =
 -- past the tests: how the legs ended, and how many messages they wrote, of which a refusal says nothing
 abbrev pub after_legs : ℕ → Shot → Ended → ℕ → DecodeLists → DecodeOutcome
 after_legs edges x (decoded run) stores l = decode_outcome (answered run stores run.best_weight) (left_by edges x run l)
-after_legs edges x (refused r) stores l = decode_outcome (Decoded.Refused r) (zeroed edges x l)
+after_legs edges x (refused r) stores l = decode_outcome (Err r) (zeroed edges x l)
 
 -- a call that its tests refuse writes nothing
 abbrev pub after_decode_tests : Answer → DecodeOutcome → DecodeLists → DecodeOutcome
 after_decode_tests (Ok _) o l = o
-after_decode_tests (Err r) o l = decode_outcome (Decoded.Refused r) l
+after_decode_tests (Err r) o l = decode_outcome (Err r) l
 
 -- a call whose tests answer `tested`, with a check's messages had so
 abbrev pub decode_by : Access → Answer → ℕ → Shot → DecodeLists → DecodeOutcome
@@ -267,7 +268,7 @@ abbrev pub summary : Answer → Bool → ℕ → ℕ → ℕ → Option Float �
 summary a c n t m w = record { refusal = a; converged = c; executed_legs = n; total_iterations = t; stores = m; weight = w }
 
 -- what each answer says in them
-abbrev pub summary_of : Decoded → Summary
-summary_of (Decoded.Converged n t m w) = summary (Ok tt) true n t m (some w)
-summary_of (Decoded.NotConverged n t m) = summary (Ok tt) false n t m none
-summary_of (Decoded.Refused r) = summary (Err r) false 0 0 0 none
+abbrev pub summary_of : DecodeAnswer → Summary
+summary_of (Ok (Decoded.Converged n t m w)) = summary (Ok tt) true n t m (some w)
+summary_of (Ok (Decoded.NotConverged n t m)) = summary (Ok tt) false n t m none
+summary_of (Err r) = summary (Err r) false 0 0 0 none

@@ -3,3 +3,4 @@ pub mod Records
 pub mod Decode
 pub mod Calls
 pub mod Formula
+pub mod Answers

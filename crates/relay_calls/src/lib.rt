@@ -8,10 +8,8 @@ pub mod tests;
 ghost use Rattle.std.specs.Prelude.{◌≡◌};
 ghost use Rattle.relay_calls.specs.Records.{record_of};
 
-use refusals::Refusal;
-
-// What a decode answers, with the number of messages that its iterations wrote. The corrections, the posterior and the legs' records are
-// in the lent lists.
+// What a decode found, with the number of messages that its iterations wrote. The corrections, the posterior and the legs' records are in
+// the lent lists.
 #[derive(Clone, Copy)]
 pub enum Decoded {
     Converged {
@@ -25,7 +23,6 @@ pub enum Decoded {
         total_iterations: usize,
         stores: u64,
     },
-    Refused(Refusal),
 }
 
 // A leg's record, read out of the leg lists.

@@ -25,7 +25,6 @@ use Rattle.graph_messages.proofs.Walks.{graph_walks}
 use Rattle.relay_settings.specs.declared.Schedule.{Schedule}
 use Rattle.relay_settings.specs.declared.Schedule.TheVariants.{Flooding, CheckSerial}
 use Rattle.relay_settings.specs.declared.Settings.{Settings}
-use Rattle.relay_calls.specs.declared.Decoded.TheVariants as Decoded
 use Rattle.relay_settings.specs.Settings.{settings_fault}
 use Rattle.relay_settings.proofs.Told.{settings_told}
 use Rattle.numbers.specs.Limits.{max_edges}
@@ -211,7 +210,7 @@ module _ (edges checks mechanisms : ℕ) (t : Settings) (flat : List Float) (see
     -- ---- the calls
 
     -- refused by a test before 29
-    pub in_order_refused : (a : Answer) (r : Refusal) → a ≡ taken_fault edges (X order) l → a ≡ Err r → decode_outcome (Decoded.Refused r) l ≡ decode_in_order edges (X order) l
+    pub in_order_refused : (a : Answer) (r : Refusal) → a ≡ taken_fault edges (X order) l → a ≡ Err r → decode_outcome (Err r) l ≡ decode_in_order edges (X order) l
     unfolding decode_in_order
     in_order_refused a r e d = let w : taken_fault edges (X order) l ≡ Err r = sym e ∙ d in rw (stores_last edges (X order) l ∙ or_first _ _ (ap is_done w) ∙ w)
 
@@ -239,7 +238,7 @@ module _ (edges checks mechanisms : ℕ) (t : Settings) (flat : List Float) (see
     index_fault = sym (fault_joined edges (X (upto checks)) l ∙ ap (or_else _) (index_passes t.schedule (graph checks mechanisms cv co vc vm vo)) ∙ or_none _)
 
     -- refused by a test
-    pub index_refused : (a : Answer) (r : Refusal) → a ≡ shot_fault edges (X []) l → a ≡ Err r → decode_outcome (Decoded.Refused r) l ≡ decode edges (X []) l
+    pub index_refused : (a : Answer) (r : Refusal) → a ≡ shot_fault edges (X []) l → a ≡ Err r → decode_outcome (Err r) l ≡ decode edges (X []) l
     unfolding decode
     index_refused a r e d = in_order_refused (upto checks) l a r (e ∙ index_fault) d
 

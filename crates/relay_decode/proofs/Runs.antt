@@ -14,7 +14,7 @@ use Rattle.refusals.specs.Refusal.{Answer}
 use Rattle.std.specs.Prelude.{Ok, Err}
 use Rattle.refusals.specs.Tests.{is_done, first_of}
 use Rattle.graph_lists.specs.Messages.{by_place, value_fault, posterior_fault}
-use Rattle.relay_calls.specs.declared.Decoded.{Decoded}
+use Rattle.relay_calls.specs.Answers.{DecodeAnswer}
 use Rattle.relay_step.specs.Leg.{Leg, hard_decision, correction_weight}
 use Rattle.relay_calls.specs.Decode.{Shot, Run, Ended, decoded, refused, Progress, running, finished, is_none_or, executed_leg, start_run, recorded, leg_judged, after_leg, legs_from, decode_legs, correction_of}
 use Rattle.relay_calls.specs.Calls.{answered}
@@ -93,7 +93,7 @@ module _ (x : Shot) where
     pub few : k.total_iterations ≤ most_to x.settings (suc r)
 
   -- what is answered at the end e, and left, where an iteration writes `each` messages
-  abbrev Ends : ℕ → Ended → Decoded → Kept → Type 0
+  abbrev Ends : ℕ → Ended → DecodeAnswer → Kept → Type 0
   Ends each e d k = (d ≡ answer_of each e) × (is_refused d ≡ false → lists_of k ≡ results_of x e)
 
   module _ (r : ℕ) (k' : Kept) where
@@ -145,7 +145,7 @@ module _ (x : Shot) where
   )
 
   -- the same, of an end that is the legs'
-  ends_as : (each : ℕ) (f e : Ended) (d c : Decoded) (k : Kept) → f ≡ e → c ≡ d → Ends each f d k → Ends each e c k
+  ends_as : (each : ℕ) (f e : Ended) (d c : DecodeAnswer) (k : Kept) → f ≡ e → c ≡ d → Ends each f d k → Ends each e c k
   ends_as each f e d c k p q h = rw (← p, q) h
 
   module _ (best : Option Float) (num total : ℕ) (ss is : List ℕ) (ws : List Float) (rows cor : List ℕ) (p : List Float) where
@@ -174,7 +174,7 @@ module _ (x : Shot) where
 
     -- the way out after a leg
     pub run_ended : (each r : ℕ) (k : Kept) → Reached r k → r < many → kept best num total (suc r) ss is ws rows cor p ≡ kept_after x k r (executed_leg by_place x r k.posterior)
-        → (a : Answer) (b : Bool) (c : Decoded) → length p ≡ x.graph.mechanisms → a ≡ first_of (length p) (value_fault p)
+        → (a : Answer) (b : Bool) (c : DecodeAnswer) → length p ≡ x.graph.mechanisms → a ≡ first_of (length p) (value_fault p)
         → b ≡ (not (is_done a) || leb x.settings.stop_after_converged num) → b ≡ true → c ≡ answer_by a best (r + 1) total (total * each)
         → (c ≡ answer_of each (decode_legs by_place x)) × (is_refused c ≡ false → results ss is ws rows cor p ≡ results_of x (decode_legs by_place x))
     unfolding posterior_fault
@@ -184,7 +184,7 @@ module _ (x : Shot) where
         ends_as each _ _ _ c (kept best num total (suc r) ss is ws rows cor p) (ended_at r _ t a b (f ∙ ap (λ n. first_of n (value_fault p)) m) d h) w (ends_by each a t.run _ t.is)
 
     -- and after all of them
-    pub run_over : (each r n : ℕ) (c : Decoded) → Reached r (kept best num total r ss is ws rows cor p) → many ≤ r → n ≡ r → c ≡ answer_by (Ok tt) best n total (total * each)
+    pub run_over : (each r n : ℕ) (c : DecodeAnswer) → Reached r (kept best num total r ss is ws rows cor p) → many ≤ r → n ≡ r → c ≡ answer_by (Ok tt) best n total (total * each)
         → (c ≡ answer_of each (decode_legs by_place x)) × (is_refused c ≡ false → results ss is ws rows cor p ≡ results_of x (decode_legs by_place x))
     unfolding legs_from
     run_over each r n c s h m q =

@@ -19,7 +19,7 @@ use Rattle.refusals.specs.Tests.{unless}
 use Rattle.graph_lists.specs.Messages.{by_place}
 use Rattle.relay_settings.specs.declared.Settings.{Settings}
 use Rattle.relay_stores.specs.Stores.{stores_each, most_iterations, max_stores, stores_fault}
-use Rattle.relay_calls.specs.declared.Decoded.{Decoded}
+use Rattle.relay_calls.specs.Answers.{DecodeAnswer}
 use Rattle.relay_calls.specs.Decode.{Shot, Run, Ended, decoded, refused, decode_legs, correction_of}
 use Rattle.relay_calls.specs.Calls.{DecodeLists, DecodeOutcome, decode_outcome, answered, left_by, zeroed, after_legs, after_decode_tests}
 use Rattle.relay_calls.specs.Formula.{stores_in, legs_leave, taken_leaves}
@@ -43,7 +43,7 @@ module _ (x : Shot) (ss is : List ℕ) (ws : List Float) (rows cor : List ℕ)
   starts_at ss' is' ws' rows' cor' p' z q = rw (z.0, z.1, z.2, z.3, z.4, q, hs, hi, hw, hr, hc)
 
   -- what the lists hold after the end
-  pub ends_at : (each : ℕ) (e : Ended) (d : Decoded) (r' : Results) → length p ≡ x.graph.mechanisms → d ≡ answer_of each e → (is_refused d ≡ false → results ss is ws rows cor p ≡ results_of x e)
+  pub ends_at : (each : ℕ) (e : Ended) (d : DecodeAnswer) (r' : Results) → length p ≡ x.graph.mechanisms → d ≡ answer_of each e → (is_refused d ≡ false → results ss is ws rows cor p ≡ results_of x e)
       → r' ≡ cond (is_refused d) (results (replicate (length ss) 0) (replicate (length is) 0) (replicate (length ws) zero⁺) (replicate (length rows) 0)
       (replicate (length cor) 0) (replicate (length p) zero⁺)) (results ss is ws rows cor p)
       → r' ≡ results_of x e
@@ -58,7 +58,7 @@ module _ (x : Shot) (ss is : List ℕ) (ws : List Float) (rows cor : List ℕ)
 
 module _ (x : Shot) (edges : ℕ) (l : DecodeLists) (ss is : List ℕ) (ws : List Float) (rows cor : List ℕ) (p gamma bias c v : List Float) (t1 t2 : List ℕ) (t3 : List Float) (t4 : List ℕ) where
   -- the answer, the result lists before their surplus, and the zeroed work lists are what the definition leaves
-  pub shot_is : (each : ℕ) (e : Ended) (d : Decoded) → d ≡ answer_of each e → results ss is ws rows cor p ≡ results_of x e
+  pub shot_is : (each : ℕ) (e : Ended) (d : DecodeAnswer) → d ≡ answer_of each e → results ss is ws rows cor p ≡ results_of x e
       → (t1 ≡ drop (length ss) l.leg_state) × (t2 ≡ drop (length is) l.leg_iterations) × (t3 ≡ drop (length ws) l.leg_weight) × (t4 ≡ drop (length rows) l.rows)
       → (gamma ≡ replicate x.graph.mechanisms zero⁺) × (bias ≡ replicate x.graph.mechanisms zero⁺) × (c ≡ replicate edges zero⁺) × (v ≡ replicate edges zero⁺)
       → decode_outcome d (record {
@@ -104,7 +104,7 @@ module _ (x : Shot) (edges : ℕ) (l : DecodeLists) (each : ℕ) (fit : Bool) (i
   said = e ∙ ap (λ n. leb (most_iterations x.settings * n) max_stores) is
 
   -- refused
-  pub taken_refused : not fit ≡ true → decode_outcome (Decoded.Refused TooManyStores) l ≡ taken_leaves edges x l
+  pub taken_refused : not fit ≡ true → decode_outcome (Err TooManyStores) l ≡ taken_leaves edges x l
   unfolding stores_fault unless
   taken_refused h = let b = sym said ∙ not-true fit h in ap (λ f. after_decode_tests (cond f (Ok tt) (Err TooManyStores)) (legs_leave edges x l) l) (sym b)
 

@@ -42,7 +42,7 @@ fn run_legs(
     c_to_v: &mut [f64],
     v_to_c: &mut [f64],
     each: u64,
-) -> Decoded
+) -> Result<Decoded, Refusal>
     requires reads { LegReads t gammas.now syndrome.now priors.now checks.now variables.now order.now }
     requires legs_long { LegsLong (suc t.num_legs) variables.now.rows leg_state.old leg_iterations.old leg_weight.old rows.old }
     requires per_shot { PerShot variables.now.rows correction.old posterior.old gamma.old bias.old }
@@ -137,19 +137,15 @@ fn clear_work(gamma: &mut [f64], bias: &mut [f64], c_to_v: &mut [f64], v_to_c: &
 }
 
 // Whether a decode is refused.
-fn is_refused(d: Decoded) -> bool
+fn is_refused(d: Result<Decoded, Refusal>) -> bool
     ensures { result ≡ is_refused d }
 {
-    match d {
-        Decoded::Converged { .. } => false,
-        Decoded::NotConverged { .. } => false,
-        Decoded::Refused(_) => true,
-    }
+    d.is_err()
 }
 
 // 30 zeroes the result lists.
 fn end_legs(
-    d: Decoded,
+    d: Result<Decoded, Refusal>,
     leg_state: &mut [u8],
     leg_iterations: &mut [u32],
     leg_weight: &mut [f64],
@@ -194,7 +190,7 @@ fn run_shot(
     c_to_v: &mut [f64],
     v_to_c: &mut [f64],
     each: u64,
-) -> Decoded
+) -> Result<Decoded, Refusal>
     requires reads { LegReads t gammas.now syndrome.now priors.now checks.now variables.now order.now }
     requires legs_long { LegsLong (suc t.num_legs) variables.now.rows leg_state.old leg_iterations.old leg_weight.old rows.old }
     requires per_shot { PerShot variables.now.rows correction.old posterior.old gamma.old bias.old }
@@ -272,7 +268,7 @@ fn decode_fronts(
     c_to_v: &mut [f64],
     v_to_c: &mut [f64],
     each: u64,
-) -> Decoded
+) -> Result<Decoded, Refusal>
     requires reads { LegReads t gammas.now syndrome.now priors.now checks.now variables.now order.now }
     requires legs_fit { LegsFit (suc t.num_legs) variables.now.rows leg_state.old leg_iterations.old leg_weight.old rows.old }
     requires per_shot { PerShot variables.now.rows correction.old posterior.old gamma.old bias.old }
@@ -334,7 +330,7 @@ pub(crate) fn decode_sides(
     bias: &mut [f64],
     c_to_v: &mut [f64],
     v_to_c: &mut [f64],
-) -> Decoded
+) -> Result<Decoded, Refusal>
     requires reads { LegReads t gammas.now syndrome.now priors.now checks.now variables.now order.now }
     requires legs_fit { LegsFit (suc t.num_legs) variables.now.rows leg_state.old leg_iterations.old leg_weight.old rows.old }
     requires per_shot { PerShot variables.now.rows correction.old posterior.old gamma.old bias.old }
@@ -359,7 +355,7 @@ pub(crate) fn decode_sides(
         variables.offsets,
     );
     if !stores_fit(t, each) {
-        return Decoded::Refused(Refusal::TooManyStores);
+        return Err(Refusal::TooManyStores);
     }
     decode_fronts(
         t,
@@ -406,7 +402,7 @@ pub fn decode_taken(
     bias: &mut [f64],
     c_to_v: &mut [f64],
     v_to_c: &mut [f64],
-) -> Decoded
+) -> Result<Decoded, Refusal>
     requires reads { Reads t gammas.now syndrome.now priors.now check_var.now check_offset.now var_message.now var_offset.now
         order.now }
     requires legs_fit { LegsFit (suc t.num_legs) (length priors.now) leg_state.old leg_iterations.old leg_weight.old rows.old }

@@ -12,6 +12,7 @@ use crate::all_legs::decode_sides;
 use graph_lists::indices::number;
 use graph_messages::rows::Rows;
 use numbers::limits::MAX_CHECKS;
+use refusals::Refusal;
 use relay_calls::Decoded;
 use relay_settings::Settings;
 
@@ -35,7 +36,7 @@ fn decode_counting(
     bias: &mut [f64],
     c_to_v: &mut [f64],
     v_to_c: &mut [f64],
-) -> Decoded
+) -> Result<Decoded, Refusal>
     requires checks_bound { (checks.now.rows ≤ max_checks) × (length order.old ≡ checks.now.rows) }
     requires reads { LegReads t gammas.now syndrome.now priors.now checks.now variables.now (upto checks.now.rows) }
     requires legs_fit { LegsFit (suc t.num_legs) variables.now.rows leg_state.old leg_iterations.old leg_weight.old rows.old }
@@ -97,7 +98,7 @@ pub fn decode_counted(
     bias: &mut [f64],
     c_to_v: &mut [f64],
     v_to_c: &mut [f64],
-) -> Decoded
+) -> Result<Decoded, Refusal>
     requires syndrome_len_bound { length syndrome.now ≤ max_checks }
     requires reads { Reads t gammas.now syndrome.now priors.now check_var.now check_offset.now var_message.now var_offset.now
         (upto (length syndrome.now)) }

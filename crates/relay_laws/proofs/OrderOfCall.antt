@@ -19,7 +19,7 @@ use Rattle.relay_settings.specs.declared.Schedule.{Schedule}
 use Rattle.relay_settings.specs.declared.Schedule.TheVariants.{Flooding, CheckSerial}
 use Rattle.relay_orders.specs.Order.{NamesOnce, KeepsOrder, FirstLate, names_once, late, exchanged, names_fault, exchange_fault}
 use Rattle.relay_orders.proofs.OrderWords.{exchanged_is, none_exchanged_is}
-use Rattle.relay_calls.specs.declared.Decoded.{Decoded}
+use Rattle.relay_calls.specs.Answers.{DecodeAnswer}
 use Rattle.relay_calls.specs.Decode.{Shot, Run, Ended, decoded, refused, decode_legs, decode_stores}
 use Rattle.relay_calls.specs.Calls.{DecodeLists, decode_lists_fit, decode_fault, answered, after_legs, after_decode_tests, decode_in_order}
 use Rattle.relay_calls.proofs.Named.{names_told, names_taken}
@@ -79,7 +79,7 @@ module _ (edges : ℕ) (x : Shot) (l : DecodeLists) (others : OthersPass edges x
   exchange = exchange_fault x.settings.schedule x.graph x.order
 
   -- what the call answers
-  abbrev given : Decoded
+  abbrev given : DecodeAnswer
   given = (decode_in_order edges x l).answer
 
   -- only these two are left of the tests
@@ -101,7 +101,7 @@ module _ (edges : ℕ) (x : Shot) (l : DecodeLists) (others : OthersPass edges x
       ∙ ap (or_else names) (or_none exchange)
 
   -- a refusal of theirs is the answer
-  answer_refused : (r : Refusal) → or_else names exchange ≡ Err r → given ≡ Decoded.Refused r
+  answer_refused : (r : Refusal) → or_else names exchange ≡ Err r → given ≡ Err r
   unfolding decode_in_order
   answer_refused r e = ap (λ (a : Answer). (after_decode_tests a (after_legs edges x (decode_legs by_place x) (decode_stores by_place x) l) l).answer) (tests_are ∙ e)
 
@@ -174,15 +174,15 @@ module _ (edges : ℕ) (x : Shot) (l : DecodeLists) (others : OthersPass edges x
     unfolding exchange_fault
     left_24 = or_second names exchange named ∙ ap (λ (t : Schedule). exchange_fault t x.graph x.order) serial
 
-    placed : (c : ℕ) (b : Answer) → b ≡ exchanged (check_entries x.graph) [] x.order → Exchange b → given ≡ Decoded.Refused (OrderExchanged c)
+    placed : (c : ℕ) (b : Answer) → b ≡ exchanged (check_entries x.graph) [] x.order → Exchange b → given ≡ Err (OrderExchanged c)
         → exchanged (check_entries x.graph) [] x.order ≡ Err (OrderExchanged c)
     placed c (Ok _) e free h = absurd (passed_other 24 (left_24 ∙ sym e) (ap refused_with h) (λ z. omega arith) (λ z. omega arith))
     placed c (Err r) e (at d) h =
-        let q : given ≡ Decoded.Refused (OrderExchanged d) = answer_refused (OrderExchanged d) (left_24 ∙ sym e) in
+        let q : given ≡ Err (OrderExchanged d) = answer_refused (OrderExchanged d) (left_24 ∙ sym e) in
         let s : d ≡ c = cc in
         sym e ∙ ap (λ (k : ℕ). Err (OrderExchanged k)) s
 
-    pub exchange_placed : (c : ℕ) → (given ≡ Decoded.Refused (OrderExchanged c)) ↔ FirstLate x.graph x.order c
+    pub exchange_placed : (c : ℕ) → (given ≡ Err (OrderExchanged c)) ↔ FirstLate x.graph x.order c
     exchange_placed c = (
       λ h. (exchanged_is x.graph x.order c).0 (placed c _ refl (exchange_or (check_entries x.graph) [] x.order) h),
       λ w. answer_refused (OrderExchanged c) (left_24 ∙ (exchanged_is x.graph x.order c).1 w),

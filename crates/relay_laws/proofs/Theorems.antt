@@ -38,7 +38,7 @@ use Rattle.relay_step.proofs.Tame.{Tame, iteration_tame}
 use Rattle.relay_stores.specs.Stores.{Counted, counted_iteration, stores_each, stores_at, most_iterations, max_stores, stores_fault}
 use Rattle.relay_stores.proofs.Counting.{counted_state}
 use Rattle.relay_stores.proofs.EachIteration.{by_place_full, iteration_stores}
-use Rattle.relay_calls.specs.declared.Decoded.{Decoded}
+use Rattle.relay_calls.specs.Answers.{DecodeAnswer}
 use Rattle.relay_calls.specs.declared.LegRecord.{LegRecord}
 use Rattle.relay_calls.specs.Records.{values_of, record_of, leg_record}
 use Rattle.relay_calls.specs.Decode.{Shot, Run, executed_leg, decoded, decode_legs, counted_leg, decode_stores}
@@ -69,11 +69,11 @@ takes_order = order_taken
 -- and an order that names each check once is refused with 24 at a check exactly where that is the first that shares a mechanism with a higher one named
 -- before it
 pub exchange_place_of_call : (edges : ℕ) (x : Shot) (l : DecodeLists) → OthersPass edges x l → NamesOnce x.graph.checks x.order → x.settings.schedule ≡ CheckSerial
-    → (c : ℕ) → ((decode_in_order edges x l).answer ≡ Decoded.Refused (OrderExchanged c)) ↔ FirstLate x.graph x.order c
+    → (c : ℕ) → ((decode_in_order edges x l).answer ≡ Err (OrderExchanged c)) ↔ FirstLate x.graph x.order c
 exchange_place_of_call = exchange_placed
 
 -- what the contract of `decode` allows is what that of `decode_in_order` allows, handed the index order: the answer, and each lent list
-pub decode_is_index_order : (edges : ℕ) (x : Shot) (l : DecodeLists) (a b : Decoded) (p q : DecodeLists) → decode_outcome a p ≡ decode edges x l
+pub decode_is_index_order : (edges : ℕ) (x : Shot) (l : DecodeLists) (a b : DecodeAnswer) (p q : DecodeLists) → decode_outcome a p ≡ decode edges x l
     → decode_outcome b q ≡ decode_in_order edges (with_order x (upto x.graph.checks)) l → (a ≡ b) × (p ≡ q)
 unfolding decode
 decode_is_index_order edges x l a b p q h k = let e = h ∙ sym k in (ap (λ (o : DecodeOutcome). o.answer) e, ap (λ (o : DecodeOutcome). o.left) e)
@@ -134,13 +134,13 @@ module _ (edges : ℕ) (x : Shot) (l : DecodeLists) where
 
   -- "Show over the recorded legs, graph and syndrome, not the run": whatever the contract of `decode_in_order` allows, if it is an answer, it is the best of the legs that it
   -- leaves records of
-  pub best_of_legs : (a : Decoded) (left : DecodeLists) → decode_outcome a left ≡ decode_in_order edges x l → (summary_of a).refusal ≡ Ok tt → BestOfLegs (filed x a left)
+  pub best_of_legs : (a : DecodeAnswer) (left : DecodeLists) → decode_outcome a left ≡ decode_in_order edges x l → (summary_of a).refusal ≡ Ok tt → BestOfLegs (filed x a left)
   best_of_legs a left e h =
       let b = run_behind edges x l (ap (λ (o : DecodeOutcome). (summary_of o.answer).refusal) (sym e) ∙ h) in
       subst (λ (o : DecodeOutcome). BestOfLegs (filed x o.answer o.left)) (sym b.outcome ∙ sym e) (run_best b.run b.passed b.ended)
 
 -- and so of `decode`
-pub decode_best_of_legs : (edges : ℕ) (x : Shot) (l : DecodeLists) (a : Decoded) (left : DecodeLists) → decode_outcome a left ≡ decode edges x l → (summary_of a).refusal ≡ Ok tt
+pub decode_best_of_legs : (edges : ℕ) (x : Shot) (l : DecodeLists) (a : DecodeAnswer) (left : DecodeLists) → decode_outcome a left ≡ decode edges x l → (summary_of a).refusal ≡ Ok tt
     → BestOfLegs (filed x a left)
 unfolding decode
 decode_best_of_legs edges x l a left e h = best_of_legs edges (with_order x (upto x.graph.checks)) l a left e h
@@ -195,7 +195,7 @@ pub iteration_writes : (schedule : Schedule) (g : Graph) → is_graph g ≡ true
     → (counted_iteration schedule by_place g alpha clip syndrome prior gamma order s).stores ≡ s.stores + stores_each schedule g
 iteration_writes schedule g is = let sound = passes_sound g is in iteration_stores schedule by_place g sound (by_place_full g sound)
 
-module _ (edges : ℕ) (x : Shot) (l : DecodeLists) (a : Decoded) (left : DecodeLists) (e : decode_outcome a left ≡ decode_in_order edges x l) (h : (summary_of a).refusal ≡ Ok tt) where
+module _ (edges : ℕ) (x : Shot) (l : DecodeLists) (a : DecodeAnswer) (left : DecodeLists) (e : decode_outcome a left ≡ decode_in_order edges x l) (h : (summary_of a).refusal ≡ Ok tt) where
   -- the run behind the answer
   behind : RunBehind edges x l
   behind = run_behind edges x l (ap (λ (o : DecodeOutcome). (summary_of o.answer).refusal) (sym e) ∙ h)
@@ -221,7 +221,7 @@ module _ (edges : ℕ) (x : Shot) (l : DecodeLists) (a : Decoded) (left : Decode
       ∙ ap (stores_at x.settings.schedule x.graph) (sym total)
 
 -- and so of `decode`
-pub decode_stores_by_formula : (edges : ℕ) (x : Shot) (l : DecodeLists) (a : Decoded) (left : DecodeLists) → decode_outcome a left ≡ decode edges x l → (summary_of a).refusal ≡ Ok tt
+pub decode_stores_by_formula : (edges : ℕ) (x : Shot) (l : DecodeLists) (a : DecodeAnswer) (left : DecodeLists) → decode_outcome a left ≡ decode edges x l → (summary_of a).refusal ≡ Ok tt
     → (summary_of a).stores ≡ stores_at x.settings.schedule x.graph (summary_of a).total_iterations
 unfolding decode
 decode_stores_by_formula edges x l = stores_by_formula edges (with_order x (upto x.graph.checks)) l

@@ -8,7 +8,7 @@ use Rattle.numbers.specs.Floats.{zero⁺, is_finite}
 use Rattle.numbers.specs.Loops.{turns, part}
 use Rattle.graph_lists.specs.Graph.{Graph, own_incidence}
 use Rattle.relay_step.specs.Leg.{correction_weight}
-use Rattle.relay_calls.specs.declared.Decoded.{Decoded}
+use Rattle.relay_calls.specs.Answers.{DecodeAnswer}
 use Rattle.relay_calls.specs.declared.LegRecord.{LegRecord}
 use Rattle.relay_calls.specs.Records.{leg_record}
 use Rattle.relay_calls.specs.Decode.{Shot}
@@ -30,7 +30,7 @@ pub record Filed : Type 0 where
   pub correction : List ℕ
 
 -- of a shot, of what it was answered and of the lists that it left
-abbrev pub filed : Shot → Decoded → DecodeLists → Filed
+abbrev pub filed : Shot → DecodeAnswer → DecodeLists → Filed
 filed x answer l =
     record {
       graph = x.graph;

@@ -16,6 +16,7 @@ use Rattle.graph_messages.specs.Needs.{Walks, walked}
 use Rattle.relay_settings.specs.declared.Settings.{Settings}
 use Rattle.relay_settings.specs.declared.GammaSource.TheVariants.{Explicit}
 use Rattle.relay_calls.specs.declared.Decoded.{Decoded}
+use Rattle.relay_calls.specs.Answers.{DecodeAnswer}
 use Rattle.relay_settings.specs.Settings.{settings_fault}
 use Rattle.relay_gammas.specs.Gammas.{seed_fault}
 use Rattle.relay_step.specs.Leg.{Leg, hard_decision, correction_weight}
@@ -153,21 +154,21 @@ pub record Blank (n : ℕ) (rows : List ℕ) : Type 0 where
 -- ---- after the legs
 
 -- the answer, where an iteration writes `each` messages
-abbrev pub answer_of : ℕ → Ended → Decoded
+abbrev pub answer_of : ℕ → Ended → DecodeAnswer
 answer_of each (decoded run) = answered run (stores_in each (decoded run)) run.best_weight
-answer_of each (refused r) = Decoded.Refused r
+answer_of each (refused r) = Err r
 
 -- whether it is a refusal
-abbrev pub is_refused : Decoded → Bool
-is_refused (Decoded.Converged n t m w) = false
-is_refused (Decoded.NotConverged n t m) = false
-is_refused (Decoded.Refused r) = true
+abbrev pub is_refused : DecodeAnswer → Bool
+is_refused (Ok (Decoded.Converged n t m w)) = false
+is_refused (Ok (Decoded.NotConverged n t m)) = false
+is_refused (Err r) = true
 
 -- what the code answers, from a test's answer and what it kept
-abbrev pub answer_by : Answer → Option Float → ℕ → ℕ → ℕ → Decoded
-answer_by (Err r) best executed total stores = Decoded.Refused r
-answer_by (Ok _) none executed total stores = Decoded.NotConverged executed total stores
-answer_by (Ok _) (some weight) executed total stores = Decoded.Converged executed total stores weight
+abbrev pub answer_by : Answer → Option Float → ℕ → ℕ → ℕ → DecodeAnswer
+answer_by (Err r) best executed total stores = Err r
+answer_by (Ok _) none executed total stores = Ok (Decoded.NotConverged executed total stores)
+answer_by (Ok _) (some weight) executed total stores = Ok (Decoded.Converged executed total stores weight)
 
 -- the result lists, of num_legs + 1 legs
 pub record Results : Type 0 where

@@ -163,23 +163,23 @@ pub fn answer_run(
     executed_legs: usize,
     total_iterations: usize,
     each: u64,
-) -> Decoded
+) -> Result<Decoded, Refusal>
     requires { total_iterations * each ≤ max_stores }
     ensures { result ≡ answer_by (Ok tt) (best_of best) executed_legs total_iterations (total_iterations * each) }
 {
     let stores = total_iterations as u64 * each;
     match best {
-        Some(weight) => Decoded::Converged {
+        Some(weight) => Ok(Decoded::Converged {
             executed_legs,
             total_iterations,
             stores,
             weight,
-        },
-        None => Decoded::NotConverged {
+        }),
+        None => Ok(Decoded::NotConverged {
             executed_legs,
             total_iterations,
             stores,
-        },
+        }),
     }
 }
 
@@ -190,12 +190,12 @@ pub fn answer(
     executed_legs: usize,
     total_iterations: usize,
     each: u64,
-) -> Decoded
+) -> Result<Decoded, Refusal>
     requires { total_iterations * each ≤ max_stores }
     ensures { result ≡ answer_by a (best_of best) executed_legs total_iterations (total_iterations * each) }
 {
     match a {
-        Err(r) => Decoded::Refused(r),
+        Err(r) => Err(r),
         Ok(()) => answer_run(best, executed_legs, total_iterations, each),
     }
 }

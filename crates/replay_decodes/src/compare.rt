@@ -22,14 +22,16 @@ struct Outcome {
     weight: f64,
 }
 
-fn told(d: Decoded) -> Outcome {
+fn told(d: Result<Decoded, Refusal>) -> Outcome {
     match d {
-        Decoded::Converged {
-            executed_legs,
-            total_iterations,
-            stores,
-            weight,
-        } => Outcome {
+        Ok(
+            Decoded::Converged {
+                executed_legs,
+                total_iterations,
+                stores,
+                weight,
+            },
+        ) => Outcome {
             answer: Ok(()),
             converged: 1,
             executed: executed_legs,
@@ -37,11 +39,13 @@ fn told(d: Decoded) -> Outcome {
             stores: stores,
             weight: weight,
         },
-        Decoded::NotConverged {
-            executed_legs,
-            total_iterations,
-            stores,
-        } => Outcome {
+        Ok(
+            Decoded::NotConverged {
+                executed_legs,
+                total_iterations,
+                stores,
+            },
+        ) => Outcome {
             answer: Ok(()),
             converged: 0,
             executed: executed_legs,
@@ -49,7 +53,7 @@ fn told(d: Decoded) -> Outcome {
             stores: stores,
             weight: 0.0,
         },
-        Decoded::Refused(r) => Outcome {
+        Err(r) => Outcome {
             answer: Err(r),
             converged: 0,
             executed: 0,
@@ -181,7 +185,7 @@ fn same_legs(
 // Whether the line goes on with this answer and these lists, and then ends.
 pub(crate) fn same_decode(
     words: &mut Words<'_>,
-    d: Decoded,
+    d: Result<Decoded, Refusal>,
     num_legs: usize,
     size: Size,
     leg_state: &[u8; 64],

@@ -165,7 +165,7 @@ abbrev pub at2 : ℕ → Calls.DecodeOutcome
 at2 stores =
     let zeros = replicate 3 zero⁺ in
     let bits : List ℕ = 1 ∷ 0 ∷ 0 ∷ [] in
-    Calls.decode_outcome (Decoded.Converged 1 2 stores four)
+    Calls.decode_outcome (Ok (Decoded.Converged 1 2 stores four))
     (Calls.decode_lists (2 ∷ 9 ∷ []) (2 ∷ 9 ∷ []) (four ∷ nine ∷ []) (1 ∷ 0 ∷ 0 ∷ 9 ∷ 9 ∷ 9 ∷ []) bits (four⁻ ∷ four ∷ four ∷ []) zeros zeros
     (replicate 4 zero⁺)
     (replicate 4 zero⁺))

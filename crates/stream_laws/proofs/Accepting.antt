@@ -16,6 +16,7 @@ use Rattle.std.specs.Prelude.{Ok, Err}
 use Rattle.refusals.specs.Refusal.{number_of}
 use Rattle.relay_settings.specs.declared.Settings.{Settings}
 use Rattle.relay_calls.specs.declared.Decoded.{Decoded}
+use Rattle.relay_calls.specs.Answers.{DecodeAnswer}
 use Rattle.stream_grammar.specs.Stream.{Rec, rec, Sayable, AllSayable, more, mechanisms, is_settings, is_of_shot, kind_said, kind_good, time_good, claims_of, judge, left_over}
 use Rattle.stream_lines.specs.Lines.{shot_line, refused_line, stopped_line, unless_too_long}
 use Rattle.stream_reader.specs.Reading.{holding, payload_kept}
@@ -100,11 +101,11 @@ module _ (s : Session) (model : List ℕ) (h : Heard) (a : Agrees s model h) whe
       subst (λ (n : ℕ). Tells (taken (says s (text s.shots) line) model) (line_said h (text n))) a.number (says_tells (text s.shots) line)
 
   -- what a decode answered
-  answers_tells : (d : Decoded) (bits line : List ℕ) → Tells (taken (answers s d bits line) model) (shot_said h s.reader.offset d bits)
+  answers_tells : (d : DecodeAnswer) (bits line : List ℕ) → Tells (taken (answers s d bits line) model) (shot_said h s.reader.offset d bits)
   unfolding finds refuses
-  answers_tells (Decoded.Converged legs total stores weight) bits line = numbered_tells (λ n. unless_too_long bits (shot_line n true total legs bits)) line
-  answers_tells (Decoded.NotConverged legs total stores) bits line = numbered_tells (λ n. unless_too_long bits (shot_line n false total legs bits)) line
-  answers_tells (Decoded.Refused r) bits line =
+  answers_tells (Ok (Decoded.Converged legs total stores weight)) bits line = numbered_tells (λ n. unless_too_long bits (shot_line n true total legs bits)) line
+  answers_tells (Ok (Decoded.NotConverged legs total stores)) bits line = numbered_tells (λ n. unless_too_long bits (shot_line n false total legs bits)) line
+  answers_tells (Err r) bits line =
       told_by_test (is_of_shot (number_of r)) _ _ _ _ model (numbered_tells (λ n. refused_line n (number_of r)) line) (stops_tells s r model line)
 
   -- a model

@@ -12,6 +12,7 @@ use Rattle.refusals.specs.Refusal.{Answer}
 use Rattle.std.specs.Prelude.{Ok, Err}
 use Rattle.refusals.specs.Refusal.{number_of}
 use Rattle.relay_calls.specs.declared.Decoded.{Decoded}
+use Rattle.relay_calls.specs.Answers.{DecodeAnswer}
 use Rattle.stream_grammar.specs.Stream.{Rec, rec, is_settings, is_of_shot, legs, judge}
 use Rattle.stream_table.specs.Table.{model_fault, settings_answer}
 use Rattle.stream_session.specs.Text.{Heard, heard, nothing_heard, is_there, the_one, the_payload, the_record, ends_run, model_said, settings_said, line_said, shot_said, decode_of, payload_said, judged_said, record_said}
@@ -64,11 +65,11 @@ module _ (h : Heard) (a : Accepted h) (offset : ℕ) (p : List ℕ) (k : Heard) 
   after_line line e = let q : heard h.model h.settings ((h.shots + 1) % 2 ^ 64) ≡ k = cc in subst Accepted q (record { model = a.model; settings = a.settings })
 
   -- a shot
-  after_shot_lem : (d : Decoded) (bits : List ℕ) → (shot_said h offset d bits).next ≡ some k → Accepted k
+  after_shot_lem : (d : DecodeAnswer) (bits : List ℕ) → (shot_said h offset d bits).next ≡ some k → Accepted k
   unfolding ends_run
-  after_shot_lem (Decoded.Converged n t stores w) bits e = after_line _ e
-  after_shot_lem (Decoded.NotConverged n t stores) bits e = after_line _ e
-  after_shot_lem (Decoded.Refused r) bits e =
+  after_shot_lem (Ok (Decoded.Converged n t stores w)) bits e = after_line _ e
+  after_shot_lem (Ok (Decoded.NotConverged n t stores)) bits e = after_line _ e
+  after_shot_lem (Err r) bits e =
       ⊎_elim
       (λ (t : is_of_shot (number_of r) ≡ true). after_line _ (rw t at e))
       (λ (f : is_of_shot (number_of r) ≡ false). let n : none ≡ some k = rw f at e in let z : ◌≡◌ {A = ℕ} 0 1 = cc in absurd (omega arith))
@@ -113,12 +114,12 @@ module _ (h : Heard) (a : Accepted h) (offset : ℕ) (p : List ℕ) where
   abbrev pub after_shot : Heard
   after_shot = heard h.model h.settings ((h.shots + 1) % 2 ^ 64)
 
-  shot_on : is_there h.model ≡ true → is_there h.settings ≡ true → (d : Decoded) (bits : List ℕ)
+  shot_on : is_there h.model ≡ true → is_there h.settings ≡ true → (d : DecodeAnswer) (bits : List ℕ)
       → (decode_of (the_payload h.model) (the_record h.settings) p).answer ≡ d → (shot_said h offset d bits).next ≡ some after_shot
   unfolding line_said decode_of
-  shot_on m s (Decoded.Converged n t stores w) bits e = refl
-  shot_on m s (Decoded.NotConverged n t stores) bits e = refl
-  shot_on m s (Decoded.Refused r) bits e =
+  shot_on m s (Ok (Decoded.Converged n t stores w)) bits e = refl
+  shot_on m s (Ok (Decoded.NotConverged n t stores)) bits e = refl
+  shot_on m s (Err r) bits e =
       let t = a.settings (the_record h.settings) (there _ h.settings s) in
       rw (shot_refused (the_payload h.model) (the_record h.settings) p r (a.model (the_payload h.model) (there _ h.model m)) t.0 t.1 e)
 

@@ -17,6 +17,8 @@ use Rattle.graph.proofs.Theorems.{sparse_lists}
 use Rattle.relay_settings.specs.declared.Settings.{Settings}
 use Rattle.relay_stores.specs.Stores.{stores_at}
 use Rattle.relay_calls.specs.declared.Decoded.{Decoded}
+use Rattle.relay_calls.specs.Answers.{DecodeAnswer}
+use Rattle.std.specs.Prelude.{Err}
 use Rattle.relay_calls.specs.Decode.{Shot, shot}
 use Rattle.relay_calls.specs.Calls.{DecodeLists, DecodeOutcome, decode_outcome, decode, Summary, summary_of, summary}
 use Rattle.relay_laws.specs.BestOfLegs.{filed, BestOfLegs}
@@ -73,19 +75,19 @@ module _ (model : List ℕ) (t : Settings) (p : List ℕ) (ok : model_fault mode
   decoding_is correction = rw in_room
 
   -- it is the best of its legs
-  leaves_best : (correction : List ℕ) (d : Decoded) → (leaves correction).answer ≡ d → (summary_of d).refusal ≡ Ok tt
+  leaves_best : (correction : List ℕ) (d : DecodeAnswer) → (leaves correction).answer ≡ d → (summary_of d).refusal ≡ Ok tt
       → BestOfLegs (filed (shot_over (model_graph model)) d (leaves correction).left)
   leaves_best correction d e h =
       subst (λ (g : Graph). BestOfLegs (filed (shot_over g) d (leaves correction).left)) graph_is
       (decode_best_of_legs (counts_read model).edges (shot_over built_graph) (lent correction) d (leaves correction).left
-      (ap (λ (a : Decoded). decode_outcome a (leaves correction).left) (sym e)) h)
+      (ap (λ (a : DecodeAnswer). decode_outcome a (leaves correction).left) (sym e)) h)
 
   -- and its stores are the formula's
-  leaves_stores : (correction : List ℕ) (d : Decoded) → (leaves correction).answer ≡ d → (summary_of d).refusal ≡ Ok tt
+  leaves_stores : (correction : List ℕ) (d : DecodeAnswer) → (leaves correction).answer ≡ d → (summary_of d).refusal ≡ Ok tt
       → (summary_of d).stores ≡ stores_at t.schedule (model_graph model) (summary_of d).total_iterations
   leaves_stores correction d e h =
       decode_stores_by_formula (counts_read model).edges (shot_over built_graph) (lent correction) d (leaves correction).left
-      (ap (λ (a : Decoded). decode_outcome a (leaves correction).left) (sym e)) h
+      (ap (λ (a : DecodeAnswer). decode_outcome a (leaves correction).left) (sym e)) h
       ∙ ap (λ (g : Graph). stores_at t.schedule g (summary_of d).total_iterations) graph_is
 
 -- ---- its line
@@ -111,7 +113,7 @@ module _ (h : Heard) (a : Accepted h) (offset : ℕ) (p : List ℕ) (m : is_ther
   after = leaves model (settings_of settings) p accepted (lent_numbers 256 (mechanisms model))
 
   -- of an answer, the line that is said of it
-  line_of : (d : Decoded) (converged : Bool) (total legs stores : ℕ) (weight : Option Float) (text : List ℕ) → summary_of d ≡ summary (Ok tt) converged legs total stores weight
+  line_of : (d : DecodeAnswer) (converged : Bool) (total legs stores : ℕ) (weight : Option Float) (text : List ℕ) → summary_of d ≡ summary (Ok tt) converged legs total stores weight
       → text ≡ unless_too_long after.left.correction (shot_line h.shots converged total legs after.left.correction)
       → BestOfLegs (filed (shot_over model (settings_of settings) p accepted (model_graph model)) d after.left) → after.answer ≡ d → LineHolds h.shots model settings p text
   line_of d converged total legs stores weight text e q b g =
@@ -157,13 +159,13 @@ module _ (h : Heard) (a : Accepted h) (offset : ℕ) (p : List ℕ) (m : is_ther
   abbrev Line : List ℕ → Type 0
   Line text = LineHolds h.shots model settings p text ⊎ ((code : ℕ) × (text ≡ refused_line h.shots code))
 
-  by_answer : (d : Decoded) → after.answer ≡ d → (decode_of model settings p).answer ≡ d → Line (shot_said h offset d after.left.correction).text
+  by_answer : (d : DecodeAnswer) → after.answer ≡ d → (decode_of model settings p).answer ≡ d → Line (shot_said h offset d after.left.correction).text
   unfolding line_said decode_of
-  by_answer (Decoded.Converged n t k w) e q =
-      inl (line_of (Decoded.Converged n t k w) true t n k (some w) _ refl refl (leaves_best model (settings_of settings) p accepted (lent_numbers 256 (mechanisms model)) _ e refl) e)
-  by_answer (Decoded.NotConverged n t k) e q =
-      inl (line_of (Decoded.NotConverged n t k) false t n k none _ refl refl (leaves_best model (settings_of settings) p accepted (lent_numbers 256 (mechanisms model)) _ e refl) e)
-  by_answer (Decoded.Refused r) e q =
+  by_answer (Ok (Decoded.Converged n t k w)) e q =
+      inl (line_of (Ok (Decoded.Converged n t k w)) true t n k (some w) _ refl refl (leaves_best model (settings_of settings) p accepted (lent_numbers 256 (mechanisms model)) _ e refl) e)
+  by_answer (Ok (Decoded.NotConverged n t k)) e q =
+      inl (line_of (Ok (Decoded.NotConverged n t k)) false t n k none _ refl refl (leaves_best model (settings_of settings) p accepted (lent_numbers 256 (mechanisms model)) _ e refl) e)
+  by_answer (Err r) e q =
       let t = a.settings settings (there _ h.settings s) in
       inr (number_of r, rw (shot_refused model settings p r accepted t.0 t.1 q))
 

@@ -15,6 +15,7 @@ use Rattle.refusals.specs.Refusal.{Answer}
 use Rattle.std.specs.Prelude.{Ok, Err}
 use Rattle.refusals.specs.Refusal.{number_of}
 use Rattle.relay_calls.specs.declared.Decoded.{Decoded}
+use Rattle.relay_calls.specs.Answers.{DecodeAnswer}
 use Rattle.stream_reader.specs.declared.Reader.{Reader}
 use Rattle.stream_grammar.specs.Stream.{Rec, Sayable, length_said, mechanisms, is_settings, is_of_shot, length_good, room_good, judge}
 use Rattle.stream_reader.specs.Reading.{holding, payload_kept, verdict}
@@ -40,11 +41,11 @@ unfolding stops
 stops_stays s r line = refl
 
 -- what a decode answered
-answers_stays : (s : Session) (d : Decoded) (bits line : List ℕ) → (answers s d bits line).session.reader ≡ s.reader
+answers_stays : (s : Session) (d : DecodeAnswer) (bits line : List ℕ) → (answers s d bits line).session.reader ≡ s.reader
 unfolding finds says refuses
-answers_stays s (Decoded.Converged legs total stores weight) bits line = refl
-answers_stays s (Decoded.NotConverged legs total stores) bits line = refl
-answers_stays s (Decoded.Refused r) bits line = either_stays (λ (t : Told). t.session.reader) (is_of_shot (number_of r)) _ _ s.reader refl (stops_stays s r line)
+answers_stays s (Ok (Decoded.Converged legs total stores weight)) bits line = refl
+answers_stays s (Ok (Decoded.NotConverged legs total stores)) bits line = refl
+answers_stays s (Err r) bits line = either_stays (λ (t : Told). t.session.reader) (is_of_shot (number_of r)) _ _ s.reader refl (stops_stays s r line)
 
 -- settings
 settings_stays : (s : Session) (a : Answer) (p line : List ℕ) → (settings_taken s a p line).session.reader ≡ s.reader

@@ -34,7 +34,6 @@ use Rattle.relay_stores.specs.Stores.{degree, squared_degrees, stores_each, most
 use Rattle.relay_stores.proofs.Squares.{squares_few}
 use Rattle.relay_settings.specs.Settings.{source_fault, settings_fault, check_settings}
 use Rattle.relay_gammas.specs.Gammas.{seed_fault}
-use Rattle.relay_calls.specs.declared.Decoded.{Decoded}
 use Rattle.relay_calls.specs.Decode.{Shot, Run, Ended, decoded, refused, Progress, running, finished, leg_judged, after_leg, legs_from, decode_legs, decode_stores}
 use Rattle.relay_calls.specs.Calls.{byte_fault, syndrome_fault, DecodeLists, decode_lists_fit, decode_fault, answered, after_legs, after_decode_tests, decode_in_order, with_order, decode}
 use Rattle.relay_calls.proofs.Named.{index_passes}
@@ -109,20 +108,20 @@ decode_of_lem x r e = legs_of_lem x _ (running _) 0 (λ y q. let z : ◌≡◌ {
 
 -- what is answered past the tests
 ran_of_lem : (edges : ℕ) (x : Shot) (w : Ended) (stores : ℕ) (l : DecodeLists) → ((r : Refusal) → w ≡ refused r → is_of_shot (number_of r) ≡ true)
-    → (r : Refusal) → (after_legs edges x w stores l).answer ≡ Decoded.Refused r → is_of_shot (number_of r) ≡ true
+    → (r : Refusal) → (after_legs edges x w stores l).answer ≡ Err r → is_of_shot (number_of r) ≡ true
 ran_of_lem edges x (decoded run) stores l f r e = answered_not run.best_weight e
   where
-    answered_not : (w : Option Float) → answered run stores w ≡ Decoded.Refused r → is_of_shot (number_of r) ≡ true
+    answered_not : (w : Option Float) → answered run stores w ≡ Err r → is_of_shot (number_of r) ≡ true
     answered_not none q = let z : ◌≡◌ {A = ℕ} 0 1 = cc in absurd (omega arith)
     answered_not (some weight) q = let z : ◌≡◌ {A = ℕ} 0 1 = cc in absurd (omega arith)
 ran_of_lem edges x (refused y) stores l f r e = let q : y ≡ r = cc in f r (ap refused q)
 
 -- a decode, whose tests refuse with those alone
-tested_of : (edges : ℕ) (x : Shot) (l : DecodeLists) → OfShot (decode_fault edges x l) → (r : Refusal) → (decode_in_order edges x l).answer ≡ Decoded.Refused r → is_of_shot (number_of r) ≡ true
+tested_of : (edges : ℕ) (x : Shot) (l : DecodeLists) → OfShot (decode_fault edges x l) → (r : Refusal) → (decode_in_order edges x l).answer ≡ Err r → is_of_shot (number_of r) ≡ true
 unfolding decode_in_order
 tested_of edges x l f r e = by (decode_fault edges x l) f e
   where
-    by : (a : Answer) → OfShot a → (after_decode_tests a (after_legs edges x (decode_legs by_place x) (decode_stores by_place x) l) l).answer ≡ Decoded.Refused r → is_of_shot (number_of r) ≡ true
+    by : (a : Answer) → OfShot a → (after_decode_tests a (after_legs edges x (decode_legs by_place x) (decode_stores by_place x) l) l).answer ≡ Err r → is_of_shot (number_of r) ≡ true
     by (Ok _) g q = ran_of_lem edges x (decode_legs by_place x) (decode_stores by_place x) l (decode_of_lem x) r q
     by (Err y) g q = let h : y ≡ r = cc in g r (ap Err h)
 
@@ -216,13 +215,13 @@ module _ (edges : ℕ) (x : Shot) (l : DecodeLists) (few : edges ≤ 512) (legs_
       told = graph_told edges x.prior x.graph g
 
   -- so a decode in index order is refused with 20, 21, 27 or 30
-  decoded_of : decode_lists_fit edges x l ≡ true → (r : Refusal) → (decode edges x l).answer ≡ Decoded.Refused r → is_of_shot (number_of r) ≡ true
+  decoded_of : decode_lists_fit edges x l ≡ true → (r : Refusal) → (decode edges x l).answer ≡ Err r → is_of_shot (number_of r) ≡ true
   unfolding decode
   decoded_of fits = tested_of edges (with_order x (upto x.graph.checks)) l (tests_of fits)
 
 -- a shot over a model and settings that the table accepts, whose legs find room
 pub shot_refused : (model : List ℕ) (q : Rec) (p : List ℕ) (r : Refusal) → model_fault model ≡ Ok tt → settings_answer q.kind q.payload ≡ Ok tt → legs q.payload ≤ 16
-    → (shot_decoded model (settings_of q) p (lent_numbers 256 (mechanisms model))).answer ≡ Decoded.Refused r → is_of_shot (number_of r) ≡ true
+    → (shot_decoded model (settings_of q) p (lent_numbers 256 (mechanisms model))).answer ≡ Err r → is_of_shot (number_of r) ≡ true
 unfolding shot_decoded model_fault found decoded_from built_from counts_read settings_read
 shot_refused model q p r m s l e =
     let c = counts_read model in

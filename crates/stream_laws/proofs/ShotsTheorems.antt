@@ -9,7 +9,7 @@ use lib.ListN.{length, take}
 use Rattle.refusals.specs.declared.Refusal.{Refusal}
 use Rattle.std.specs.Prelude.{Ok}
 use Rattle.refusals.specs.Refusal.{number_of}
-use Rattle.relay_calls.specs.declared.Decoded.TheVariants as Decoded
+use Rattle.std.specs.Prelude.{Err}
 use Rattle.stream_grammar.specs.Stream.{AreBytes, Rec, AllSayable, stream, is_complete, is_settings, judge, is_of_shot}
 use Rattle.stream_grammar.specs.Fields.{settings_read}
 use Rattle.relay_settings.specs.Settings.{source_fault, settings_fault, check_settings}
@@ -84,7 +84,7 @@ keeps_the_model = kept_model
 -- refused with 20, 21, 27 or 30 alone
 pub shot_refusals : (hasModel hasSettings : Bool) (model : List ℕ) (settings : Rec) (p : List ℕ) (r : Refusal) → model_fault model ≡ Ok tt
     → is_settings settings.kind ≡ true → judge hasModel hasSettings settings.kind settings.payload ≡ Ok tt → settings_answer settings.kind settings.payload ≡ Ok tt
-    → (decode_of model settings p).answer ≡ Decoded.Refused r → is_of_shot (number_of r) ≡ true
+    → (decode_of model settings p).answer ≡ Err r → is_of_shot (number_of r) ≡ true
 unfolding decode_of
 shot_refusals hasModel hasSettings model settings p r m k j s e =
     shot_refused model settings p r m s (settings_let_through hasModel hasSettings settings.payload settings.kind k j).1 e

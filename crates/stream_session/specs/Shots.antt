@@ -10,6 +10,7 @@ use Rattle.refusals.specs.Refusal.{number_of}
 use Rattle.relay_settings.specs.declared.Settings.{Settings}
 use Rattle.relay_settings.specs.Settings.{published}
 use Rattle.relay_calls.specs.declared.Decoded.{Decoded}
+use Rattle.relay_calls.specs.Answers.{DecodeAnswer}
 use Rattle.stream_reader.specs.declared.Reader.{Reader}
 use Rattle.stream_grammar.specs.Stream.{mechanisms, is_settings, is_of_shot}
 use Rattle.stream_reader.specs.Reading.{fresh, held, pushed, is_whole, verdict, at_end, payload_kept}
@@ -63,10 +64,10 @@ unfoldable pub finds : Session → Bool → ℕ → ℕ → List ℕ → List �
 finds s converged total legs bits line = says s (unless_too_long bits (shot_line s.shots converged total legs bits)) line
 
 -- what a decode answered, with its correction
-abbrev pub answers : Session → Decoded → List ℕ → List ℕ → Told
-answers s (Decoded.Converged legs total stores weight) bits line = finds s true total legs bits line
-answers s (Decoded.NotConverged legs total stores) bits line = finds s false total legs bits line
-answers s (Decoded.Refused r) bits line = refuses s r line
+abbrev pub answers : Session → DecodeAnswer → List ℕ → List ℕ → Told
+answers s (Ok (Decoded.Converged legs total stores weight)) bits line = finds s true total legs bits line
+answers s (Ok (Decoded.NotConverged legs total stores)) bits line = finds s false total legs bits line
+answers s (Err r) bits line = refuses s r line
 
 -- a shot's answer and its correction
 unfoldable pub tells : Session → Decoding → List ℕ → Told

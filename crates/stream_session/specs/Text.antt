@@ -10,6 +10,7 @@ use Rattle.std.specs.Prelude.{Ok, Err}
 use Rattle.refusals.specs.Refusal.{number_of}
 use Rattle.relay_settings.specs.declared.Settings.{Settings}
 use Rattle.relay_calls.specs.declared.Decoded.{Decoded}
+use Rattle.relay_calls.specs.Answers.{DecodeAnswer}
 use Rattle.stream_grammar.specs.Stream.{Rec, rec, mechanisms, is_settings, judge, left_over, is_of_shot}
 use Rattle.stream_grammar.specs.Fields.{settings_read}
 use Rattle.stream_lines.specs.Lines.{shot_line, refused_line, stopped_line, unless_too_long}
@@ -82,10 +83,10 @@ unfoldable pub line_said : Heard → List ℕ → Said
 line_said h line = said line (some (heard h.model h.settings ((h.shots + 1) % 2 ^ 64)))
 
 -- a shot, which the decode answers so, with these bits
-abbrev pub shot_said : Heard → ℕ → Decoded → List ℕ → Said
-shot_said h offset (Decoded.Converged legs total stores weight) bits = line_said h (unless_too_long bits (shot_line h.shots true total legs bits))
-shot_said h offset (Decoded.NotConverged legs total stores) bits = line_said h (unless_too_long bits (shot_line h.shots false total legs bits))
-shot_said h offset (Decoded.Refused r) bits = cond (is_of_shot (number_of r)) (line_said h (refused_line h.shots (number_of r))) (ends_run offset r)
+abbrev pub shot_said : Heard → ℕ → DecodeAnswer → List ℕ → Said
+shot_said h offset (Ok (Decoded.Converged legs total stores weight)) bits = line_said h (unless_too_long bits (shot_line h.shots true total legs bits))
+shot_said h offset (Ok (Decoded.NotConverged legs total stores)) bits = line_said h (unless_too_long bits (shot_line h.shots false total legs bits))
+shot_said h offset (Err r) bits = cond (is_of_shot (number_of r)) (line_said h (refused_line h.shots (number_of r))) (ends_run offset r)
 
 -- the decode of a shot over a model, both by their payloads, with the settings of a record
 unfoldable pub decode_of : List ℕ → Rec → List ℕ → Decoding

@@ -81,21 +81,30 @@ fn finds(
 }
 
 // What a decode answered, with its correction.
-pub(crate) fn answered(s: Session, d: Decoded, bits: &[u8], line: &mut [u8; ROOM_LINE]) -> Session
+pub(crate) fn answered(
+    s: Session,
+    d: Result<Decoded, Refusal>,
+    bits: &[u8],
+    line: &mut [u8; ROOM_LINE],
+) -> Session
     ensures { told result line.new ≡ answers s d bits.now line.old }
 {
     match d {
-        Decoded::Converged {
-            executed_legs,
-            total_iterations,
-            stores: _,
-            weight: _,
-        } => finds(s, true, total_iterations, executed_legs, bits, line),
-        Decoded::NotConverged {
-            executed_legs,
-            total_iterations,
-            stores: _,
-        } => finds(s, false, total_iterations, executed_legs, bits, line),
-        Decoded::Refused(r) => refused(s, r, line),
+        Ok(
+            Decoded::Converged {
+                executed_legs,
+                total_iterations,
+                stores: _,
+                weight: _,
+            },
+        ) => finds(s, true, total_iterations, executed_legs, bits, line),
+        Ok(
+            Decoded::NotConverged {
+                executed_legs,
+                total_iterations,
+                stores: _,
+            },
+        ) => finds(s, false, total_iterations, executed_legs, bits, line),
+        Err(r) => refused(s, r, line),
     }
 }

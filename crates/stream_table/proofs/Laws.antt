@@ -13,7 +13,7 @@ use Rattle.refusals.specs.Tests.{unless, or_else}
 use Rattle.graph_lists.specs.Graph.{Graph}
 use Rattle.graph_lists.specs.Model.{build_outcome, build_sparse}
 use Rattle.relay_settings.specs.declared.Settings.{Settings}
-use Rattle.relay_calls.specs.declared.Decoded.{Decoded}
+use Rattle.relay_calls.specs.Answers.{DecodeAnswer}
 use Rattle.relay_calls.specs.Calls as Calls
 use Rattle.stream_grammar.specs.declared.Counts.{Counts}
 use Rattle.stream_grammar.specs.Stream.{syndrome, seed}
@@ -52,7 +52,7 @@ module _ (c : Counts) (p : List ℕ) (w : Bool) (e : c ≡ counts_read p) (f : w
     unfolding shot_decoded
     shot_within d some s h a b q = rw (← e, sym f ∙ h, q, a, b)
 
-    pub shot_beyond : w ≡ false → decoding (Decoded.Refused BeyondRoom) correction ≡ shot_decoded p settings shot correction
+    pub shot_beyond : w ≡ false → decoding (Err BeyondRoom) correction ≡ shot_decoded p settings shot correction
     unfolding shot_decoded
     shot_beyond h = rw (← e, sym f ∙ h)
 
@@ -68,7 +68,7 @@ module _ (e : ℕ) (p : List ℕ) (l : ModelLists) (priors : List Float) (offset
   built_read a h r f = subst (λ (r : ModelLists). build_outcome a h ≡ build_sparse e r.priors r.detector_offsets r.detectors g) r f
 
   -- and a shot decoded over it
-  pub decoded_built : (settings : Settings) (syndrome : List ℕ) (seed : ℕ) (lists : Calls.DecodeLists) (a : Answer) (h : Graph) (d : Decoded) (after : Calls.DecodeLists)
+  pub decoded_built : (settings : Settings) (syndrome : List ℕ) (seed : ℕ) (lists : Calls.DecodeLists) (a : Answer) (h : Graph) (d : DecodeAnswer) (after : Calls.DecodeLists)
       → read ≡ model_read p l
       → build_outcome a h ≡ build_sparse e priors offsets detectors g
       → Calls.decode_outcome d after ≡ Calls.decode e (record { graph = h; prior = priors; settings = settings; gammas = []; order = []; syndrome = syndrome; seed = seed }) lists

@@ -10,7 +10,8 @@ use Rattle.graph_lists.specs.Graph.{Graph, graph}
 use Rattle.graph_lists.specs.Model.{BuildOutcome, build_sparse}
 use Rattle.relay_settings.specs.declared.Settings.{Settings}
 use Rattle.relay_settings.specs.Settings.{check_settings}
-use Rattle.relay_calls.specs.declared.Decoded.{Decoded}
+use Rattle.relay_calls.specs.Answers.{DecodeAnswer}
+use Rattle.std.specs.Prelude.{Err}
 use Rattle.relay_calls.specs.Calls as Calls
 use Rattle.stream_grammar.specs.declared.Counts.{Counts}
 use Rattle.stream_grammar.specs.Stream.{counts_within, seed, syndrome}
@@ -82,10 +83,10 @@ decoded_from edges model settings syndrome seed l g lists =
 
 -- what a shot is answered, and its correction
 pub record Decoding : Type 0 where
-  pub answer : Decoded
+  pub answer : DecodeAnswer
   pub correction : List ℕ
 
-abbrev pub decoding : Decoded → List ℕ → Decoding
+abbrev pub decoding : DecodeAnswer → List ℕ → Decoding
 decoding d correction = record { answer = d; correction = correction }
 
 -- what a decode leaves of interest
@@ -98,4 +99,4 @@ shot_decoded model settings p correction =
     let c = counts_read model in
     cond (within c)
     (found (decoded_from c.edges model settings (syndrome p) (seed p) (model_room c) (graph_room c) (shot_room c correction)))
-    (decoding (Decoded.Refused BeyondRoom) correction)
+    (decoding (Err BeyondRoom) correction)

@@ -151,7 +151,7 @@ fn decoded(
     bias: &mut [f64],
     c_to_v: &mut [f64],
     v_to_c: &mut [f64],
-) -> Decoded
+) -> Result<Decoded, Refusal>
     ensures { let g = graph size.checks size.mechanisms check_var.old
         check_offset.old var_check.old var_message.old var_offset.old in
         let before = decode_lists leg_state.old leg_iterations.old leg_weight.old rows.old
@@ -207,7 +207,7 @@ fn decoded_within(
     syndrome: &[u8],
     seed: u64,
     correction: &mut [u8],
-) -> Decoded
+) -> Result<Decoded, Refusal>
     requires { (c.checks ≤ room_checks) × (c.mechanisms ≤ room_mechanisms) × (c.edges ≤ room_edges) }
     ensures { decoding result correction.new
         ≡ found (decoded_from c.edges model.now settings syndrome.now seed (model_room c) (graph_room c)
@@ -273,7 +273,7 @@ pub fn decode_shot(
     settings: Settings,
     payload: &[u8],
     correction: &mut [u8],
-) -> Decoded
+) -> Result<Decoded, Refusal>
     ensures { decoding result correction.new ≡ shot_decoded model.now settings payload.now correction.old }
 {
     let c = stream_reader::read_counts(model);
@@ -282,5 +282,5 @@ pub fn decode_shot(
         let seed = stream_reader::read_seed(payload);
         return decoded_within(c, settings, model, &payload[from..], seed, correction);
     }
-    Decoded::Refused(Refusal::BeyondRoom)
+    Err(Refusal::BeyondRoom)
 }

@@ -1,5 +1,7 @@
 -- `relay::decode` meets its contract. A refused call leaves the lists; else the tests told all that the legs ask, and the index order passes 23 and 24.
 -- Assumes nothing.
+use mathlib.Core.Path.{refl}
+use Rattle.std.proofs.lemmas.Result.{err_from_is_err_and}
 use native.Mathlib.Omega.{arith}
 use Rattle.relay_decode.proofs.Faults.{index_refused, index_told, index_ran}
 use Rattle.relay.proofs.decode.Goals as goal
@@ -21,8 +23,7 @@ decode_counted-requires c =
       c_to_v = c.args.c_to_v.now;
       v_to_c = c.args.v_to_c.now;
     }) _
-    c.shot_fault-a.ensures
-    c.in-Ok.is in
+    c.in_ok-shot_fault.ensures refl in
     record {
       syndrome_len_bound = omega (arith, w.checks_many, w.checks_few);
       reads = w.reads;
@@ -32,9 +33,10 @@ decode_counted-requires c =
       check_var_len_bound = w.edges_few;
     }
 
-pub returns-in-Err : goal.returns-in-Err
-returns-in-Err c =
-    index_refused c.args.size.edges c.args.size.checks c.args.size.mechanisms
+pub returns-in_err-shot_fault : goal.returns-in_err-shot_fault
+returns-in_err-shot_fault c =
+    let p = err_from_is_err_and c.from_residual.result c.from_residual.ensures.1 in
+    rw (p.1, p.2) (index_refused c.args.size.edges c.args.size.checks c.args.size.mechanisms
     c.args.settings c.args.gammas.now c.args.seed c.args.syndrome.now
     c.args.priors.now c.args.check_var.now c.args.check_offset.now c.args.var_check.now c.args.var_message.now c.args.var_offset.now
     (record {
@@ -49,11 +51,10 @@ returns-in-Err c =
       c_to_v = c.args.c_to_v.now;
       v_to_c = c.args.v_to_c.now;
     }) _ _
-    c.shot_fault-a.ensures
-    c.in-Err.is
+    c.in_err-shot_fault.ensures refl)
 
-pub returns-in-Ok : goal.returns-in-Ok
-returns-in-Ok c =
+pub returns : goal.returns
+returns c =
     index_ran c.args.size.edges c.args.size.checks c.args.size.mechanisms
     c.args.settings c.args.gammas.now c.args.seed c.args.syndrome.now
     c.args.priors.now c.args.check_var.now c.args.check_offset.now c.args.var_check.now c.args.var_message.now c.args.var_offset.now
@@ -69,6 +70,5 @@ returns-in-Ok c =
       c_to_v = c.args.c_to_v.now;
       v_to_c = c.args.v_to_c.now;
     }) _ _
-    c.shot_fault-a.ensures
-    c.in-Ok.is
+    c.in_ok-shot_fault.ensures refl
     c.decode_counted.ensures

@@ -1,5 +1,7 @@
 -- `relay::decode_in_order` meets its contract. A refused call leaves the lists; else the tests told all that the legs ask, and the legs read no more of the graph than the four lists.
 -- Assumes nothing.
+use mathlib.Core.Path.{refl}
+use Rattle.std.proofs.lemmas.Result.{err_from_is_err_and}
 use Rattle.relay_decode.proofs.Faults.{in_order_refused, in_order_told, in_order_ran}
 use Rattle.relay.proofs.decode_in_order.Goals as goal
 
@@ -19,8 +21,7 @@ decode_taken-requires c =
       c_to_v = c.args.c_to_v.now;
       v_to_c = c.args.v_to_c.now;
     }) _
-    c.taken_fault-a.ensures
-    c.in-Ok.is in
+    c.in_ok-taken_fault.ensures refl in
     record {
       reads = w.reads;
       legs_fit = w.legs_fit_lem;
@@ -29,9 +30,10 @@ decode_taken-requires c =
       check_var_len_bound = w.edges_few;
     }
 
-pub returns-in-Err : goal.returns-in-Err
-returns-in-Err c =
-    in_order_refused c.args.size.edges c.args.size.checks c.args.size.mechanisms
+pub returns-in_err-taken_fault : goal.returns-in_err-taken_fault
+returns-in_err-taken_fault c =
+    let p = err_from_is_err_and c.from_residual.result c.from_residual.ensures.1 in
+    rw (p.1, p.2) (in_order_refused c.args.size.edges c.args.size.checks c.args.size.mechanisms
     c.args.settings c.args.gammas.now c.args.seed c.args.syndrome.now
     c.args.priors.now c.args.check_var.now
     c.args.check_offset.now c.args.var_check.now c.args.var_message.now
@@ -46,11 +48,10 @@ returns-in-Err c =
       bias = c.args.bias.now;
       c_to_v = c.args.c_to_v.now;
       v_to_c = c.args.v_to_c.now;
-    }) _ _ c.taken_fault-a.ensures
-    c.in-Err.is
+    }) _ _ c.in_err-taken_fault.ensures refl)
 
-pub returns-in-Ok : goal.returns-in-Ok
-returns-in-Ok c =
+pub returns : goal.returns
+returns c =
     in_order_ran c.args.size.edges c.args.size.checks c.args.size.mechanisms
     c.args.settings c.args.gammas.now c.args.seed c.args.syndrome.now
     c.args.priors.now c.args.check_var.now
@@ -66,5 +67,5 @@ returns-in-Ok c =
       bias = c.args.bias.now;
       c_to_v = c.args.c_to_v.now;
       v_to_c = c.args.v_to_c.now;
-    }) _ _ c.taken_fault-a.ensures c.in-Ok.is
+    }) _ _ c.in_ok-taken_fault.ensures refl
     c.decode_taken.ensures

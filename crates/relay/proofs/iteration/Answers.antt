@@ -2,7 +2,7 @@
 -- than the four lists.
 -- Assumes nothing.
 use Rattle.std.proofs.lemmas.Result.{err_from_is_err_and}
-use Rattle.std.proofs.Common.{rules}
+use Rattle.std.proofs.Common.{rules, sym, ◌∙◌}
 use Rattle.relay_step.specs.Step.{state}
 use Rattle.relay_calls.specs.Calls.{step_lists}
 use Rattle.relay_calls.proofs.Calls.{passed, iteration_refused, iteration_ran}
@@ -21,9 +21,9 @@ stepped-requires c =
       per_edge = record { to_variables = t.c_many; to_checks = t.v_many };
     }
 
-pub returns-in_err-fault : goal.returns-in_err-fault
-returns-in_err-fault c = let p = err_from_is_err_and c.from_residual.result c.from_residual.ensures.1 in rw (p.1, p.2)
-    (iteration_refused _ _ _ _ _ _ _ _ _ _ _ _ _ _ (step_lists (state c.args.c_to_v.now c.args.v_to_c.now c.args.posterior.now) c.args.bias.now) _ _ c.in_err-fault.ensures)
+pub returns-in_err-tested : goal.returns-in_err-tested
+returns-in_err-tested c = let p = err_from_is_err_and c.from_residual.result c.from_residual.ensures.1 in rw (p.1, p.2)
+    (iteration_refused _ _ _ _ _ _ _ _ _ _ _ _ _ _ (step_lists (state c.args.c_to_v.now c.args.v_to_c.now c.args.posterior.now) c.args.bias.now) _ _ (sym c.in_err-tested.was ∙ c.fault-tested.ensures))
 
 pub returns : goal.returns
-returns c = iteration_ran _ _ _ _ _ _ _ _ _ _ _ _ _ _ (step_lists (state c.args.c_to_v.now c.args.v_to_c.now c.args.posterior.now) c.args.bias.now) _ _ c.in_ok-fault.ensures c.stepped.ensures
+returns c = iteration_ran _ _ _ _ _ _ _ _ _ _ _ _ _ _ (step_lists (state c.args.c_to_v.now c.args.v_to_c.now c.args.posterior.now) c.args.bias.now) _ _ (sym c.in_ok-tested.was ∙ c.fault-tested.ensures) c.stepped.ensures
