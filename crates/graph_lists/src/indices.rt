@@ -1,5 +1,5 @@
-// Lists of indices: an entry read and set, all zeroed, and all numbered.
-ghost use Rattle.std.specs.Prelude.{◌≡◌, ◌<◌, length, get_or, set, replicate};
+// Lists of indices: an entry read and set, and all numbered.
+ghost use Rattle.std.specs.Prelude.{◌≡◌, ◌<◌, length, get_or, set};
 ghost use Rattle.numbers.specs.Loops.{upto};
 
 // An entry.
@@ -26,13 +26,6 @@ pub fn put_within(xs: &mut [u32], i: usize, v: usize)
     if i < xs.len() {
         xs[i] = v as u32;
     }
-}
-
-// All zeroed.
-pub fn clear(xs: &mut [u32])
-    ensures { xs.new ≡ replicate (length xs.old) 0 }
-{
-    xs.fill(0);
 }
 
 // Each its own place: 0, 1, 2 and so on.

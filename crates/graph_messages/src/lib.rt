@@ -169,14 +169,6 @@ pub fn from_variables(check_var: &[u32], values: &[f64], v_to_c: &mut [f64])
     }
 }
 
-// One list written over another.
-pub fn copy(from: &[f64], to: &mut [f64])
-    requires { length to.old ≡ length from.now }
-    ensures { to.new ≡ from.now }
-{
-    to.copy_from_slice(from);
-}
-
 // 30 for one mechanism.
 fn value_fault(v: usize, value: f64) -> Result<(), Refusal>
     ensures { result ≡ unless (is_finite value) (NonFinite v) }

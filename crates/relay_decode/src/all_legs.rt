@@ -12,11 +12,10 @@ ghost use Rattle.relay_record.specs.Kept.{shot_of, Reads, answer_of, is_refused,
 ghost use Rattle.graph_messages.specs.Needs.{PerEdge};
 
 use graph_messages::rows::Rows;
-use graph_messages::{clear, copy, first_not_finite};
+use graph_messages::{clear, first_not_finite};
 use refusals::Refusal;
 use relay_calls::Decoded;
 use relay_leg::one_leg::next_leg;
-use relay_record::bytes::clear_bytes;
 use relay_record::{Tally, answer, answer_run, ends};
 use relay_settings::Settings;
 use relay_stores::{stores_each, stores_fit};
@@ -116,11 +115,11 @@ fn clear_records(
         × (rows.new ≡ replicate (length rows.old) 0)
         × (correction.new ≡ replicate (length correction.old) 0) }
 {
-    clear_bytes(leg_state);
-    graph_lists::indices::clear(leg_iterations);
+    leg_state.fill(0);
+    leg_iterations.fill(0);
     clear(leg_weight);
-    clear_bytes(rows);
-    clear_bytes(correction);
+    rows.fill(0);
+    correction.fill(0);
 }
 
 // The work lists, zeroed.
@@ -212,7 +211,7 @@ fn run_shot(
         × (v_to_c.new ≡ replicate variables.now.n zero⁺) }
 {
     clear_records(leg_state, leg_iterations, leg_weight, rows, correction);
-    copy(priors, posterior);
+    posterior.copy_from_slice(priors);
     let d = run_legs(
         t,
         gammas,

@@ -1,8 +1,6 @@
 // Inner: a leg's record and what is kept between legs, and what a decode answers after them: `relay_leg` and `relay_decode` alone call it.
 #![tactic(auto)]
 
-pub mod bytes;
-
 ghost use Rattle.std.specs.Prelude.{◌≡◌, true, ◌||◌, not, cond, suc, ◌+◌, ◌*◌, ◌<◌, ◌≤◌, leb, length, set, replicate};
 ghost use Rattle.numbers.specs.Limits.{max_count};
 ghost use Rattle.std.specs.Prelude.{Ok};
