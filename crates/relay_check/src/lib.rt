@@ -4,13 +4,14 @@
 // a clip each is clipped once; without one the update has a function of its own, in which no message waits for a clip.
 #![tactic(auto)]
 
-ghost use Rattle.std.specs.Prelude.{◌≡◌, cond, ◌≤◌, length};
+ghost use Rattle.std.specs.Prelude.{◌≡◌, cond, ◌≤◌, length, Float};
 ghost use Rattle.std.specs.Float.Ieee.{lt, neg};
 ghost use Rattle.numbers.specs.Floats.{◌*ᶠ◌, zero⁺};
 ghost use Rattle.numbers.specs.Loops.{part, spliced};
 ghost use Rattle.graph_messages.specs.Needs.{PerEdge, Rises};
+ghost use Rattle.relay_settings.specs.declared.Clip.{Clip};
 ghost use Rattle.relay_settings.specs.declared.Clip.TheVariants.{Off, On};
-ghost use Rattle.relay_check.specs.Check.{clamped as clamped_of, check_messages};
+ghost use Rattle.relay_check.specs.Check.{clamped as clamped_of, clipped, check_messages};
 ghost use Rattle.relay_check.specs.Places.{saturated_magnitude, by_signs};
 
 use graph_messages::scan_check;
@@ -73,23 +74,45 @@ fn send(minus: f64, plus: f64, v_to_c: &[f64], c_to_v: &mut [f64])
     }
 }
 
-// All that a check sends, from all that came in, without a clip: the least at all places, and the next at the place of the least.
+// All that a check sends, from all that came in, each as `clip` makes it: the least at all places, and the next at the place of the least.
+fn update_with<C: Fn(f64) -> f64>(
+    alpha: f64,
+    clip: C,
+    odd: bool,
+    variables: &[u32],
+    v_to_c: &[f64],
+    c_to_v: &mut [f64],
+)
+    requires callable { C.IsAlwaysCallable clip }
+    requires per_edge { PerEdge (length variables.now) c_to_v.old v_to_c.now }
+    requires rises { Rises variables.now }
+    ensures { (way : Clip)
+        → ((x r : Float) → C.post clip x r → r ≡ clipped way x)
+        → c_to_v.new ≡ check_messages alpha way odd variables.now v_to_c.now }
+{
+    let s = scan_check(odd, v_to_c);
+    let least_sent = weighed(alpha, s.total_sign, s.min1);
+    let minus = clip(-least_sent);
+    let plus = clip(least_sent);
+    send(minus, plus, v_to_c, c_to_v);
+    let least = s.least;
+    if least < v_to_c.len() {
+        let next_sent = weighed(alpha, s.total_sign, s.min2);
+        let signed = by_sign(v_to_c[least], -next_sent, next_sent);
+        c_to_v[least] = clip(signed);
+    }
+}
+
+// Without a clip.
 fn update_check(alpha: f64, odd: bool, variables: &[u32], v_to_c: &[f64], c_to_v: &mut [f64])
     requires per_edge { PerEdge (length variables.now) c_to_v.old v_to_c.now }
     requires rises { Rises variables.now }
     ensures { c_to_v.new ≡ check_messages alpha Off odd variables.now v_to_c.now }
 {
-    let s = scan_check(odd, v_to_c);
-    let plus = weighed(alpha, s.total_sign, s.min1);
-    send(-plus, plus, v_to_c, c_to_v);
-    let least = s.least;
-    if least < v_to_c.len() {
-        let next = weighed(alpha, s.total_sign, s.min2);
-        c_to_v[least] = by_sign(v_to_c[least], -next, next);
-    }
+    update_with(alpha, |message| message, odd, variables, v_to_c, c_to_v);
 }
 
-// The same with a clip.
+// With one.
 fn clipped_check(
     alpha: f64,
     limit: f64,
@@ -102,17 +125,14 @@ fn clipped_check(
     requires rises { Rises variables.now }
     ensures { c_to_v.new ≡ check_messages alpha (On limit) odd variables.now v_to_c.now }
 {
-    let s = scan_check(odd, v_to_c);
-    let least_sent = weighed(alpha, s.total_sign, s.min1);
-    let minus = clamped(limit, -least_sent);
-    let plus = clamped(limit, least_sent);
-    send(minus, plus, v_to_c, c_to_v);
-    let least = s.least;
-    if least < v_to_c.len() {
-        let next_sent = weighed(alpha, s.total_sign, s.min2);
-        let signed = by_sign(v_to_c[least], -next_sent, next_sent);
-        c_to_v[least] = clamped(limit, signed);
-    }
+    update_with(
+        alpha,
+        |message| clamped(limit, message),
+        odd,
+        variables,
+        v_to_c,
+        c_to_v,
+    );
 }
 
 // `update_check` for the check whose entries lie from `start` to `end`.
