@@ -26,7 +26,7 @@
  *   its first place. Refusal 30 alone comes after the work; each call that has it says what it leaves.
  * - Once past its tests, refused with 30 or not, a call leaves positive zeroes in its work lists.
  *
- * Link a program with libexports.a, which wants memcpy, memmove and memset of the C library and nothing else.
+ * Link a program with libexports.a, which wants memset and memcpy of the C library and nothing else.
  *
  * Priors are log ratios ln((1 - p) / p), from -30 to 30. They are given as they are, or made here of probabilities. ln is no
  * IEEE 754 operation, and a result must not depend on the library that took it: so the calls of probabilities work it out in

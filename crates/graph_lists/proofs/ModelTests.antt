@@ -1,14 +1,15 @@
 -- Tests 3 to 6 of docs/REFERENCE.md one by one: what each tells where it is passed, and each as the code has it. Assumes nothing.
-use mathlib.Core.Bool.{Bool, true, false, not, true≢false, false≢true}
-use mathlib.Core.List.{List}
+use mathlib.Core.Bool.{Bool, true, false, ◌||◌, not, or_assoc, true≢false, false≢true}
+use mathlib.Core.List.{List, [], ◌∷◌, ◌++◌}
 use mathlib.Core.Logic.{⊎_elim}
 use mathlib.Core.Path.{◌≡◌, refl, sym, ap, ◌∙◌}
 use Prim.Native.Nat.{ℕ, zero, suc, ◌+◌, ◌-◌, ◌<◌, ◌≤◌}
 use native.Mathlib.Numerals.{add-one}
 use native.Mathlib.Omega.{arith}
+use lib.Dec.{eqb}
 use lib.ListN.{length, get_or, take, drop}
-use lib.Seq.{get_or-take, length-take-le}
-use borrow.Author.Tests.{le-leb, lt-leb, le-ltb, ltb-true, leb-true, eqb-true, lt-ltb}
+use lib.Seq.{get_or-take, length-take-le, take-suc}
+use borrow.Author.Tests.{le-leb, lt-leb, le-ltb, ltb-true, leb-true, eqb-true, lt-ltb, ne_eqb}
 use Rattle.numbers.proofs.Cases.{last_or_before, less_or_not, and_both}
 use Rattle.numbers.proofs.Loops.{every_at, length_part, get_d_part}
 use Rattle.numbers.specs.Loops.{part}
@@ -26,6 +27,17 @@ use Rattle.graph_lists.proofs.Rising.{steps_rise, above_new}
 use Rattle.graph_lists.proofs.Rows.{has_at}
 
 -- ---- repeats
+
+-- what is in two lists, one after the other, is in one of them
+has_append : (xs ys : List ℕ) (x : ℕ) → has (xs ++ ys) x ≡ (has xs x || has ys x)
+unfolding has
+has_append [] ys x = refl
+has_append (y ∷ xs) ys x = rw (has_append xs ys x) (sym (or_assoc (eqb y x) (has xs x) (has ys x)))
+
+-- one detector more that is another
+pub repeat_turn : (ds : List ℕ) (j d e : ℕ) → j < length ds → e ≡ get_or ds j 0 → has (take j ds) d ≡ false → (e ≡ d → ⊥) → has (take (j + 1) ds) d ≡ false
+unfolding has
+repeat_turn ds j d e l q h n = rw (add-one, take-suc ds j 0 l, has_append, h, ne_eqb (get_or ds j 0) d (λ z. n (q ∙ z)))
 
 -- one that is the same
 pub repeat_found : (ds : List ℕ) (i j d e : ℕ) → j < i → i ≤ length ds → e ≡ get_or ds j 0 → e ≡ d → has (take i ds) d ≡ true

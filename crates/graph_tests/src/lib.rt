@@ -156,7 +156,13 @@ fn repeated(ds: &[u32], i: usize, d: usize) -> bool
     requires { i ≤ length ds.now }
     ensures { result ≡ has (take i ds.now) d }
 {
-    ds[..i].iter().any(|x| *x as usize == d)
+    // Stays: tried, `any` over the front proves, but of a mechanism whose thousands of detectors fall a build then takes twice the time.
+    for j in 0..i {
+        if at(ds, j) == d {
+            return true;
+        }
+    }
+    false
 }
 
 // The i-th of m's detectors: range before repeat.

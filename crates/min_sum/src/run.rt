@@ -165,7 +165,7 @@ fn all_rounds(
         belief after ewa_posterior.new
         ≡ all_rounds_of by_place g run.now.serial run.now.scale run.now.syndrome.now run.now.priors.now n }
 {
-    ewa_posterior.copy_from_slice(run.priors);
+    graph_lists::lists::copy(run.priors, ewa_posterior);
     if n < 6 {
         outer_round(n, 0, run, c_to_v, v_to_c, ewa_posterior);
         return;

@@ -11,6 +11,7 @@ ghost use Rattle.relay_leg.specs.Legs.{shot_by, LegReads};
 ghost use Rattle.relay_record.specs.Kept.{shot_of, Reads, answer_of, is_refused, results, results_of, started, LegsFit, LegsLong, PerShot};
 ghost use Rattle.graph_messages.specs.Needs.{PerEdge};
 
+use graph_lists::lists::copy;
 use graph_messages::rows::Rows;
 use graph_messages::{clear, first_not_finite};
 use refusals::Refusal;
@@ -211,7 +212,7 @@ fn run_shot(
         × (v_to_c.new ≡ replicate variables.now.n zero⁺) }
 {
     clear_records(leg_state, leg_iterations, leg_weight, rows, correction);
-    posterior.copy_from_slice(priors);
+    copy(priors, posterior);
     let d = run_legs(
         t,
         gammas,

@@ -8,6 +8,7 @@ ghost use Rattle.numbers.specs.Loops.{part};
 ghost use Rattle.relay_settings.specs.declared.GammaSource.TheVariants.{Explicit, Seeded};
 ghost use Rattle.relay_gammas.specs.Gammas.{stream_number, start_of, seed_good, seed_fault, drawn, relay_gamma, gamma_of};
 
+use graph_lists::lists::copy;
 use numbers::SplitMix64;
 use refusals::Refusal;
 use relay_settings::{DrawRule, GammaSource, Settings};
@@ -91,7 +92,7 @@ fn copy_set(sets: usize, leg: usize, flat: &[f64], gamma: &mut [f64])
 {
     let start = set_of(leg, sets) * gamma.len();
     let end = start + gamma.len();
-    gamma.copy_from_slice(&flat[start..end]);
+    copy(&flat[start..end], gamma);
 }
 
 // `prepare_relay_gamma`: the gammas of a relayed leg.

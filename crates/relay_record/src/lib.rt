@@ -11,6 +11,7 @@ ghost use Rattle.relay_calls.specs.Records.{values_of, record_of_leg};
 ghost use Rattle.relay_calls.specs.Decode.{is_none_or};
 ghost use Rattle.relay_record.specs.Kept.{best_of, best_after, corrected, answer_by};
 
+use graph_lists::lists::copy;
 use refusals::Refusal;
 use relay_calls::Decoded;
 use relay_step::leg::{Leg, correction_weight};
@@ -49,7 +50,7 @@ fn keep_least(
 {
     let mut best = tally.best;
     if is_better(best, weight) {
-        correction.copy_from_slice(row);
+        copy(row, correction);
         best = Some(weight);
     }
     Tally {
@@ -65,7 +66,7 @@ fn keep_last(found: bool, row: &[u8], correction: &mut [u8])
     ensures { correction.new ≡ cond found correction.old row.now }
 {
     if !found {
-        correction.copy_from_slice(row);
+        copy(row, correction);
     }
 }
 

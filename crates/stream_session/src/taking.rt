@@ -31,7 +31,7 @@ fn keep(payload: &[u8], list: &mut [u8])
     ensures { list.new ≡ payload_kept payload.now list.old }
 {
     let n = payload.len().min(list.len());
-    list[..n].copy_from_slice(&payload[..n]);
+    graph_lists::lists::copy(&payload[..n], &mut list[..n]);
 }
 
 // A model: it replaces an earlier one, and the settings stay.

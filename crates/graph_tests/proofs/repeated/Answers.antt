@@ -1,18 +1,16 @@
--- `graph_tests::repeated` meets its contract. The chain asks what the definition asks, one by one. Assumes nothing.
-use Rattle.std.proofs.Common.{◌≡◌, ℕ, List, [], ◌∷◌, take, refl, ◌∙◌, eqb, rules, tests}
-use Rattle.std.specs.List.{list_any}
-use Rattle.std.proofs.lemmas.Iterator.{YieldsList-from_slice}
-use Rattle.std.proofs.lemmas.Iterator.Search.{any_from_yields_List}
+-- `graph_tests::repeated` meets its contract. The invariant: d is not among the first j. Assumes nothing.
+use mathlib.Core.Path.{refl, sym}
+use native.Mathlib.Omega.{arith}
 use Rattle.graph_lists.specs.Lists.{has}
+use Rattle.graph_lists.proofs.ModelTests.{repeat_turn, repeat_found}
 use Rattle.graph_tests.proofs.repeated.Goals as goal
 
--- d is among ds where one of them is d
-has_any : (d : ℕ) (ds : List ℕ) → list_any (λ x. eqb x d) ds ≡ has ds d
+pub loop-j-init : goal.loop-j-init
 unfolding has
-has_any d [] = refl
-has_any d (x ∷ ds) = rw (has_any d ds) refl
+loop-j-init c = refl
 
-pub returns : goal.returns
-returns c =
-    any_from_yields_List (λ x. eqb x c.args.d) _ _ _ c.any.ensures.ran (YieldsList-from_slice (take c.args.i c.args.ds.now) cc) (λ x b q k. search (rules, tests))
-    ∙ has_any c.args.d (take c.args.i c.args.ds.now)
+pub returns-then-at-d : goal.returns-then-at-d
+returns-then-at-d c = sym (repeat_found c.args.ds.now c.args.i c.loop-j.j _ _ c.loop-j-test.true c.requires c.at.ensures c.if-at-d.true)
+
+pub loop-j-preserved : goal.loop-j-preserved
+loop-j-preserved c = repeat_turn c.args.ds.now c.loop-j.j _ _ (omega arith) c.at.ensures c.loop-j.invariant c.if-at-d.false

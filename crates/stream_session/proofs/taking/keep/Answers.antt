@@ -4,5 +4,5 @@ use Rattle.stream_session.proofs.Keeping.{kept_front}
 use Rattle.stream_session.proofs.taking.keep.Goals as goal
 
 pub returns : goal.returns
-returns c = ap (λ (xs : List ℕ). xs ++ drop c.min-n.result c.args.list.now) c.copy_from_slice.ensures.after
+returns c = ap (λ (xs : List ℕ). xs ++ drop c.min-n.result c.args.list.now) c.copy.ensures
     ∙ kept_front c.args.payload.now c.args.list.now c.min-n.result c.min-n.ensures
