@@ -1,5 +1,5 @@
 -- Tests 3 to 6 of docs/REFERENCE.md one by one: what each tells where it is passed, and each as the code has it. Assumes nothing.
-use mathlib.Core.Bool.{Bool, true, false, ◌||◌, not, or_assoc, true≢false, false≢true}
+use mathlib.Core.Bool.{Bool, true, false, ◌||◌, not, or_assoc, or-false, true≢false, false≢true}
 use mathlib.Core.List.{List, [], ◌∷◌, ◌++◌}
 use mathlib.Core.Logic.{⊎_elim}
 use mathlib.Core.Path.{◌≡◌, refl, sym, ap, ◌∙◌}
@@ -9,7 +9,7 @@ use native.Mathlib.Omega.{arith}
 use lib.Dec.{eqb}
 use lib.ListN.{length, get_or, take, drop}
 use lib.Seq.{get_or-take, length-take-le, take-suc}
-use borrow.Author.Tests.{le-leb, lt-leb, le-ltb, ltb-true, leb-true, eqb-true, lt-ltb, ne_eqb}
+use borrow.Author.Tests.{le-leb, lt-leb, le-ltb, ltb-true, leb-true, eqb-true, lt-ltb}
 use Rattle.numbers.proofs.Cases.{last_or_before, less_or_not, and_both}
 use Rattle.numbers.proofs.Loops.{every_at, length_part, get_d_part}
 use Rattle.numbers.specs.Loops.{part}
@@ -34,10 +34,10 @@ unfolding has
 has_append [] ys x = refl
 has_append (y ∷ xs) ys x = rw (has_append xs ys x) (sym (or_assoc (eqb y x) (has xs x) (has ys x)))
 
--- one detector more that is another
-pub repeat_turn : (ds : List ℕ) (j d e : ℕ) → j < length ds → e ≡ get_or ds j 0 → has (take j ds) d ≡ false → (e ≡ d → ⊥) → has (take (j + 1) ds) d ≡ false
+-- one detector more
+pub repeat_more : (ds : List ℕ) (j d e : ℕ) → j < length ds → e ≡ get_or ds j 0 → has (take (j + 1) ds) d ≡ (has (take j ds) d || eqb e d)
 unfolding has
-repeat_turn ds j d e l q h n = rw (add-one, take-suc ds j 0 l, has_append, h, ne_eqb (get_or ds j 0) d (λ z. n (q ∙ z)))
+repeat_more ds j d e l q = rw (add-one, take-suc ds j 0 l, has_append, q, or-false (eqb (get_or ds j 0) d)) refl
 
 -- one that is the same
 pub repeat_found : (ds : List ℕ) (i j d e : ℕ) → j < i → i ≤ length ds → e ≡ get_or ds j 0 → e ≡ d → has (take i ds) d ≡ true
