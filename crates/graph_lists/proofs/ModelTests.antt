@@ -9,7 +9,7 @@ use native.Mathlib.Omega.{arith}
 use lib.Dec.{eqb}
 use lib.ListN.{length, get_or, take, drop}
 use lib.Seq.{get_or-take, length-take-le, take-suc}
-use borrow.Author.Tests.{le-leb, lt-leb, le-ltb, ltb-true, leb-true, eqb-true, lt-ltb}
+use borrow.Author.Tests.{le-leb, lt-leb, le-ltb, ltb-true, leb-true, eqb-true, lt-ltb, ne_eqb}
 use Rattle.numbers.proofs.Cases.{last_or_before, less_or_not, and_both}
 use Rattle.numbers.proofs.Loops.{every_at, length_part, get_d_part}
 use Rattle.numbers.specs.Loops.{part}
@@ -33,6 +33,11 @@ has_append : (xs ys : List ℕ) (x : ℕ) → has (xs ++ ys) x ≡ (has xs x || 
 unfolding has
 has_append [] ys x = refl
 has_append (y ∷ xs) ys x = rw (has_append xs ys x) (sym (or_assoc (eqb y x) (has xs x) (has ys x)))
+
+-- one detector more that is another
+pub repeat_turn : (ds : List ℕ) (j d e : ℕ) → j < length ds → e ≡ get_or ds j 0 → has (take j ds) d ≡ false → (e ≡ d → ⊥) → has (take (j + 1) ds) d ≡ false
+unfolding has
+repeat_turn ds j d e l q h n = rw (add-one, take-suc ds j 0 l, has_append, h, ne_eqb (get_or ds j 0) d (λ z. n (q ∙ z)))
 
 -- one detector more
 pub repeat_more : (ds : List ℕ) (j d e : ℕ) → j < length ds → e ≡ get_or ds j 0 → has (take (j + 1) ds) d ≡ (has (take j ds) d || eqb e d)
