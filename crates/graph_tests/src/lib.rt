@@ -164,8 +164,8 @@ fn repeated_in_few(ds: &[u32], i: usize, d: usize) -> bool
     false
 }
 
-// The same to the end of the front, so that several are compared at once. In a model that is built nothing is repeated, and all are looked at
-// anyway.
+// The same to the end of the front, so that several are compared at once. In a model that is built nothing is repeated, and all are looked
+// at anyway.
 fn repeated_in_many(ds: &[u32], i: usize, d: usize) -> bool
     requires { i ≤ length ds.now }
     ensures { result ≡ has (take i ds.now) d }
@@ -177,8 +177,8 @@ fn repeated_in_many(ds: &[u32], i: usize, d: usize) -> bool
     found
 }
 
-// Whether d is among the first i of ds. Tried, `any` proves, but of a mechanism whose thousands of detectors fall a build takes up to twice the
-// time of a `while`; with the second form alone a build takes a quarter more where mechanisms are small.
+// Whether d is among the first i of ds. Tried, `any` proves, but of a mechanism whose thousands of detectors fall a build takes up to twice
+// the time of a `while`; with the second form alone a build takes a quarter more where mechanisms are small.
 fn repeated(ds: &[u32], i: usize, d: usize) -> bool
     requires { i ≤ length ds.now }
     ensures { result ≡ has (take i ds.now) d }
