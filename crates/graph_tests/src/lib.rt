@@ -165,7 +165,8 @@ fn repeated_in_few(ds: &[u32], i: usize, d: usize) -> bool
 }
 
 // The same to the end of the front, so that several are compared at once. In a model that is built nothing is repeated, and all are looked
-// at anyway.
+// at anyway. Inlined, it moves the loop over few off a multiple of 16, and a build takes up to two fifths more where mechanisms are small.
+#[inline(never)]
 fn repeated_in_many(ds: &[u32], i: usize, d: usize) -> bool
     requires { i ≤ length ds.now }
     ensures { result ≡ has (take i ds.now) d }
